@@ -275,11 +275,12 @@ late_events_test() ->
     Name = seqaudit_audits:file("late"),
     ok = seqaudit_trace:start(#{name => Name, port => false}),
     Collector = whereis(seqaudit_collector),
-    _ = spawn(fun() ->
-                      until(fun() -> seq_trace:get_system_tracer() =:= false end),
-                      Collector ! {seq_trace, 1, {print, {0, 1}, self(), [], late}}
-              end),
-    {ok, #{events := 1}} = seqaudit_trace:stop(),
+    true = erlang:suspend_process(Collector),
+    {Stopper, Monitor} = spawn_monitor(fun() -> {ok, #{events := 1}} = seqaudit_trace:stop() end),
+    until(fun() -> {messages, Waiting} = process_info(Collector, messages), lists:keymember(stop, 3, Waiting) end),
+    Collector ! {seq_trace, 1, {print, {0, 1}, self(), [], late}},
+    true = erlang:resume_process(Collector),
+    receive {'DOWN', Monitor, process, Stopper, Reason} -> normal = Reason end,
     [late] = printed(Name).
 
 %% A stray message with a token leaves the collector without one.

@@ -17,12 +17,14 @@ rotated(Port) ->
     Name = seqaudit_audits:file("rotated"),
     ok = seqaudit_trace:start(#{name => Name, port => Port}),
     Self = self(),
+    Count = counters:new(1, []),
     Printer = spawn_link(fun() ->
                              true = register(printer, self()),
-                             seqaudit_trace:with_trace(1, fun() -> print(1, Self) end)
+                             seqaudit_trace:with_trace(1, fun() -> print(1, Count, Self) end)
                          end),
     Files = [begin
-                 receive after 150 -> ok end,
+                 Before = counters:get(Count, 1),
+                 seqaudit_test_nodes:until(fun() -> counters:get(Count, 1) > Before + 1_000 end),
                  [{_, {ok, File}}] = seqaudit_trace:rotate(Name ++ "." ++ integer_to_list(N)),
                  File
              end || N <- lists:seq(1, 4)],
@@ -36,11 +38,12 @@ rotated(Port) ->
     {ok, Terms} = file:read_file(Name ++ ".terms"),
     {_, _} = binary:match(Terms, <<"\tprinter\t">>).
 
-print(N, To) ->
+print(N, Count, To) ->
     seq_trace:print(N),
+    ok = counters:put(Count, 1, N),
     N rem 20 =:= 0 andalso receive after 1 -> ok end,
     receive stop -> unregister(printer), To ! {printed, N}
-    after 0 -> print(N + 1, To)
+    after 0 -> print(N + 1, Count, To)
     end.
 
 numbers(File) ->

@@ -46,7 +46,7 @@ programs() ->
      {"call_that_times_out", fun() ->
           Slow = seqaudit_test_server:start(fun(Ms) -> receive after Ms -> Ms end end),
           fun() ->
-              late = try gen_server:call(Slow, 60, 20) catch exit:{timeout, _} -> late end,
+              late = try gen_server:call(Slow, 2_000, 20) catch exit:{timeout, _} -> late end,
               0 = gen_server:call(Slow, 0)
           end
       end},
