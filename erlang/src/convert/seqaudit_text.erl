@@ -174,18 +174,12 @@ words(Comment) ->
     [Word || Word <- binary:split(Comment, [<<"%">>, <<" ">>, <<"\t">>, <<"\r">>], [global]),
              Word =/= <<>>].
 
-comment([<<"node">>, Node], Place) ->
-    case is_name(Node) of
-        true -> #place{node = Node};
-        false -> Place
-    end;
-comment([<<"channel">>, Number, Node], #place{channels = Channels} = Place) ->
-    case is_name(Node) of
-        true -> Place#place{channels = Channels#{Number => Node}};
-        false -> Place
-    end;
-comment(_, Place) ->
-    Place.
+comment(Words, #place{channels = Channels} = Place) ->
+    case {Words, Words =/= [] andalso is_name(lists:last(Words))} of
+        {[<<"node">>, Node], true} -> #place{node = Node};
+        {[<<"channel">>, Number, Node], true} -> Place#place{channels = Channels#{Number => Node}};
+        _ -> Place
+    end.
 
 is_name(Name) ->
     byte_size(Name) =< 4 * ?ATOM_CHARACTERS
@@ -193,16 +187,16 @@ is_name(Name) ->
 
 ended_term(Begin, Place) ->
     {Term, Rest} = term(Begin, Place, 0),
-    {Term, ended(Rest, Begin)}.
+    {Term, ended(Rest)}.
 
 %% Behind a term comes the end of its line, or a full stop.
-ended(Rest, Begin) ->
+ended(Rest) ->
     case line_blanks(Rest) of
         <<"\n", After/binary>> -> After;
         <<".", After/binary>> -> After;
         <<"%", _/binary>> = Comment -> Comment;
         <<>> -> <<>>;
-        Other -> syntax(Other, Begin)
+        Other -> syntax(Other)
     end.
 
 line_blanks(<<C, Rest/binary>>) when C =:= $\s; C =:= $\t; C =:= $\r -> line_blanks(Rest);
@@ -214,9 +208,9 @@ blanks(Rest) -> Rest.
 -spec fault(string()) -> no_return().
 fault(Reason) -> throw({fault, Reason}).
 
--spec syntax(binary(), binary()) -> no_return().
-syntax(<<>>, _Begin) -> fault("this isn't an Erlang term: it isn't closed");
-syntax(Bytes, _Begin) ->
+-spec syntax(binary()) -> no_return().
+syntax(<<>>) -> fault("this isn't an Erlang term: it isn't closed");
+syntax(Bytes) ->
     {Before, _} = line(Bytes),
     fault("this isn't an Erlang term: syntax error before: " ++ shown(Before)).
 
@@ -234,7 +228,7 @@ term(_Bytes, _Place, ?DEPTH) ->
 term(Bytes, Place, Depth) ->
     case blanks(Bytes) of
         <<"{", Rest/binary>> ->
-            {Count, Parts, After} = parts(Rest, $}, Place, Depth + 1),
+            {Count, Parts, After} = parts(Rest, $}, fun(Part) -> term(Part, Place, Depth + 1) end),
             {tuple(Count, Parts), After};
         <<"[", Rest/binary>> ->
             list(Rest, Place, Depth + 1);
@@ -258,34 +252,32 @@ term(Bytes, Place, Depth) ->
         Other -> word(Other)
     end.
 
-parts(Bytes, Close, Place, Depth) ->
+%% Reads parts with commas between them by this function, up to what closes them.
+parts(Bytes, Close, Read) ->
     case blanks(Bytes) of
         <<Close, Rest/binary>> -> {0, <<>>, Rest};
-        Begin -> parts(Begin, Close, Place, Depth, 0, <<>>)
+        Begin -> parts(Begin, Close, Read, 0, <<>>)
     end.
 
-parts(Bytes, Close, Place, Depth, Count, Done) ->
-    {Part, Rest0} = term(Bytes, Place, Depth),
+parts(Bytes, Close, Read, Count, Done) ->
+    {Part, Rest0} = Read(Bytes),
     Parts = <<Done/binary, Part/binary>>,
     case blanks(Rest0) of
-        <<",", Rest/binary>> -> parts(Rest, Close, Place, Depth, Count + 1, Parts);
+        <<",", Rest/binary>> -> parts(Rest, Close, Read, Count + 1, Parts);
         <<Close, Rest/binary>> -> {Count + 1, Parts, Rest};
         <<"|", _/binary>> = Rest when Close =:= $] -> {Count + 1, Parts, Rest};
-        Other -> syntax(Other, Bytes)
+        Other -> syntax(Other)
     end.
 
 tuple(Count, Parts) when Count < 256 -> <<104, Count, Parts/binary>>;
 tuple(Count, Parts) -> <<105, Count:32, Parts/binary>>.
 
 list(Bytes, Place, Depth) ->
-    case parts(Bytes, $], Place, Depth) of
+    case parts(Bytes, $], fun(Part) -> term(Part, Place, Depth) end) of
         {0, _, Rest} -> {<<106>>, Rest};
         {Count, Parts, <<"|", Rest0/binary>>} ->
             {Tail, Rest1} = term(Rest0, Place, Depth),
-            case blanks(Rest1) of
-                <<"]", Rest/binary>> -> {joined(Count, Parts, Tail), Rest};
-                Other -> syntax(Other, Bytes)
-            end;
+            {joined(Count, Parts, Tail), behind(<<"]">>, blanks(Rest1))};
         {Count, Parts, Rest} ->
             {bytes(Count, Parts), Rest}
     end.
@@ -309,30 +301,21 @@ bytes(Count, Parts) ->
 
 %% The pairs are put in order as those of other files are.
 map(Bytes, Place, Depth) ->
-    {Count, Pairs, Rest} = pairs(Bytes, Place, Depth),
+    {Count, Pairs, Rest} = parts(Bytes, $}, fun(Pair) -> pair(Pair, Place, Depth) end),
     case seqaudit_external:take(<<116, Count:32, Pairs/binary>>) of
         {ok, Map, <<>>} -> {Map, Rest};
         _ -> fault("this isn't an Erlang term: a map isn't one")
     end.
 
-pairs(Bytes, Place, Depth) ->
-    case blanks(Bytes) of
-        <<"}", Rest/binary>> -> {0, <<>>, Rest};
-        Begin -> pairs(Begin, Place, Depth, 0, <<>>)
-    end.
-
-pairs(Bytes, Place, Depth, Count, Done) ->
+pair(Bytes, Place, Depth) ->
     {Key, Rest0} = term(Bytes, Place, Depth),
-    case blanks(Rest0) of
-        <<"=>", Rest1/binary>> ->
-            {Value, Rest2} = term(Rest1, Place, Depth),
-            Pairs = <<Done/binary, Key/binary, Value/binary>>,
-            case blanks(Rest2) of
-                <<",", Rest/binary>> -> pairs(Rest, Place, Depth, Count + 1, Pairs);
-                <<"}", Rest/binary>> -> {Count + 1, Pairs, Rest};
-                Other -> syntax(Other, Bytes)
-            end;
-        Other -> syntax(Other, Bytes)
+    {Value, Rest} = term(behind(<<"=>">>, blanks(Rest0)), Place, Depth),
+    {<<Key/binary, Value/binary>>, Rest}.
+
+behind(Mark, Bytes) ->
+    case string:prefix(Bytes, Mark) of
+        nomatch -> syntax(Bytes);
+        Rest -> Rest
     end.
 
 %% The segments of a binary: texts, and numbers with a size in bits.
@@ -358,7 +341,7 @@ next_segment(Bytes, Done) ->
     case blanks(Bytes) of
         <<",", Rest/binary>> -> binary(blanks(Rest), Done);
         <<">>", _/binary>> = Rest -> binary(Rest, Done);
-        Other -> syntax(Other, Bytes)
+        Other -> syntax(Other)
     end.
 
 latin1(Characters) ->
@@ -369,16 +352,17 @@ latin1(Characters) ->
 
 %% Takes what is between the angles: numbers and dots of a pid, port or reference.
 opaque(Kind, Bytes, Place) ->
-    case angle(Bytes) of
+    {Inner, Rest} = angles(Bytes, "<"),
+    {opaque_term(Kind, numbers(Inner), Place), Rest}.
+
+angles(Bytes, Begin) ->
+    case binary:match(Bytes, <<">">>, [{scope, {0, min(byte_size(Bytes), ?INNER)}}]) of
         {Size, 1} ->
             <<Inner:Size/binary, ">", Rest/binary>> = Bytes,
-            {opaque_term(Kind, numbers(Inner), Place), Rest};
+            {Inner, Rest};
         nomatch ->
-            fault("this isn't an Erlang term: a < isn't closed")
+            fault(text("this isn't an Erlang term: a ~ts isn't closed", [Begin]))
     end.
-
-angle(Bytes) ->
-    binary:match(Bytes, <<">">>, [{scope, {0, min(byte_size(Bytes), ?INNER)}}]).
 
 %% The numbers between dots; a word with more digits than any of them has is none.
 numbers(Inner) ->
@@ -414,28 +398,14 @@ home(Channel, #place{channels = Channels}) ->
 
 %% A fun that isn't known becomes a tuple with what was printed of it.
 function(Bytes) ->
-    case angle(Bytes) of
-        {Size, 1} ->
-            <<Inner:Size/binary, ">", Rest/binary>> = Bytes,
-            {tuple(2, <<(seqaudit_external:atom(<<"fun">>))/binary,
-                        (characters(Inner))/binary>>), Rest};
-        nomatch ->
-            fault("this isn't an Erlang term: a #Fun< isn't closed")
-    end.
+    {Inner, Rest} = angles(Bytes, "#Fun<"),
+    {tuple(2, <<(seqaudit_external:atom(<<"fun">>))/binary, (characters(Inner))/binary>>), Rest}.
 
 export(Bytes) ->
     {Module, Rest0} = name(blanks(Bytes)),
-    case Rest0 of
-        <<":", Rest1/binary>> ->
-            {Function, Rest2} = name(Rest1),
-            case Rest2 of
-                <<"/", Rest3/binary>> ->
-                    {Arity, Rest} = integer(Rest3),
-                    {<<113, (atom(Module))/binary, (atom(Function))/binary, 97, Arity>>, Rest};
-                Other -> syntax(Other, Bytes)
-            end;
-        Other -> syntax(Other, Bytes)
-    end.
+    {Function, Rest1} = name(behind(<<":">>, Rest0)),
+    {Arity, Rest} = integer(behind(<<"/">>, Rest1)),
+    {<<113, (atom(Module))/binary, (atom(Function))/binary, 97, Arity>>, Rest}.
 
 name(<<"'", Rest/binary>>) -> quoted(Rest, $', <<>>);
 name(Bytes) -> bare(Bytes).
@@ -473,9 +443,8 @@ escaped(<<C/utf8, Rest/binary>>) ->
 escaped(<<>>) -> fault("a quote isn't closed").
 
 unicode(Digits, Base) ->
-    try binary_to_integer(Digits, Base) of
-        C when C >= 0, C =< 16#D7FF; C >= 16#E000, C =< 16#10FFFF -> C;
-        _ -> fault("this isn't an Erlang term: an escape isn't a character")
+    try <<(binary_to_integer(Digits, Base))/utf8>> of
+        <<C/utf8>> -> C
     catch
         error:badarg -> fault("this isn't an Erlang term: an escape isn't a character")
     end.
@@ -489,7 +458,7 @@ number(Bytes) ->
                                              _ -> float_of(Number)
                                          end), Rest};
         nomatch ->
-            syntax(Bytes, Bytes)
+            syntax(Bytes)
     end.
 
 whole(Digits) when byte_size(Digits) > ?DIGITS ->
@@ -505,7 +474,7 @@ float_of(Number) ->
 integer(<<C, _/binary>> = Bytes) when C >= $0, C =< $9 ->
     {Digits, Rest} = digits(Bytes, <<>>),
     {whole(Digits), Rest};
-integer(Bytes) -> syntax(Bytes, Bytes).
+integer(Bytes) -> syntax(Bytes).
 
 digits(<<C, Rest/binary>>, Done) when C >= $0, C =< $9 -> digits(Rest, <<Done/binary, C>>);
 digits(Rest, Done) -> {Done, Rest}.
@@ -517,7 +486,7 @@ word(Bytes) ->
 bare(<<C/utf8, _/binary>> = Bytes) when C >= $a, C =< $z; C >= 16#DF, C =< 16#FF, C =/= 16#F7 ->
     name_characters(Bytes, <<>>);
 bare(Bytes) ->
-    syntax(Bytes, Bytes).
+    syntax(Bytes).
 
 name_characters(<<C/utf8, Rest/binary>>, Done)
   when C >= $a, C =< $z; C >= $A, C =< $Z; C >= $0, C =< $9; C =:= $_; C =:= $@;
