@@ -11,29 +11,15 @@
 %% An atom has at most this many characters, and a function as many arguments.
 -define(LONGEST, 255).
 
--define(WITH_CONDITION, "^([^:(]+):([^:(]+)(\\(.*)$").
-
 -type triggering() :: {mfa(), [{Head :: '_' | [term()], Guards :: [term()]}
                                | {Head :: [term()], Guards :: [term()], Label :: term()}]}.
 
 %% @doc The function with what its arguments have to be, as in a match specification.
 -spec function(string()) -> {ok, triggering()} | {error, string()}.
 function(Word) ->
-    case {captured(Word, "^([^:(]+):([^:(]+)/([0-9]{1,3})$"), captured(Word, ?WITH_CONDITION)} of
-        {[Module, Function, Digits], _} ->
-            case {are_atoms([Module, Function]), list_to_integer(Digits)} of
-                {true, Arity} when Arity =< ?LONGEST ->
-                    {ok, {{list_to_atom(Module), list_to_atom(Function), Arity}, [{'_', []}]}};
-                _ -> no_function(Word)
-            end;
-        {none, [Module, Function, Condition]} ->
-            case are_atoms([Module, Function]) of
-                true -> with_condition(list_to_atom(Module), list_to_atom(Function), Condition,
-                                       Word);
-                false -> no_function(Word)
-            end;
-        {none, none} ->
-            no_function(Word)
+    case labelled(Word, none) of
+        {ok, {Called, Clauses}} -> {ok, {Called, [{Head, Guards} || {Head, Guards, _} <- Clauses]}};
+        Failed -> Failed
     end.
 
 are_atoms(Names) -> lists:all(fun(Name) -> length(Name) =< ?LONGEST end, Names).
@@ -73,32 +59,35 @@ no_label(Word) ->
                  "argument, or _ for the number of the call", [Word])}.
 
 %% @doc The function as {@link function/1} reads it, with this label in each clause.
--spec labelled(string(), erl_parse:abstract_expr()) -> {ok, triggering()} | {error, string()}.
+-spec labelled(string(), erl_parse:abstract_expr() | none) ->
+          {ok, triggering()} | {error, string()}.
 labelled(Word, Label) ->
-    case function(Word) of
-        {ok, {{Module, Function, Arity}, [{'_', []}]}} ->
-            Any = "(" ++ lists:append(lists:join(", ", lists:duplicate(Arity, "_"))) ++ ")",
-            with_condition(Module, Function, Any, [Label], Word);
-        {ok, {{Module, Function, _}, _}} ->
-            [_, _, Condition] = captured(Word, ?WITH_CONDITION),
-            with_condition(Module, Function, Condition, [Label], Word);
-        {error, Reason} -> {error, Reason}
+    Captured = case captured(Word, "^([^:(]+):([^:(]+)/([0-9]{1,3})$") of
+                   none -> captured(Word, "^([^:(]+):([^:(]+)(\\(.*)$");
+                   [Module, Function, Digits] -> [Module, Function, list_to_integer(Digits)]
+               end,
+    case Captured =/= none andalso are_atoms(lists:droplast(Captured)) of
+        true ->
+            [Name, Called, Arguments] = Captured,
+            clauses({list_to_atom(Name), list_to_atom(Called), Arguments}, Label, Word);
+        false -> no_function(Word)
     end.
 
-with_condition(Module, Function, Condition, Word) ->
-    case with_condition(Module, Function, Condition, none, Word) of
-        {ok, {Called, Clauses}} -> {ok, {Called, [{Head, Guards} || {Head, Guards, _} <- Clauses]}};
-        Failed -> Failed
-    end.
-
+clauses({_, _, Arity}, _Label, Word) when is_integer(Arity), Arity > ?LONGEST ->
+    no_function(Word);
+clauses({_, _, Arity} = Called, none, _Word) when is_integer(Arity) ->
+    {ok, {Called, [{'_', [], none}]}};
+clauses({Module, Function, Arity}, Label, Word) when is_integer(Arity) ->
+    Any = lists:append(lists:join(", ", lists:duplicate(Arity, "_"))),
+    clauses({Module, Function, "(" ++ Any ++ ")"}, Label, Word);
 %% A call with a guard is the head of a fun, so it is read as one, and made a match specification as
 %% `dbg:fun2ms/1' does. The label is its body.
-with_condition(Module, Function, Condition, Label, Word) ->
+clauses({Module, Function, Condition}, Label, Word) ->
     case parsed("fun" ++ Condition ++ " -> true end.") of
         {ok, [{'fun', _, {clauses, [{clause, Place, Arguments, Guards, Body}]}}]}
           when length(Arguments) =< ?LONGEST ->
             Clause = {clause, Place, [list(Arguments, Place)], Guards,
-                      case Label of none -> Body; _ -> Label end},
+                      case Label of none -> Body; _ -> [Label] end},
             case ms_transform:transform_from_shell(dbg, [Clause], []) of
                 [_ | _] = Specification ->
                     {ok, {{Module, Function, length(Arguments)},
