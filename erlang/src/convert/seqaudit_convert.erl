@@ -63,22 +63,16 @@ alone(Do) ->
 
 write(Build, Name) ->
     {Parts, Facts} = parts(Build),
+    Noted = seqaudit_notes:facts(Facts),
+    Notes = [Note || {_, Note} <- Noted],
     %% The tables that were needed until here may be large.
     true = garbage_collect(),
-    case write_parts(Parts, Name) of
+    Text = fun(Lines) -> fun(Out) -> Out(unicode:characters_to_binary(Lines)) end end,
+    case write_parts(Parts#{notes => Text([[Note, $\n] || Note <- Notes]),
+                            facts => Text(seqaudit_notes:facts_text(Noted))}, Name) of
         {ok, Files} ->
             _ = [file:delete(Name ++ ".times") || not is_map_key(times, Parts)],
-            Noted = seqaudit_notes:facts(Facts),
-            Notes = [Note || {_, Note} <- Noted],
-            Kept = [{Name ++ ".notes",
-                     unicode:characters_to_binary([[Note, $\n] || Note <- Notes])},
-                    {Name ++ ".facts", seqaudit_notes:facts_text(Noted)}],
-            case [Reason || {File, Text} <- Kept, {error, Reason} <- [write_own(File, Text)]] of
-                [] ->
-                    {ok, (maps:with([events, processes, dropped], Facts))
-                         #{notes => Notes, files => Files ++ [File || {File, _} <- Kept]}};
-                [Reason | _] -> {error, Reason}
-            end;
+            {ok, (maps:with([events, processes, dropped], Facts))#{notes => Notes, files => Files}};
         {error, Reason} ->
             {error, Reason}
     end.
@@ -88,8 +82,8 @@ write(Build, Name) ->
 write_parts(Parts, Name) ->
     Files = [{Name ++ Suffix, Part, maps:get(Part, Parts)}
              || {Part, Suffix} <- [{seqtrace, ".seqtrace"}, {terms, ".terms"},
-                                   {messages, ".messages"},
-                                   {times, ".times"}],
+                                   {messages, ".messages"}, {times, ".times"},
+                                   {notes, ".notes"}, {facts, ".facts"}],
                 is_map_key(Part, Parts)],
     Begun = [seqaudit_workers:begun(fun() -> write_file(File, Write) end)
              || {File, Part, Write} <- Files, not is_of_tables(Part)],
@@ -108,9 +102,6 @@ has_messages(File) ->
         true -> true;
         false -> ok =/= file:delete(File)
     end.
-
-write_own(File, Text) ->
-    write_file(File, fun(Out) -> Out(Text) end).
 
 %% The owner alone may read the file, from before anything is in it.
 write_file(File, Part) ->
@@ -310,18 +301,13 @@ entries(First, Table, Numbers) ->
     Text.
 
 note_dots(First, Entries, Dots) ->
-    case binary:match(Entries, <<"...">>) of
-        nomatch ->
-            ok;
-        _ ->
-            Lines = binary:split(Entries, <<"\n">>, [global]),
-            lists:foreach(fun({Number, Line}) ->
-                                  case binary:match(Line, <<"...">>) of
-                                      nomatch -> ok;
-                                      _ -> atomics:put(Dots, Number + 1, 1)
-                                  end
-                          end, lists:enumerate(First, Lines))
-    end.
+    Lines = case binary:match(Entries, <<"...">>) of
+                nomatch -> [];
+                _ -> binary:split(Entries, <<"\n">>, [global])
+            end,
+    _ = [atomics:put(Dots, Number + 1, 1) || {Number, Line} <- lists:enumerate(First, Lines),
+                                             binary:match(Line, <<"...">>) =/= nomatch],
+    ok.
 
 %% The whole texts of the values that are cut in the legend. Each may be large, so they are made one
 %% after the other.

@@ -18,8 +18,7 @@
 -define(HEADER, <<"seqaudit facts 1">>).
 %% Kinds of facts that say that something is gone.
 -define(LOSSES, [nothing, lost, unread, ended, dropped, left, damaged, newer, no_events, pauses,
-                 written_over, taken,
-                 nameless]).
+                 written_over, taken, nameless]).
 
 -type fact() :: {Kind :: atom(), Sentence :: string()}.
 
@@ -27,9 +26,8 @@
 %% bytes are known: they are taken to be as large as the kept ones.
 -spec dropped([seqaudit_build:collected()], #{atom() => non_neg_integer()}) -> non_neg_integer().
 dropped(Collections, Counts) ->
-    count(nameless, Counts) + count(strays, Counts) + count(damaged, Counts) + count(newer, Counts)
-        + count(no_events,
-                Counts) + lists:sum([known(Kind, Collection) || Collection <- Collections,
+    lists:sum([count(Kind, Counts) || Kind <- [nameless, strays, damaged, newer, no_events]])
+        + lists:sum([known(Kind, Collection) || Collection <- Collections,
                                                 Kind <- [dropped, own, strays]])
         + lists:sum([Events || Collection <- Collections, {_, Events} <- [over(Collection)]]).
 
@@ -72,11 +70,10 @@ facts(#{collections := Collections, counts := Counts, samples := Samples, wrappe
 of_kind(Kind, Sentences) -> [{Kind, Sentence} || Sentence <- Sentences].
 
 %% @doc The text of `NAME.facts'.
--spec facts_text([fact()]) -> iolist().
+-spec facts_text([fact()]) -> unicode:chardata().
 facts_text(Facts) ->
     [?HEADER, $\n,
-     [[atom_to_binary(Kind), $\t, unicode:characters_to_binary(Sentence), $\n]
-      || {Kind, Sentence} <- Facts]].
+     [[atom_to_binary(Kind), $\t, Sentence, $\n] || {Kind, Sentence} <- Facts]].
 
 %% @doc Returns a sentence for each thing that is gone by these facts.
 -spec losses(binary()) -> [binary()].
@@ -102,8 +99,7 @@ collected(#{facts := Facts} = Collection) ->
     Node = seqaudit_terms:plain(maps:get(node, Facts, <<"a node">>)),
     Tracer = maps:get(tracer, Facts, put_back),
     of_kind(lost, lost(Node, Facts)) ++ of_kind(unread, unread(Node, Facts))
-        ++ of_kind(ended, ended(Node, Facts))
-        ++ of_kind(split, split(Node, Facts))
+        ++ of_kind(ended, ended(Node, Facts)) ++ of_kind(split, split(Node, Facts))
         ++ [{Kind, text(Format, [Node, seqaudit_errors:count(known(Kind, Collection), Thing)])}
             || {Kind, Thing, Format} <-
                    [{dropped, "event",
@@ -112,8 +108,7 @@ collected(#{facts := Facts} = Collection) ->
                     {strays, "message", "~ts: the collector got ~ts besides trace events"}],
                known(Kind, Collection) > 0]
         ++ of_kind(left, left(Node, known(left, Collection), Collection))
-        ++ of_kind(passed, passed(Collection))
-        ++ of_kind(pauses, pauses(Node, Facts))
+        ++ of_kind(passed, passed(Collection)) ++ of_kind(pauses, pauses(Node, Facts))
         ++ of_kind(written_over, written_over(Node, Collection))
         ++ of_kind(Tracer, tracer(Node, Tracer)).
 
@@ -143,9 +138,7 @@ lost(Node, #{lost := Reason} = Facts) ->
                _ -> text("its collector went down (~ts)", [reason(Reason)])
            end,
            case Facts of
-               #{where := Where} ->
-                   text("; its events are in ~ts there, and `seqaudit-node convert' takes that "
-                        "folder", [reason(Where)]);
+               #{where := Where} -> there("its events", Where);
                #{kept := Kept} -> text("; what it wrote before, ~ts, is here",
                                        [seqaudit_errors:count(Kept, "event")]);
                #{} -> ", and all of its events are lost"
@@ -158,13 +151,15 @@ unread(Node, #{unread := Bytes} = Facts) ->
     [text("~ts: ~ts of what was collected couldn't be read~ts",
           [Node, seqaudit_errors:count(Bytes, "byte"),
            case Facts of
-               #{where := Where} ->
-                   text("; they are in ~ts there, and `seqaudit-node convert' takes that folder",
-                                         [reason(Where)]);
+               #{where := Where} -> there("they", Where);
                #{} -> ""
            end])];
 unread(_Node, _Facts) ->
     [].
+
+there(What, Where) ->
+    text("; ~ts are in ~ts there, and `seqaudit-node convert' takes that folder",
+         [What, reason(Where)]).
 
 ended(Node, #{ended := Ended}) ->
     case seqaudit_external:tuple(Ended) of
@@ -183,23 +178,22 @@ date(_) ->
     "a time that isn't known".
 
 why(Why) ->
-    case [seqaudit_external:view(Part) || Part <- parts(Why)] of
+    Parts = parts(Why),
+    Last = reason(lists:last([Why | Parts])),
+    case [seqaudit_external:view(Part) || Part <- Parts] of
         [{atom, <<"fell_behind">>}] ->
             "events came faster than they could be written by a process, not by a trace port; what "
             "came until then is here";
         [{atom, <<"fell_behind">>}, _] ->
-            text("events came faster than they could be written, ~ts times",
-                 [reason(lists:last(parts(Why)))]);
+            text("events came faster than they could be written, ~ts times", [Last]);
         [{atom, <<"unwatched">>}, _] ->
-            text("the process that bounds the memory of the trace port ended (~ts)",
-                 [reason(lists:last(parts(Why)))]);
+            text("the process that bounds the memory of the trace port ended (~ts)", [Last]);
         [{atom, <<"owner_out_of_reach">>}] ->
             "the node that led the collection was out of reach for too long";
         [{atom, <<"owner">>}, _] ->
-            text("the process that led the collection ended (~ts)",
-                 [reason(lists:last(parts(Why)))]);
+            text("the process that led the collection ended (~ts)", [Last]);
         [{atom, <<"disk">>}, _] ->
-            text("the trace file couldn't be written (~ts)", [reason(lists:last(parts(Why)))]);
+            text("the trace file couldn't be written (~ts)", [Last]);
         _ -> reason(Why)
     end.
 
