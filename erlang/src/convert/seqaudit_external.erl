@@ -242,18 +242,16 @@ walk_other(<<Bytes/binary>>, Left, Depth, Done) ->
     end.
 
 without_parts(<<?NEW_PID, Rest/binary>>) ->
-    with_node(Rest, 12, fun(Node, Numbers) -> <<?NEW_PID, Node/binary, Numbers/binary>> end);
+    with_node(<<?NEW_PID>>, Rest, <<>>, 12);
 without_parts(<<?NEWER_REFERENCE, Words:16, Rest/binary>>) when Words =< 5 ->
-    with_node(Rest, 4 + 4 * Words,
-              fun(Node, Numbers) ->
-                  <<?NEWER_REFERENCE, Words:16, Node/binary, Numbers/binary>> end);
+    with_node(<<?NEWER_REFERENCE, Words:16>>, Rest, <<>>, 4 + 4 * Words);
 without_parts(Bytes) ->
     seldom(Bytes).
 
-seldom(<<?V4_PORT, Rest0/binary>>) ->
-    with_node(Rest0, 12, fun(Node, Numbers) -> <<?V4_PORT, Node/binary, Numbers/binary>> end);
-seldom(<<?NEW_PORT, Rest0/binary>>) ->
-    with_node(Rest0, 8, fun(Node, Numbers) -> <<?V4_PORT, Node/binary, 0:32, Numbers/binary>> end);
+seldom(<<?V4_PORT, Rest/binary>>) ->
+    with_node(<<?V4_PORT>>, Rest, <<>>, 12);
+seldom(<<?NEW_PORT, Rest/binary>>) ->
+    with_node(<<?V4_PORT>>, Rest, <<0:32>>, 8);
 seldom(<<?LARGE_BIG, Size:32, Bytes:(Size + 1)/binary, Rest/binary>>) ->
     {<<?LARGE_BIG, Size:32, Bytes/binary>>, Rest};
 seldom(<<?BIT_BINARY, Size:32, Bits, Bytes:Size/binary, Rest/binary>>) when Bits >= 1, Bits =< 8 ->
@@ -265,10 +263,12 @@ seldom(<<_, _/binary>>) ->
 seldom(<<>>) ->
     throw(damaged).
 
-with_node(Bytes, Size, Make) ->
+%% Takes the name of a node and numbers of this size, with something between.
+with_node(Before, Bytes, Between, Size) ->
     {Node, Rest0} = take_atom(Bytes),
     case Rest0 of
-        <<Numbers:Size/binary, Rest/binary>> -> {Make(Node, Numbers), Rest};
+        <<Numbers:Size/binary, Rest/binary>> ->
+            {<<Before/binary, Node/binary, Between/binary, Numbers/binary>>, Rest};
         _ -> throw(damaged)
     end.
 
@@ -287,14 +287,10 @@ take_integer(<<?SMALL_INTEGER, N, Rest/binary>>) -> {<<?SMALL_INTEGER, N>>, Rest
 take_integer(<<?INTEGER, N:32, Rest/binary>>) -> {<<?INTEGER, N:32>>, Rest};
 take_integer(_) -> throw(damaged).
 
-behind_process(<<?NEW_PID, Rest/binary>>) -> behind_numbers(take_atom(Rest), 12);
-behind_process(_) -> throw(damaged).
-
-behind_numbers({_Node, Bytes}, Size) ->
-    case Bytes of
-        <<_:Size/binary, Rest/binary>> -> Rest;
-        _ -> throw(damaged)
-    end.
+behind_process(<<?NEW_PID, Bytes/binary>>) ->
+    element(2, with_node(<<>>, Bytes, <<>>, 12));
+behind_process(_) ->
+    throw(damaged).
 
 latin1_atom(Name) when byte_size(Name) > ?ATOM_CHARACTERS -> throw(damaged);
 latin1_atom(Name) ->

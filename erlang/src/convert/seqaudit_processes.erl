@@ -6,8 +6,7 @@
 %% 65,535, and for what is no process, a number is taken that nobody has, from 65,535 downwards.
 -module(seqaudit_processes).
 
--export([number/1, further_nodes/1, has_several_homes/1, spell/1, registered/3,
-         name/3, what/3]).
+-export([number/1, further_nodes/1, has_several_homes/1, spell/1, registered/3, name/3, what/3]).
 -export_type([party/0, pid_number/0, numbers/0]).
 
 -import(seqaudit_external, [view/1]).
@@ -87,10 +86,8 @@ home(Party) ->
 
 %% @doc Whether the parties are of several nodes.
 -spec has_several_homes([party()]) -> boolean().
-has_several_homes([]) -> false;
-has_several_homes([First | Others]) ->
-    Home = home(First),
-    lists:any(fun(Party) -> home(Party) =/= Home end, Others).
+has_several_homes(Parties) ->
+    length(lists:usort([home(Party) || Party <- Parties])) > 1.
 
 %% @doc A pid of the bundle in its one spelling.
 -spec spell(pid_number()) -> string().
