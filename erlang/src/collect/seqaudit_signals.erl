@@ -38,15 +38,11 @@ init({Waiting, _Former}) ->
 
 %% @private
 -spec handle_event(atom(), {pid(), reference()} | asked) -> {ok, {pid(), reference()} | asked}.
-handle_event(sigterm, {Waiting, Asked}) ->
+handle_event(Signal, {Waiting, Asked}) when Signal =:= sigterm; Signal =:= output_closed ->
     Waiting ! Asked,
     {ok, asked};
 handle_event(sigterm, asked) ->
     halt(143, [{flush, false}]);
-%% Standard output and standard error may be closed both.
-handle_event(output_closed, {Waiting, Asked}) ->
-    Waiting ! Asked,
-    {ok, asked};
 handle_event(_Signal, State) ->
     {ok, State}.
 

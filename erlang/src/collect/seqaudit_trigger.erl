@@ -34,8 +34,8 @@
 
 -type trigger() :: #{function => mfa(), functions => [{mfa(), [clause()]}], label := term(),
                      times := boolean(),
-                     calls => infinity | pos_integer() | {pos_integer(),
-                                                          second}, numbered => boolean()}.
+                     calls => infinity | pos_integer() | {pos_integer(), second},
+                     numbered => boolean()}.
 %% `numbered' says whether the labels of clauses have the number of the call (`get_tcw'). Whoever
 %% calls one of these functions gets a token with this label: `function' by any call of it, of
 %% `functions' by those that one of the clauses matches; `times': whether the events have
@@ -46,8 +46,7 @@
                  session :: default | term(),
                  calls :: infinity | pos_integer() | {pos_integer(), second},
                  counts :: boolean(),
-                 since :: integer(),
-                 on = true :: boolean()}).
+                 since :: integer()}).
 
 -opaque pulled() :: #pulled{}.
 
@@ -62,8 +61,7 @@ is_valid(_) -> false.
 
 is_function_with_clauses({{M, F, A}, Clauses}) ->
     is_atom(M) andalso is_atom(F) andalso is_integer(A) andalso A >= 0 andalso A =< 255
-        andalso is_list(Clauses)
-        andalso Clauses =/= [];
+        andalso is_list(Clauses) andalso Clauses =/= [];
 is_function_with_clauses(_) -> false.
 
 is_limit(infinity) -> true;
@@ -209,7 +207,7 @@ word_in_use(true) ->
 
 %% @doc To be called a few times a second: a new second allows new calls.
 -spec tick(pulled()) -> pulled().
-tick(#pulled{on = true, calls = {_, second}, since = Since} = Pulled) ->
+tick(#pulled{calls = {_, second}, since = Since} = Pulled) ->
     Now = erlang:monotonic_time(millisecond),
     case Now - Since >= ?SECOND_MS of
         true ->
@@ -229,8 +227,7 @@ release(#pulled{counts = Counts} = Pulled) ->
     ok.
 
 %% A function that somebody else has begun to trace meanwhile keeps their match specification.
-take_off(#pulled{on = false} = Pulled) -> Pulled;
-take_off(#pulled{functions = Functions, tracer = Tracer, session = Session} = Pulled) ->
+take_off(#pulled{functions = Functions, tracer = Tracer, session = Session}) ->
     case Session of
         default ->
             _ = [erlang:trace_pattern(Function, false, [local])
@@ -239,8 +236,7 @@ take_off(#pulled{functions = Functions, tracer = Tracer, session = Session} = Pu
             _ = apply(trace, session_destroy, [Session])
     end,
     unlink(Tracer),
-    exit(Tracer, kill),
-    Pulled#pulled{on = false}.
+    exit(Tracer, kill).
 
 %% @doc Why calls set no token on this node, in words, with what to do about it.
 -spec format_error(node(), term()) -> string().
