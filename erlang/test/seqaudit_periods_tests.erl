@@ -216,9 +216,9 @@ write(N, Events) ->
     Name = seqaudit_audits:file("quiet" ++ integer_to_list(N)),
     {ok, Device} = seqaudit_events:open(Name),
     ok = seqaudit_events:begin_collection(Device, #{node => node()}),
-    ok = seqaudit_events:append(Device,
+    ok = file:write(Device,
                                 seqaudit_spool:entry(#{processes => #{self() => #{name => tester}}, written => 17})),
-    ok = seqaudit_events:append(Device, [[<<0, (byte_size(Bytes)):32>>, Bytes] || Event <- Events,
+    ok = file:write(Device, [[<<0, (byte_size(Bytes)):32>>, Bytes] || Event <- Events,
                                          Bytes <- [term_to_binary(Event)]]),
     ok = seqaudit_events:close(Device),
     Name ++ ".events".
@@ -236,8 +236,8 @@ rest_test() ->
     {ok, Device} = seqaudit_events:open(Name),
     [begin
          ok = seqaudit_events:begin_collection(Device, #{node => node()}),
-         ok = seqaudit_events:append(Device, [seqaudit_spool:entry(Facts) || Facts <- Known]),
-         ok = seqaudit_events:append(Device, [[<<0, (byte_size(Bytes)):32>>, Bytes]
+         ok = file:write(Device, [seqaudit_spool:entry(Facts) || Facts <- Known]),
+         ok = file:write(Device, [[<<0, (byte_size(Bytes)):32>>, Bytes]
                                               || Event <- Events, Bytes <- [term_to_binary(Event)]])
      end || {Known, Events} <- [{[#{processes => #{A => #{name => a}}}, #{processes => #{B => #{name => b}}}],
                                  [{seq_trace, 1, {print, {0, 1}, A, [], x}},

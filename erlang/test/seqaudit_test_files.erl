@@ -49,7 +49,7 @@ write(Name, Collections) ->
     {ok, Device} = seqaudit_events:open(Name),
     [begin
          ok = seqaudit_events:begin_collection(Device, maps:remove(events, Collection)),
-         ok = seqaudit_events:append(Device, [[<<0, (byte_size(Bytes)):32>>, Bytes]
+         ok = file:write(Device, [[<<0, (byte_size(Bytes)):32>>, Bytes]
                                               || Event <- maps:get(events, Collection, []),
                                                  Bytes <- [term_to_binary(Event)]])
      end || Collection <- Collections],

@@ -49,12 +49,9 @@ written([{{File, Count}, {Before, Behind}} | Others]) ->
 
 read([], Read) ->
     {Counts, Messages} = lists:unzip(lists:reverse(Read)),
-    Ends = lists:foldl(fun({Number, Places}, Known) ->
-                               lists:foldl(fun({End, Key, Place},
-                                               Sum) -> put_end(End, Key, {Number, Place}, Sum) end,
-                                           Known, Places)
-                       end, #{}, lists:enumerate(Messages)),
-    {ok, {Counts, maps:values(Ends)}};
+    Ends = [{Key, End, {Number, Place}} || {Number, Places} <- lists:enumerate(Messages),
+                                           {Key, End, Place} <- Places],
+    {ok, {Counts, maps:values(maps:groups_from_list(fun({Key, _, _}) -> Key end, Ends))}};
 read([File | Files], Read) ->
     Item = fun({event, Event}, {Place, Places}) -> {Place + 1, message(Event, Place) ++ Places};
               (_, Known) -> Known
@@ -64,33 +61,21 @@ read([File | Files], Read) ->
         {error, Reason} -> {error, Reason}
     end.
 
-%% The places come from the last to the first, of the last file first.
--spec put_end(sent | received, binary(), place(), #{binary() => {[place()], [place()]}}) ->
-          #{binary() => {[place()], [place()]}}.
-put_end(End, Key, Place, Ends) ->
-    {Sent, Received} = maps:get(Key, Ends, {[], []}),
-    Ends#{Key => case End of
-                     sent -> {[Place | Sent], Received};
-                     received -> {Sent, [Place | Received]}
-                 end}.
-
 %% A process stamps a count once, so that and the label say which message it is, unless a token is
 %% put back: then several may have both.
 message(Bytes, Place) ->
     case seqaudit_external:event(Bytes) of
-        {ok, {send, Label, Serial, From, _, _, _}} -> [{sent, key(Label, Serial, From), Place}];
-        {ok, {'receive', Label, Serial, From, _, _, _}} ->
-            [{received, key(Label, Serial, From), Place}];
+        {ok, {End, Label, Serial, From, _, _, _}} when End =/= print ->
+            [{erlang:md5(term_to_binary({Label, Serial, From})), End, Place}];
         _ -> []
     end.
-
-key(Label, Serial, From) -> erlang:md5(term_to_binary({Label, Serial, From})).
 
 %% The numbers of first events, moved back until nothing is under way.
 moment({Counts, Messages}) ->
     Half = [Count div 2 || Count <- Counts],
-    Pairs = lists:append([pairs(lists:sort(Sent), lists:sort(Received))
-                          || {Sent, Received} <- Messages]),
+    Pairs = lists:append([pairs([Place || {_, send, Place} <- lists:sort(Ends)],
+                                [Place || {_, 'receive', Place} <- lists:sort(Ends)])
+                          || Ends <- Messages]),
     Known = [{Sent, Received} || {{Number, Place} = Sent, Received} <- Pairs,
                                  Received =/= none orelse Place >= lists:nth(Number, Half)],
     moved(list_to_tuple(Counts), list_to_tuple(Half), Known, ?MOVES).
@@ -141,8 +126,8 @@ split(File, Count, Before, Behind) ->
         {{ok, Bytes}, {ok, First}, {ok, Second}} ->
             [_, Entries] = binary:split(Bytes, <<"\n">>),
             {Former, Later} = entries(Entries, Count, [], []),
-            _ = {ok, ok} = {seqaudit_events:append(First, Former),
-                            seqaudit_events:append(Second, later(Later, []))},
+            _ = {ok, ok} = {file:write(First, Former),
+                            file:write(Second, later(Later, []))},
             case {seqaudit_events:close(First), seqaudit_events:close(Second)} of
                 {ok, ok} -> ok;
                 {{error, Reason}, _} -> {error, {file, Before, Reason}};

@@ -17,6 +17,8 @@
 -export([init/1, handle_call/3, handle_cast/2, handle_info/2]).
 -export_type([options/0, flag/0, rotated/0, news/0]).
 
+-import(seqaudit_errors, [text/2]).
+
 -define(BYTES, 268_435_456).
 %% A trace file smaller than this is no use: a message is often as large.
 -define(LEAST_BYTES, 65_536).
@@ -25,8 +27,7 @@
 %% Modules that another node needs: the collector, what it calls while it collects, and this one for
 %% `with_trace'. What puts reasons into words isn't among them, as that is done here.
 -define(MODULES, [seqaudit_spool, seqaudit_asker, seqaudit_scribe, seqaudit_watch, seqaudit_trigger,
-                  seqaudit_collector,
-                  ?MODULE]).
+                  seqaudit_collector, ?MODULE]).
 -define(REMOTE_MS, 15_000).
 %% A node that is out of reach is tried again in these steps.
 -define(REACH_MS, 500).
@@ -258,10 +259,6 @@ format_error({Which, File, Reason}) when Which =:= file; Which =:= unwritten ->
          [File, file:format_error(Reason)]);
 format_error(Reason) ->
     text("~0tp", [Reason]).
-
-%% As that of seqaudit_errors, of which a node on which this module was loaded needn't have any.
-text(Format, Values) ->
-    lists:flatten(io_lib:format(Format, Values)).
 
 %% @private
 -spec init(options() | {recover, #state{}}) -> {ok, #state{}} | {stop, {shutdown, term()}}.
@@ -555,8 +552,7 @@ has({on, Folder}, Node) ->
     Node#node{folder = Folder, former = [], split = {0, 0}};
 has({again, Collector, Folder}, Node) ->
     Node#node{collector = Collector, monitor = monitor(process, Collector), folder = Folder,
-              former = [], is = on,
-              split = {0, 0}};
+              former = [], is = on, split = {0, 0}};
 has(gone, Node) ->
     Node#node{folder = none, former = []};
 has(same, Node) ->
@@ -642,10 +638,10 @@ fetch(#node{node = Node, folder = Folder, is = {gone, Reason}, split = Split} = 
                                 #{unread := _} -> Copied#{where => Folder};
                                 #{} -> Copied
                             end,
-                    ok = seqaudit_events:append(Device, seqaudit_spool:entry(Facts)),
+                    ok = file:write(Device, seqaudit_spool:entry(Facts)),
                     case Copied of #{unread := _} -> lost; #{} -> fetched end;
                 {error, Fault} ->
-                    ok = seqaudit_events:append(Device, seqaudit_spool:entry(#{lost => Fault})),
+                    ok = file:write(Device, seqaudit_spool:entry(#{lost => Fault})),
                     lost
             end
     end.
@@ -678,7 +674,7 @@ copy(File, Offset, Size, Begun, Read, Device, Sum) ->
         {ok, Piece} ->
             Bytes = <<Begun/binary, Piece/binary>>,
             {Whole, Rest, More} = seqaudit_events:whole_entries(Bytes, Sum),
-            ok = seqaudit_events:append(Device, Whole),
+            ok = file:write(Device, Whole),
             copy(File, Offset + byte_size(Piece), Size, Rest, Read, Device, More);
         _ ->
             Sum#{cut => maps:get(cut, Sum, 0) + Size - Offset + byte_size(Begun)}

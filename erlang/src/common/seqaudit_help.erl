@@ -17,11 +17,9 @@ all() ->
 %% @doc The version of the application.
 -spec version() -> string().
 version() ->
-    File = filename:join(filename:dirname(code:which(?MODULE)), "seqaudit.app"),
-    case file:consult(File) of
-        {ok, [{application, seqaudit, Keys}]} -> proplists:get_value(vsn, Keys);
-        {error, _} -> "of an unknown version"
-    end.
+    _ = application:load(seqaudit),
+    {ok, Version} = application:get_key(seqaudit, vsn),
+    Version.
 
 %% @doc How a command is called.
 -spec usage(string()) -> string().

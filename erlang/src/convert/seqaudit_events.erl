@@ -7,8 +7,8 @@
 %% damage is taken, and the rest is counted.
 -module(seqaudit_events).
 
--export([fold/3, is_collected/1, about_ttb/1, open/1,
-         begin_collection/2, append/2, close/1, whole_entries/2, writable/1, format_error/1]).
+-export([fold/3, is_collected/1, about_ttb/1, open/1, begin_collection/2, close/1, whole_entries/2,
+         writable/1, format_error/1]).
 -export_type([item/0, facts/0, about/0]).
 
 -import(seqaudit_errors, [text/2]).
@@ -59,29 +59,22 @@ fold(File, Do, Acc) ->
 %% @doc Whether a collector wrote the file, or has the folder: then it may be that no events came.
 -spec is_collected(file:filename()) -> boolean().
 is_collected(File) ->
-    filelib:is_dir(File) orelse begins_with(File, <<?HEADER>>).
+    filelib:is_dir(File) orelse {ok, <<?HEADER>>} =:= with_file(File, fun first_bytes/1).
 
-begins_with(File, Begin) ->
+with_file(File, Do) ->
     case file:open(File, [read, raw, binary]) of
         {ok, Device} ->
-            Read = file:pread(Device, 0, byte_size(Begin)),
-            ok = file:close(Device),
-            Read =:= {ok, Begin};
-        {error, _} ->
-            false
-    end.
-
-fold_file(File, Do, Acc) ->
-    case file:open(File, [read, raw, binary]) of
-        {ok, Device} ->
-            try
-                fold_form(file:pread(Device, 0, length(?HEADER)), File, Device, Do, Acc)
-            after
-                file:close(Device)
+            try Do(Device)
+            after file:close(Device)
             end;
         {error, Reason} ->
             {error, {file, File, Reason}}
     end.
+
+first_bytes(Device) -> file:pread(Device, 0, length(?HEADER)).
+
+fold_file(File, Do, Acc) ->
+    with_file(File, fun(Device) -> fold_form(first_bytes(Device), File, Device, Do, Acc) end).
 
 fold_form({ok, <<?HEADER>>}, File, Device, Do, Acc) ->
     fold_entries(File, Device, length(?HEADER), Do, Acc);
@@ -183,16 +176,10 @@ fold_folder(Folder, Do, Acc) ->
     end.
 
 fold_part(File, Size, Do, Acc) ->
-    case file:open(File, [read, raw, binary]) of
-        {ok, Device} ->
-            try fold_entries(File, Device, 0, Do, Acc) of
-                {ok, Folded} -> Folded;
-                {error, {broken_trace, _, Left}} -> Do({left, Left}, Acc)
-            after
-                file:close(Device)
-            end;
-        {error, _} ->
-            Do({facts, #{unread => Size}}, Acc)
+    case with_file(File, fun(Device) -> fold_entries(File, Device, 0, Do, Acc) end) of
+        {ok, Folded} -> Folded;
+        {error, {broken_trace, _, Left}} -> Do({left, Left}, Acc);
+        {error, {file, _, _}} -> Do({facts, #{unread => Size}}, Acc)
     end.
 
 fold_external(File, <<?EXTERNAL, 108, Length:32, Rest/binary>>, Do, Acc) ->
@@ -306,15 +293,13 @@ read_about(Info) ->
 -spec open(file:filename()) -> {ok, file:io_device()} | {error, {file, file:filename(), term()}}.
 open(Name) ->
     File = Name ++ ".events",
-    case file:open(File, [write, raw, binary]) of
-        {ok, Device} ->
-            case {file:change_mode(File, 8#600), file:write(Device, ?HEADER)} of
-                {ok, ok} -> {ok, Device};
-                {{error, Reason}, _} -> {error, {file, File, Reason}};
-                {_, {error, Reason}} -> {error, {file, File, Reason}}
-            end;
-        {error, Reason} ->
-            {error, {file, File, Reason}}
+    try
+        {ok, Device} = file:open(File, [write, raw, binary]),
+        ok = file:change_mode(File, 8#600),
+        ok = file:write(Device, ?HEADER),
+        {ok, Device}
+    catch
+        error:{badmatch, {error, Reason}} -> {error, {file, File, Reason}}
     end.
 
 %% @doc Begins a collection with these facts.
@@ -322,11 +307,6 @@ open(Name) ->
 begin_collection(Device, Facts) ->
     Term = term_to_binary(Facts),
     file:write(Device, [<<?COLLECTION, (byte_size(Term)):32>>, Term]).
-
-%% @doc Appends entries as they are in a folder of {@link seqaudit_spool}.
--spec append(file:io_device(), iodata()) -> ok | {error, term()}.
-append(Device, Entries) ->
-    file:write(Device, Entries).
 
 %% @doc The whole entries at the beginning of these bytes, and what is left; and the counts: `kept'
 %% events of `kept_bytes', and the bytes that `came'.
