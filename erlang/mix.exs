@@ -7,7 +7,7 @@ defmodule Seqaudit.MixProject do
      description: "Traces running nodes by seq_trace, for gemshowal to audit and draw",
      package: [licenses: ["Apache-2.0"], files: ["src", "rebar.config", "seqaudit-node", "mix.exs", "lib", "CHANGELOG.md"],
                links: %{"Erlang's seq_trace" => "https://www.erlang.org/doc/man/seq_trace.html"}],
-     xref: [exclude: [Mix.Task]], deps: []]
+     elixirc_options: [no_warn_undefined: [Mix.Task]], deps: []]
   end
 
   def application do

@@ -46,7 +46,7 @@ shop() ->
                       "  def init(state), do: {:ok, state}\n"
                      "  def handle_call(%Shop.Order{} = order, _, state), do: {:reply, {:ok, order.n, \"sold\", nil}, "
                       "state}\nend\n"},
-     {"trace.exs", "{:ok, _} = Shop.start()\n:ok = :seqaudit_trace.start(%{name: 'traced'})\n"
+     {"trace.exs", "{:ok, _} = Shop.start()\n:ok = :seqaudit_trace.start(%{name: ~c\"traced\"})\n"
                    ":seqaudit_trace.with_trace({Shop, 7}, fn -> GenServer.call(Shop, %Shop.Order{item: \"apple\", "
                     "n: 3}) end)\n"
                    "{:ok, _} = :seqaudit_trace.stop()\n"}].

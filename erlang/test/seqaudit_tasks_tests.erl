@@ -87,7 +87,7 @@ shop(Name) ->
      "{:ok, _} = GenServer.start(Shop.Server, nil, name: Shop)\n"
      "order = struct(Shop.Order, item: \"apple\")\n"
      "{:ok, supervisor} = Task.Supervisor.start_link()\n"
-     ":ok = :seqaudit_trace.start(%{name: '", Name, "'})\n"
+     ":ok = :seqaudit_trace.start(%{name: ~c\"", Name, "\"})\n"
      ":seqaudit_trace.with_trace({Shop, 7}, fn ->\n"
      "  {:ok, ^order} = GenServer.call(Shop, order)\n"
      "  Task.await(Task.Supervisor.async(supervisor, fn -> send(Shop, :sold) end))\nend)\n"
