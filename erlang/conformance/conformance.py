@@ -2,10 +2,10 @@
 """How near the machine is to a real node (docs/MACHINE.md, "Where a standard node differs").
 
 Random scripts run on one or two nodes, each act to its end before the next begins. What came of a
-script, its replies and its streams, is compared with the machine's: the streams of `seqaudit
-replay` and the replies of the slow model. A script agrees; or it differs by rules by which a
-standard node is known to differ, and agrees once these are exchanged in the slow model; or it
-fails, and is printed cut down to the acts that it needs to fail.
+script, its replies and its streams, must be what the slow model of a standard node makes of it. One
+that isn't is printed, cut down to the acts that it needs to fail. Of scripts that the machine can do
+too, `seqaudit replay` must have the slow model's streams, and those rules are counted by which a
+standard node differs from the machine.
 """
 
 import argparse
@@ -21,7 +21,7 @@ from pathlib import Path
 import machine
 from machine import BROKEN, RULES, Outcome
 from scripts import cut_down, random_script, written_script
-from written import WRITTEN
+from written import NODE_ONLY, WRITTEN
 
 HOME = Path(__file__).resolve().parent
 #: Standard output is for what the scripts come to.
@@ -33,7 +33,7 @@ END_SECONDS = 30
 
 
 class Failure(Exception):
-    """A script that no exchange of rules explains; `acts` is how many it was cut down to."""
+    """A script that fails; `acts` is how many it was cut down to."""
 
     def __init__(self, text, acts=None):
         super().__init__(text)
@@ -76,26 +76,33 @@ class Nodes:
 
 
 class Comparison:
-    """Compares scripts on the nodes with the machine: with seqaudit, and with the slow model."""
+    """Compares scripts on the nodes with the slow models, and seqaudit with the machine's."""
 
     def __init__(self, nodes, seqaudit=None, broken=()):
         self.nodes, self.seqaudit, self.broken = nodes, seqaudit, broken
 
     def check(self, script):
-        """The rules by which the script's outcome differs, and those by which its streams do. Or fails."""
-        if self.seqaudit and not self.is_replayed(script):
+        """The rules by which the script's outcome differs from the machine's, and those by which its streams do.
+
+        There are none of a script that the machine can't do. Or fails.
+        """
+        if self.seqaudit and not script.node_only and not self.is_replayed(script):
             least = cut_down(script, lambda one: not self.is_replayed(one))
             raise self.failure(least, "seqaudit replay", Outcome([], self.replayed(least)),
                                Outcome([], self.modelled(least).streams))
         found = self.nodes.run(script)
-        rules = self.rules_of(script, found)
-        if rules is None:
-            least = cut_down(script, lambda one: self.rules_of(one, self.nodes.run(one)) is None)
-            raise self.failure(least, "node", self.nodes.run(least), self.modelled(least, RULES))
-        return rules, self.rules_of(script, found, lambda outcome: outcome.streams)
+        if found != self.expected(script):
+            least = cut_down(script, lambda one: self.nodes.run(one) != self.expected(one))
+            raise self.failure(least, "node", self.nodes.run(least), self.expected(least))
+        if script.node_only:
+            return [], []
+        return self.rules_of(script, found), self.rules_of(script, found, lambda outcome: outcome.streams)
+
+    def expected(self, script):
+        return machine.run_node(script, self.broken)
 
     def rules_of(self, script, found, part=lambda outcome: outcome):
-        """A least set of rules with which this part of the outcome agrees, or None where none does."""
+        """A least set of rules with which this part of the outcome is the machine's."""
         _, rules = machine.run(script)
 
         def agrees(some):
@@ -103,8 +110,6 @@ class Comparison:
 
         if agrees(()):
             return []
-        if not agrees(rules):
-            return None
         for rule in RULES:
             if agrees(rules - {rule}):
                 rules = rules - {rule}
@@ -142,11 +147,11 @@ def check_cases():
 
 
 def check_written(comparison):
-    """Each written script must differ by its rules and no others. Returns how many ran."""
-    scripts = {name: (written_script(text), rules) for name, (text, rules) in WRITTEN.items()}
-    possible = {name: (script, rules) for name, (script, rules) in scripts.items()
-                if script.nodes() <= comparison.nodes.count}
-    for name, (script, expected) in possible.items():
+    """Each written script must differ from the machine by its rules and no others. Returns how many ran."""
+    scripts = [(name, written_script(text), rules) for name, (text, rules) in WRITTEN.items()]
+    scripts += [(name, written_script(text, node_only=True), []) for name, text in NODE_ONLY.items()]
+    possible = [one for one in scripts if one[1].nodes() <= comparison.nodes.count]
+    for name, script, expected in possible:
         rules, _ = comparison.check(script)
         if rules != expected:
             raise Failure(f"written script {name} differs by {rules} and not by {expected}")
@@ -154,12 +159,17 @@ def check_written(comparison):
 
 
 def check_random(comparison, seed, runs, verbose=False):
-    """How many runs agreed and how many needed which rule: in all, and in their streams alone."""
+    """How many scripts agree with the machine and how many need which rule: in all, and in their streams alone.
+
+    Each run has a script that the machine can do, and one that only a node can.
+    """
     in_all, in_streams = Counter(), Counter()
     for number in range(runs):
-        script = random_script(random.Random(f"{seed} {number}"), comparison.nodes.count)
+        script, wider = (random_script(random.Random(f"{seed} {number}{sort}"), comparison.nodes.count, bool(sort))
+                         for sort in ("", " node"))
         try:
             rules, of_streams = comparison.check(script)
+            comparison.check(wider)
         except Failure as failure:
             raise Failure(f"run {number}: {failure}", failure.acts) from None
         in_all.update(rules or ["agree"])
@@ -170,11 +180,11 @@ def check_random(comparison, seed, runs, verbose=False):
 
 
 def report(in_all, in_streams, runs):
-    """A line for those that agree, and one for each rule; a run may need several."""
-    rows = {"agree": "agree as they are", **{name: f"{rule.says} ({name})" for name, rule in RULES.items()}}
-    yield f"replies, streams  streams   of {runs} runs"
+    """What both sorts of scripts come to, and of those of the machine which rules they need; a run may need several."""
+    rows = {"agree": "agree with the machine", **{name: f"{rule.says} ({name})" for name, rule in RULES.items()}}
+    yield f"{runs} scripts of the machine's acts and {runs} with spawns and large counts: all as a standard node"
+    yield f"replies, streams  streams   of the {runs} that the machine can do"
     yield from (f"{in_all[name]:16}{in_streams[name]:9}   {says}" for name, says in rows.items())
-    yield f"{runs:16}{runs:9}   agree once these rules are exchanged"
 
 
 def find_broken(nodes, names, seed, runs):

@@ -40,13 +40,13 @@ handle_call({renew, Count}, _From, {Before, _}) ->
     _ = seq_trace:set_system_tracer(false),
     Actors = [spawn_actor() || _ <- lists:seq(1, Count)],
     {reply, Actors, {Actors, []}};
-handle_call({act, Actor, Act}, _From, State) ->
+handle_call({act, Actor, Act}, _From, {Actors, Events}) ->
     ets:insert(?TABLE, {Actor, Act}),
     true = erlang:resume_process(Actor),
     Reply = reply(erlang:monotonic_time(millisecond) + ?ACT_MS),
     %% Once it is suspended, its event has left it.
     true = erlang:suspend_process(Actor),
-    {reply, Reply, State};
+    {reply, Reply, {spawned(Reply) ++ Actors, Events}};
 handle_call(events, _From, {Actors, Events}) ->
     {reply, lists:reverse(Events), {Actors, []}}.
 
@@ -55,6 +55,13 @@ handle_cast(_, State) ->
 
 handle_info({seq_trace, _, _} = Event, {Actors, Events}) ->
     {noreply, {Actors, [Event | Events]}}.
+
+%% A process that an actor spawned is an actor from now on.
+spawned({spawned, Actor}) ->
+    true = erlang:suspend_process(Actor),
+    [Actor];
+spawned(_) ->
+    [].
 
 spawn_actor() ->
     Actor = spawn(fun actor/0),
@@ -91,6 +98,10 @@ do({token, Token}) -> seq_trace:set_token(Token);
 do(look) -> seq_trace:get_token();
 do(reset) -> seq_trace:reset_trace();
 do({tracer, Tracer}) -> seq_trace:set_system_tracer(Tracer);
+do(spawn) -> {spawned, spawn(fun actor/0)};
+do(request) ->
+    Request = spawn_request(fun actor/0),
+    receive {spawn_reply, Request, ok, Actor} -> {spawned, Actor} end;
 %% No act of a script: waits until so many messages lie in the queue.
 do({queued, Count}) ->
     case process_info(self(), message_queue_len) of

@@ -31,11 +31,11 @@ script(Lines) ->
 run([["seqtrace", _] | Lines], Parts) ->
     {Listed, [["acts"] | Acts]} = lists:splitwith(fun([Word | _]) -> Word =:= "process" end, Lines),
     Names = [Name || ["process", Name] <- Listed],
-    World = world(Names, Parts),
-    {Replies, _} = lists:mapfoldl(fun(Act, Queued) -> act(Act, Queued, World) end, #{}, Acts),
-    lists:append([Replies, streams(Names, World)]).
+    {Replies, World} = lists:mapfoldl(fun act/2, world(Names, Parts), Acts),
+    lists:append([Replies, streams(World)]).
 
-%% The processes by their names in a script, each with the node's part that keeps it; and the parts.
+%% The processes by their names in a script, each with the node's part that keeps it; their names; the
+%% parts; and how many messages lie in each queue.
 world(Names, Parts) ->
     Processes = [{Name, {Part, Pid}}
                  || {Number, Part} <- lists:enumerate(0, Parts),
@@ -43,29 +43,47 @@ world(Names, Parts) ->
                     {Name, Pid} <- lists:zip(Here, conformance_actors:renew(Part, length(Here)))],
     #{processes => maps:from_list(Processes),
       names => maps:from_list([{Pid, Name} || {Name, {_, Pid}} <- Processes]),
-      parts => Parts}.
+      parts => Parts,
+      queued => #{}}.
 
 node_number(Name) ->
-    list_to_integer(hd(string:lexemes(Name, "<."))).
+    hd(number(Name)).
 
-%% Has one act done, and returns its reply in words, and how many messages lie in each queue.
-act([Word, Actor | Rest], Queued, World) ->
-    Reply = do(Actor, call(Word, Rest, Actor, World), World),
-    {reply(Word, Reply, World), queued(Word, Rest, Actor, Reply, Queued, World)}.
+number(Name) ->
+    [list_to_integer(Part) || Part <- string:lexemes(Name, "<.>")].
+
+%% Has one act done, and returns its reply in words. An act that names a process which isn't there,
+%% or spawns one that is, isn't done.
+act([Word, Actor | Rest] = Act, World) ->
+    case is_possible(Act, World) of
+        true ->
+            Reply = do(Actor, call(Word, Rest, Actor, World), World),
+            {reply(Word, Reply, World), acted(Act, Reply, World)};
+        false ->
+            {"nobody", World}
+    end.
+
+is_possible([Word, Parent, Child], #{processes := Processes}) when Word =:= "spawn"; Word =:= "request" ->
+    is_map_key(Parent, Processes) andalso not is_map_key(Child, Processes);
+is_possible(Act, #{processes := Processes}) ->
+    lists:all(fun(Name) -> is_map_key(Name, Processes) end, [Word || "<" ++ _ = Word <- Act]).
 
 do(Actor, Call, #{processes := Processes}) ->
     {Part, Pid} = map_get(Actor, Processes),
     conformance_actors:act(Part, Pid, Call).
 
-%% A send has come to its end when its message lies in the queue.
-queued("send", [To, _], _, _, Queued, World) ->
+%% The world after an act. A send has come to its end when its message lies in the queue.
+acted(["send", _, To, _], _, #{queued := Queued} = World) ->
     More = maps:update_with(To, fun(Count) -> Count + 1 end, 1, Queued),
     _ = do(To, {queued, map_get(To, More)}, World),
-    More;
-queued("receive", _, Actor, {_, _}, Queued, _) ->
-    maps:update_with(Actor, fun(Count) -> Count - 1 end, Queued);
-queued(_, _, _, _, Queued, _) ->
-    Queued.
+    World#{queued := More};
+acted(["receive", Actor | _], {_, _}, #{queued := Queued} = World) ->
+    World#{queued := maps:update_with(Actor, fun(Count) -> Count - 1 end, Queued)};
+acted([_, Parent, Child], {spawned, Pid}, #{processes := Processes, names := Names} = World) ->
+    {Part, _} = map_get(Parent, Processes),
+    World#{processes := Processes#{Child => {Part, Pid}}, names := Names#{Pid => Child}};
+acted(_, _, World) ->
+    World.
 
 %% The call that a line of a script means.
 call("send", [To, Value], _, World) -> {send, pid(To, World), list_to_integer(Value)};
@@ -81,6 +99,8 @@ call("clear", [], _, _) -> {token, []};
 call("restore", Words, _, World) -> {token, token(Words, World)};
 call("look", [], _, _) -> look;
 call("reset", [], _, _) -> reset;
+call("spawn", [_], _, _) -> spawn;
+call("request", [_], _, _) -> request;
 call("tracer", ["true"], Actor, #{processes := Processes}) -> {tracer, element(1, map_get(Actor, Processes))};
 call("tracer", ["false"], _, _) -> {tracer, false}.
 
@@ -102,6 +122,7 @@ reply("look", Token, World) -> ["current ", token_words(Token, World)];
 reply("restore", ok, _) -> "ok";
 reply("reset", true, _) -> "done";
 reply("tracer", Before, _) -> ["was ", word(Before =/= false)];
+reply(_, {spawned, _}, _) -> "done";
 reply(Word, Other, _) -> io_lib:format("~ts ~0p", [Word, Other]).
 
 token_words([], _) ->
@@ -117,7 +138,8 @@ name(Pid, #{names := Names}) ->
     maps:get(Pid, Names, io_lib:format("~p", [Pid])).
 
 %% Each process's own events. An event of no process of the script is at the end as it came.
-streams(Names, #{parts := Parts} = World) ->
+streams(#{processes := Processes, parts := Parts} = World) ->
+    Names = lists:sort(fun(One, Other) -> number(One) =< number(Other) end, maps:keys(Processes)),
     Events = [{owner(Event, World), Event} || Part <- Parts, Event <- conformance_actors:events(Part)],
     lists:append([[["process ", Name] | [event(Event, World) || {Owner, Event} <- Events, Owner =:= Name]]
                   || Name <- Names])
@@ -130,9 +152,12 @@ event({seq_trace, Label, {print, Serial, From, [], Value}}, World) when is_integ
     event(Label, "print", Serial, From, "[]", Value, World);
 event({seq_trace, Label, {Kind, Serial, From, To, {From, Value}}}, World) ->
     event(Label, io_lib:format("~p", [Kind]), Serial, From, name(To, World), Value, World);
+event({seq_trace, Label, {Kind, Serial, From, To, Message}}, World)
+  when element(1, Message) =:= spawn_request; element(1, Message) =:= spawn_reply ->
+    event(Label, io_lib:format("~p", [Kind]), Serial, From, name(To, World), element(1, Message), World);
 event(Event, _) ->
     io_lib:format("~0p", [Event]).
 
 event(Label, Kind, {Prev, This}, From, To, Value, World) ->
-    io_lib:format("{seq_trace,~b,{~ts,{~b,~b},~ts,~ts,~b}}",
+    io_lib:format("{seq_trace,~b,{~ts,{~b,~b},~ts,~ts,~p}}",
                   [Label, Kind, Prev, This, name(From, World), To, Value]).

@@ -1,7 +1,8 @@
-"""The slow model of the machine with the replies of its calls, and rules of it that can be exchanged.
+"""The slow models of the machine and of a standard node, with the replies of their calls.
 
-`RULES` are those by which a standard node differs (docs/MACHINE.md has a row for each). `BROKEN` are
-rules of the machine broken on purpose: no node does these, so a comparison must find them.
+A standard node is the machine with all `RULES` exchanged (docs/MACHINE.md has a row for each); besides,
+its processes spawn and its counters wrap. `BROKEN` are rules broken on purpose: no node does these, so
+a comparison must find them.
 """
 
 import sys
@@ -29,12 +30,76 @@ class Rule:
     nodes: int = 1
 
 
+#: A counter's values, and those that a serial shows of it, which a node prints with a sign.
+COUNTER, SERIAL = 2**64, 2**60
+SPAWNS = ("spawn", "request")
+
+
+def signed(count):
+    return count if count < SERIAL // 2 else count - SERIAL
+
+
+class World(model.World):
+    """The machine's processes, with what only a node does: processes spawn, and counters wrap."""
+
+    def step(self, act, number=0):
+        """Does the act, and returns its reports and the number of the send whose message it took."""
+        if not self.is_possible(act):
+            return [], None
+        if act[0] in SPAWNS:
+            return self.spawn(model.parse_pid(act[1]), model.parse_pid(act[2]), act[0] == "spawn"), None
+        report, sent = super().step(act, number)
+        one = self.of[model.parse_pid(act[1])]
+        if act[0] == "restore":
+            one.token = replace(one.token, prev=one.token.prev % SERIAL, this=one.token.this % SERIAL)
+        return [report] if report else [], sent
+
+    def is_possible(self, act):
+        """Whether the processes that the act names are there, and one that it spawns isn't."""
+        there = [model.parse_pid(word) in self.of for word in act if word.startswith("<")]
+        return there == [True, False] if act[0] in SPAWNS else all(there)
+
+    def stamp(self, actor, kind, to, value):
+        one = self.of[actor]
+        if not one.token:
+            return None
+        one.clock = (one.clock + 1) % COUNTER
+        one.token = replace(one.token, prev=one.last, this=one.clock % SERIAL, sender=actor)
+        return self.report(one, kind, one.token, to, value)
+
+    def spawn(self, parent, child, waits):
+        """The request and the reply to it are sent and received. That for which `spawn` waits gives no token."""
+        one, new = self.of[parent], model.Process(traced=self.of[parent].traced)
+        self.of[child] = new
+        if not one.token:
+            return []
+        reports = [self.stamp(parent, "send", child, "spawn_request"),
+                   self.take(child, one.token, "spawn_request"),
+                   self.stamp(child, "send", parent, "spawn_reply")]
+        kept = one.token
+        reports.append(self.take(parent, new.token, "spawn_reply"))
+        if waits:
+            one.clock = 16 * new.token.this + 15
+            one.last, one.token = one.clock % SERIAL, kept
+        return [report for report in reports if report]
+
+    def take(self, pid, token, value):
+        """Receives such a message."""
+        one = self.of[pid]
+        one.token, one.last, one.clock = token, token.this, max(one.clock, token.this)
+        return self.report(one, "receive", token, pid, value)
+
+    @staticmethod
+    def report(one, kind, token, to, value):
+        return model.World.report(one, kind, replace(token, prev=signed(token.prev), this=signed(token.this)), to, value)
+
+
 @dataclass
 class Step:
     """One act that was done: the processes before it, the world after it, and which send's message it took."""
     act: list
     before: dict
-    world: model.World
+    world: World
     sent: list | None
 
     @property
@@ -142,6 +207,27 @@ def trace_everywhere(step):
         one.traced = step.new.traced
 
 
+def spawns_with_token(step):
+    return step.act[0] == "spawn" and step.old.token is not None
+
+
+def answer_as_message(step):
+    child = step.world.of[model.parse_pid(step.act[2])]
+    step.new.last, step.new.clock = child.token.this, max(step.old.clock + 1, child.token.this)
+
+
+def take_answer_token(step):
+    step.new.token = step.world.of[model.parse_pid(step.act[2])].token
+
+
+def hide_upper_bits(step):
+    step.new.clock %= SERIAL
+
+
+def compare_signed(step):
+    step.new.clock = max(step.old.clock, step.new.token.this, key=lambda count: signed(count % SERIAL))
+
+
 def take_newest(world, act):
     if act[0] != "receive":
         return act
@@ -177,6 +263,11 @@ BROKEN = {
                         nodes=2),
     "tracer-nodes": Rule("a tracer reaches the other node", is_act("tracer"), trace_everywhere,
                          nodes=2),
+    "answer-counts": Rule("the answer that spawn waits for moves the counts as a message does", spawns_with_token,
+                          answer_as_message),
+    "answer-token": Rule("the answer that spawn waits for gives its token", spawns_with_token, take_answer_token),
+    "counter-bits": Rule("a counter has the bits that a serial shows", spawns_with_token, hide_upper_bits),
+    "signed-clock": Rule("a receive compares counts with their signs", receives_token, compare_signed),
 }
 
 
@@ -191,27 +282,36 @@ class Outcome:
 
 def run(script, rules=(), broken=()):
     """The script's outcome with these rules exchanged, and the names of all rules that it used."""
-    world, streams = model.World(script.pids), {pid: [] for pid in script.pids}
+    world, streams = World(script.pids), {}
     replies, used = [], set()
     exchanged = [RULES[name] for name in RULES if name in rules] + [BROKEN[name] for name in broken]
-    for number in range(len(script.acts)):
-        step, report = do_act(world, script.acts, number, exchanged)
+    for number, act in enumerate(script.acts):
+        if not world.is_possible(act):
+            replies.append("nobody")
+            continue
+        step, reports = do_act(world, script.acts, number, exchanged)
         used |= {name for name, rule in RULES.items() if rule.applies(step)}
         replies.append(reply(step, exchanged))
-        if report:
-            streams[report.actor()].append(report)
-    return Outcome(replies, list(model.write(streams, []))[1:-1]), used
+        for report in reports:
+            streams.setdefault(report.actor(), []).append(report)
+    by_pid = {pid: streams.get(pid, []) for pid in sorted(world.of)}
+    return Outcome(replies, list(model.write(by_pid, []))[1:-1]), used
+
+
+def run_node(script, broken=()):
+    """The script's outcome on a standard node."""
+    return run(script, RULES, broken)[0]
 
 
 def do_act(world, acts, number, exchanged):
     before = {pid: replace(one, queue=list(one.queue)) for pid, one in world.of.items()}
     act = reduce(lambda done, rule: rule.act(world, done), exchanged, acts[number])
-    report, sent = world.step(act, number)
+    reports, sent = world.step(act, number)
     step = Step(acts[number], before, world, None if sent is None else acts[sent])
     for rule in exchanged:
         if rule.state and rule.applies(step):
             rule.state(step)
-    return step, report
+    return step, reports
 
 
 def reply(step, exchanged):
@@ -243,7 +343,7 @@ def component_words(token, component):
 def token_words(token):
     if not token:
         return "none"
-    return " ".join([str(token.label), *map(truth, token.flags), str(token.prev), str(token.this),
+    return " ".join([str(token.label), *map(truth, token.flags), str(signed(token.prev)), str(signed(token.this)),
                      model.show(token.sender)])
 
 

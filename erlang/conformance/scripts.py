@@ -1,8 +1,8 @@
 """Scripts: random ones, written ones, and scripts cut down to what they need."""
 
-from dataclasses import dataclass
+from dataclasses import dataclass, replace
 
-from machine import model
+from machine import SERIAL, SPAWNS, model
 
 MOST_PROCESSES, MOST_ACTS = 5, 40
 LABELS, VALUES, COUNTS = range(3), range(3), range(10)
@@ -11,16 +11,25 @@ TRUTHS = ["true"] * 5 + ["false"]
 #: How often each is drawn. `flags` is the three acts that set all flags of a token.
 WEIGHTS = {"send": 12, "receive": 12, "print": 6, "printat": 3, "flags": 8, "set": 3, "clear": 3, "look": 3,
            "restore": 2, "reset": 1, "tracer": 1}
+#: Of scripts that only a node can do: what it prints after the greatest count is the least one.
+NODE_WEIGHTS = WEIGHTS | {"receive": 24, "print": 9, "restore": 14, "spawn": 9, "request": 2}
+NODE_COUNTS = [0, 1, 2, 2**40, 2**51, 2**56, 2**57, 2**58, SERIAL // 2 - 2, SERIAL // 2 - 1, -SERIAL // 2, -2, -1]
+#: The first process that a script spawns.
+FIRST_CHILD = 50
 
 
 @dataclass(frozen=True)
 class Script:
-    """Processes by rising pid, and the acts, each a list of words as the text form spells them."""
+    """The processes that are there at the start, and the acts, each a list of words as the text form spells them.
+
+    Only a node can do what spawns or what has counts near the greatest.
+    """
     pids: list
     acts: list
+    node_only: bool = False
 
     def text(self):
-        header = f"seqtrace {2 if any(node for node, _ in self.pids) else 1}"
+        header = f"seqtrace {3 if self.node_only else 2 if self.nodes() > 1 else 1}"
         return [header, *(f"process {model.show(pid)}" for pid in self.pids), *model.write_acts(self.acts)]
 
     def nodes(self):
@@ -33,48 +42,55 @@ class Script:
         return (replied or acts) + outcome.streams
 
 
-def random_script(chosen, nodes):
+def random_script(chosen, nodes, node_only=False):
     """A script on one or more of so many nodes; the tracers are mostly on."""
     here = chosen.choice([[0], list(range(nodes))])
     pids = sorted((chosen.choice(here), 30 + k) for k in range(chosen.randint(1, MOST_PROCESSES)))
     acts = [["tracer", model.show(min(pid for pid in pids if pid[0] == node)), chosen.choice(TRUTHS)]
             for node in sorted({node for node, _ in pids})]
+    there = list(pids)
     for _ in range(chosen.randint(1, MOST_ACTS)):
-        acts += random_acts(chosen, pids)
-    return Script(pids, acts)
+        acts += random_acts(chosen, there, node_only)
+    return Script(pids, acts, node_only)
 
 
-def random_acts(chosen, pids):
-    """One act, or three that set all flags."""
+def random_acts(chosen, pids, node_only):
+    """One act, or three that set all flags. A process that is spawned is one of the pids from then on."""
     choice = chosen.choice
-    pid, other, value = model.show(choice(pids)), model.show(choice(pids)), choice(VALUES)
-    [word] = chosen.choices(list(WEIGHTS), WEIGHTS.values())
+    parent = choice(pids[:2] if node_only else pids)
+    pid, other, value = model.show(parent), model.show(choice(pids)), choice(VALUES)
+    weights, counts = (NODE_WEIGHTS, NODE_COUNTS) if node_only else (WEIGHTS, COUNTS)
+    [word] = chosen.choices(list(weights), weights.values())
     if word == "flags":
         return [["set", pid, flag, "true"] for flag in FLAGS]
+    if word in SPAWNS:
+        pids.append((parent[0], FIRST_CHILD + len(pids)))
+        return [[word, pid, model.show(pids[-1])]]
     rest = {
         "send": [other, value],
         "receive": choice([["first"], ["from", other], ["value", value], ["both", other, value]]),
         "print": [value],
         "printat": [choice(LABELS), value],
         "set": choice([["label", choice(LABELS)], [choice(FLAGS), choice(TRUTHS)]]),
-        "restore": [choice(LABELS), *(choice(TRUTHS) for _ in FLAGS), choice(COUNTS), choice(COUNTS), other],
+        "restore": [choice(LABELS), *(choice(TRUTHS) for _ in FLAGS), choice(counts), choice(counts), other],
         "tracer": [choice(TRUTHS)],
     }
     return [[word, pid, *map(str, rest.get(word, []))]]
 
 
-def written_script(text):
-    """A script of acts with semicolons between; a and b are processes of one node, c of another."""
+def written_script(text, node_only=False):
+    """A script of acts with semicolons between; a and b are processes of one node, c of another. a spawns d, e, .."""
     names = {"a": (0, 30), "b": (0, 31), "c": (1, 30)}
-    words = [[model.show(names[word]) if word in names else word for word in act.split()]
-             for act in text.split(";")]
-    return without_idle(Script(list(names.values()), words))
+    children = {letter: (0, FIRST_CHILD + number) for number, letter in enumerate("defghijklmnopqrstuvwxyz")}
+    words = [[model.show((names | children)[word]) if len(word) == 1 and word.isalpha() else word
+              for word in act.split()] for act in text.split(";")]
+    return without_idle(Script(list(names.values()), words, node_only))
 
 
 def without_idle(script):
     """The script without processes that no act names."""
     named = {word for act in script.acts for word in act}
-    return Script([pid for pid in script.pids if model.show(pid) in named] or script.pids[:1], script.acts)
+    return replace(script, pids=[pid for pid in script.pids if model.show(pid) in named] or script.pids[:1])
 
 
 def cut_down(script, fails):
@@ -84,10 +100,10 @@ def cut_down(script, fails):
         start, before = 0, len(acts)
         while start < len(acts):
             shorter = acts[:start] + acts[start + size:]
-            if fails(Script(script.pids, shorter)):
+            if fails(replace(script, acts=shorter)):
                 acts = shorter
             else:
                 start += size
         if size > 1 or len(acts) == before:
             size //= 2
-    return without_idle(Script(script.pids, acts))
+    return without_idle(replace(script, acts=acts))

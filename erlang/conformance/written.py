@@ -1,6 +1,6 @@
-"""Written scripts: one for each rule by which a node differs, and for what is the same on both.
+"""Written scripts: one for each rule by which a node differs, for what is the same on both, and for what only a node does.
 
-Acts have semicolons between; a and b are processes of one node, c is one of another.
+Acts have semicolons between; a and b are processes of one node, c is one of another, and d to w are spawned.
 """
 
 #: The script, and the rules by which it differs. A component set on no token always replies
@@ -34,4 +34,22 @@ WRITTEN = {
     "reset-tracer": ("tracer a true; reset a; tracer a true", []),
     # Each node has a tracer of its own.
     "tracer": ("tracer a true; tracer c true; tracer b false", []),
+}
+
+FLAGS = "tracer a true; set a send true; set a receive true; set a print true"
+#: After sixteen spawns the counters of a process have had more than their bits. The count after the greatest is the
+#: least, a smaller one of a message leaves the clock, and a clock keeps the bits that no serial shows.
+NODE_ONLY = {
+    "twenty spawns": FLAGS + "".join(f"; spawn a {child}; print a 1; send a {child} 1; receive {child} first"
+                                     for child in "defghijklmnopqrstuvw"),
+    "a chain of spawns": FLAGS + "".join(f"; spawn {parent} {child}; print {parent} 1; print {child} 2"
+                                         for parent, child in zip("adefghijklmnopqrstuv", "defghijklmnopqrstuvw")),
+    "greatest count": f"tracer a true; restore a 1 true true true 0 {2**59 - 3} a; print a 1; print a 2; print a 3;"
+                      "look a; send a b 1; receive b first; look b; print b 1",
+    "smaller count": f"tracer a true; restore a 1 true true true 0 {-2**59} a; restore b 1 true true true 0 5 b;"
+                     "send b a 1; receive a first; print a 1",
+    "hidden bits": f"tracer a true; restore a 1 true true true 0 {2**57} a; restore b 1 true true true 0 99 b;"
+                   "spawn a d; send b a 1; receive a first; print a 1; look a",
+    "no token": FLAGS + "; clear a; spawn a d; look d; request a e; look e; set a print true; print a 1",
+    "request": FLAGS + "; request a d; look a; look d; print a 1; print d 1",
 }
