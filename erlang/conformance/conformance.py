@@ -2,10 +2,10 @@
 """How near the machine is to a real node (docs/MACHINE.md, "Where a standard node differs").
 
 Random scripts run on one or two nodes, each act to its end before the next begins. What came of a
-script, its replies and its streams, must be what the slow model of a standard node makes of it. One
-that isn't is printed, cut down to the acts that it needs to fail. Of scripts that the machine can do
-too, `seqaudit replay` must have the slow model's streams, and those rules are counted by which a
-standard node differs from the machine.
+script, its replies and its streams, must be what the slow model of a standard node makes of it. A
+script that fails is printed, cut down to the acts that it needs to fail. Of scripts that the
+machine can do too, `seqaudit replay` must have the slow model's streams, and the rules are counted
+by which a standard node differs from the machine.
 """
 
 import argparse
@@ -42,16 +42,17 @@ class Failure(Exception):
 
 def erl(module):
     """Runs the module's main on a node that only this machine reaches."""
-    return ["env", "ERL_CRASH_DUMP_SECONDS=0", "erl", "-noshell", "-kernel", "inet_dist_use_interface",
-            "{127,0,0,1}", "logger", LOGGER, "-pa", str(HOME / "ebin"), "-s", module, "main"]
+    return ["env", "ERL_CRASH_DUMP_SECONDS=0", "erl", "-noshell", "-kernel",
+            "inet_dist_use_interface", "{127,0,0,1}", "logger", LOGGER, "-pa", str(HOME / "ebin"),
+            "-s", module, "main"]
 
 
 class Nodes:
     """The nodes, which run one script after the other."""
 
     def __init__(self):
-        self.erl = subprocess.Popen(erl("conformance_scripts"), stdin=subprocess.PIPE, stdout=subprocess.PIPE,
-                                    text=True)
+        self.erl = subprocess.Popen(erl("conformance_scripts"), stdin=subprocess.PIPE,
+                                    stdout=subprocess.PIPE, text=True)
         self.title, self.count = self.line(), int(self.line())
 
     def __enter__(self):
@@ -82,9 +83,9 @@ class Comparison:
         self.nodes, self.seqaudit, self.broken = nodes, seqaudit, broken
 
     def check(self, script):
-        """The rules by which the script's outcome differs from the machine's, and those by which its streams do.
+        """The rules by which the outcome and the streams alone differ from the machine's, or fails.
 
-        There are none of a script that the machine can't do. Or fails.
+        There are none of a script that the machine can't do.
         """
         if self.seqaudit and not script.node_only and not self.is_replayed(script):
             least = cut_down(script, lambda one: not self.is_replayed(one))
@@ -96,12 +97,13 @@ class Comparison:
             raise self.failure(least, "node", self.nodes.run(least), self.expected(least))
         if script.node_only:
             return [], []
-        return self.rules_of(script, found), self.rules_of(script, found, lambda outcome: outcome.streams)
+        parts = (lambda outcome: outcome, lambda outcome: outcome.streams)
+        return tuple(self.rules_of(script, found, part) for part in parts)
 
     def expected(self, script):
         return machine.run_node(script, self.broken)
 
-    def rules_of(self, script, found, part=lambda outcome: outcome):
+    def rules_of(self, script, found, part):
         """A least set of rules with which this part of the outcome is the machine's."""
         _, rules = machine.run(script)
 
@@ -134,22 +136,26 @@ class Comparison:
     def failure(script, name, found, slow):
         """Both outcomes of the script, with the lines in which they differ marked."""
         sides = [script.outcome_lines(outcome) for outcome in (found, slow)]
-        shown = difflib.unified_diff(*sides, name, "slow model", n=sum(map(len, sides)), lineterm="")
+        shown = difflib.unified_diff(*sides, name, "slow model", n=sum(map(len, sides)),
+                                     lineterm="")
         lines = [f"\n    {line}" for line in shown if not line.startswith("@@")]
         acts = len(script.acts)
-        return Failure(f"the slow model differs from {name}, cut down to {acts} acts:{''.join(lines)}", acts)
+        return Failure(f"the slow model differs from {name}, cut down to {acts} acts:"
+                       + "".join(lines), acts)
 
 
 def check_cases():
     """The deeds of a node that the machine has no acts for."""
-    if subprocess.run(erl("conformance_cases"), stdin=subprocess.DEVNULL, timeout=CASES_SECONDS, check=False).returncode:
+    done = subprocess.run(erl("conformance_cases"), stdin=subprocess.DEVNULL, timeout=CASES_SECONDS,
+                          check=False)
+    if done.returncode:
         raise Failure("a case doesn't hold")
 
 
 def check_written(comparison):
-    """Each written script must differ from the machine by its rules and no others. Returns how many ran."""
+    """Each written script must differ from the machine by its rules alone. Returns how many ran."""
     scripts = [(name, written_script(text), rules) for name, (text, rules) in WRITTEN.items()]
-    scripts += [(name, written_script(text, node_only=True), []) for name, text in NODE_ONLY.items()]
+    scripts += [(name, written_script(text, True), []) for name, text in NODE_ONLY.items()]
     possible = [one for one in scripts if one[1].nodes() <= comparison.nodes.count]
     for name, script, expected in possible:
         rules, _ = comparison.check(script)
@@ -159,17 +165,16 @@ def check_written(comparison):
 
 
 def check_random(comparison, seed, runs, verbose=False):
-    """How many scripts agree with the machine and how many need which rule: in all, and in their streams alone.
+    """How many scripts agree with the machine, and need which rule: in all, and in their streams.
 
     Each run has a script that the machine can do, and one that only a node can.
     """
     in_all, in_streams = Counter(), Counter()
     for number in range(runs):
-        script, wider = (random_script(random.Random(f"{seed} {number}{sort}"), comparison.nodes.count, bool(sort))
-                         for sort in ("", " node"))
+        run, nodes = f"{seed} {number}", comparison.nodes.count
         try:
-            rules, of_streams = comparison.check(script)
-            comparison.check(wider)
+            rules, of_streams = comparison.check(random_script(random.Random(run), nodes))
+            comparison.check(random_script(random.Random(f"{run} node"), nodes, node_only=True))
         except Failure as failure:
             raise Failure(f"run {number}: {failure}", failure.acts) from None
         in_all.update(rules or ["agree"])
@@ -180,15 +185,17 @@ def check_random(comparison, seed, runs, verbose=False):
 
 
 def report(in_all, in_streams, runs):
-    """What both sorts of scripts come to, and of those of the machine which rules they need; a run may need several."""
-    rows = {"agree": "agree with the machine", **{name: f"{rule.says} ({name})" for name, rule in RULES.items()}}
-    yield f"{runs} scripts of the machine's acts and {runs} with spawns and large counts: all as a standard node"
-    yield f"replies, streams  streams   of the {runs} that the machine can do"
-    yield from (f"{in_all[name]:16}{in_streams[name]:9}   {says}" for name, says in rows.items())
+    """What the scripts come to: of those of the machine's acts one may need several rules."""
+    rows = {name: f"{rule.says} ({name})" for name, rule in RULES.items()}
+    yield f"{runs} scripts of the machine's acts, and {runs} with spawns and counts that wrap:"
+    yield "each has the streams and replies of a standard node's machine"
+    yield f"replies, streams  streams   of the {runs} of the machine's acts"
+    for name, says in [("agree", "agree with the machine"), *rows.items()]:
+        yield f"{in_all[name]:16}{in_streams[name]:9}   {says}"
 
 
 def find_broken(nodes, names, seed, runs):
-    """Each rule that is broken on purpose must be found on the nodes, and the script that finds it be short."""
+    """Each rule that is broken on purpose must be found on the nodes, by a script that is short."""
     for name in names:
         what = f"{BROKEN[name].says} ({name})"
         if BROKEN[name].nodes > nodes.count:
@@ -206,12 +213,13 @@ def find_broken(nodes, names, seed, runs):
 
 
 def find_program():
-    """The program that SEQAUDIT names, or the one that is built in this repository or on the path."""
+    """The program that SEQAUDIT names, or the one that is built here or on the path."""
     if said := os.environ.get("SEQAUDIT"):
         if not Path(said).is_file():
             raise Failure(f"SEQAUDIT is {said}, and there is no such file")
         return said
-    built = [HOME.parent.parent / place for place in ("bin/seqaudit", "crates/seqaudit/out/seqaudit")]
+    places = ("bin/seqaudit", "crates/seqaudit/out/seqaudit")
+    built = [HOME.parent.parent / place for place in places]
     return next((str(file) for file in built if file.is_file()), shutil.which("seqaudit"))
 
 
@@ -226,19 +234,23 @@ def compare(nodes, seed, runs, verbose):
 
 
 def main():
-    options = argparse.ArgumentParser(description=__doc__, formatter_class=argparse.RawDescriptionHelpFormatter)
+    options = argparse.ArgumentParser(description=__doc__,
+                                      formatter_class=argparse.RawDescriptionHelpFormatter)
     options.add_argument("--seed", type=int, default=1, help="of the random scripts")
     options.add_argument("--runs", type=int, default=1000, help="how many random scripts")
     options.add_argument("--broken", choices=[*BROKEN, "all"], metavar="RULE",
-                         help="break this rule of the slow model on purpose, or all of them in turn; it must be found: "
-                              + ", ".join(BROKEN))
-    options.add_argument("--verbose", action="store_true", help="name the rules that each run needs")
+                         help="break this rule of the slow model on purpose, or all of them in "
+                              "turn; it must be found: " + ", ".join(BROKEN))
+    options.add_argument("--verbose", action="store_true",
+                         help="name the rules that each run needs")
     given = options.parse_args()
     try:
         with Nodes() as nodes:
-            print(f"{nodes.title}, {nodes.count} node{'s' if nodes.count > 1 else ''}, seed {given.seed}")
+            plural = "s" if nodes.count > 1 else ""
+            print(f"{nodes.title}, {nodes.count} node{plural}, seed {given.seed}")
             if given.broken:
-                find_broken(nodes, BROKEN if given.broken == "all" else [given.broken], given.seed, given.runs)
+                names = BROKEN if given.broken == "all" else [given.broken]
+                find_broken(nodes, names, given.seed, given.runs)
             else:
                 compare(nodes, given.seed, given.runs, given.verbose)
     except Failure as failure:

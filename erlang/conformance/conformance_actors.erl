@@ -1,5 +1,5 @@
-%% One node's part of a run: it has the node's actors, the processes of a script, do their acts, and is
-%% the node's system tracer.
+%% One node's part of a run: it has the node's actors, the processes of a script, do their acts, and
+%% is the node's system tracer.
 %%
 %% A message would move the token of the process that gets it. So an actor finds its act in a table
 %% and puts the reply there, and it is suspended until its turn comes.

@@ -15,8 +15,10 @@
 
 main() ->
     Nodes = conformance_nodes:start(),
-    Cases = here() ++ [{Name, fun() -> Case(There) end} || There <- tl(Nodes), {Name, Case} <- there()],
-    [io:format("there is no second node: ~b cases are skipped~n", [length(there())]) || tl(Nodes) =:= []],
+    Cases = here() ++ [{Name, fun() -> Case(There) end}
+                       || There <- tl(Nodes), {Name, Case} <- there()],
+    [io:format("there is no second node: ~b cases are skipped~n", [length(there())])
+     || tl(Nodes) =:= []],
     Failed = [Name || {Name, Case} <- Cases, not holds(Name, Case)],
     io:format("~b of ~b cases hold~n", [length(Cases) - length(Failed), length(Cases)]),
     halt(length(Failed)).
@@ -141,7 +143,10 @@ timers_leave_the_token() ->
 %% So does a monitor's message.
 monitors_leave_the_token() ->
     Ended = ended(),
-    unmoved(fun() -> erlang:monitor(process, Ended), receive {'DOWN', _, _, Ended, _} -> ok end end).
+    unmoved(fun() ->
+                erlang:monitor(process, Ended),
+                receive {'DOWN', _, _, Ended, _} -> ok end
+            end).
 
 %% The EXIT message of exit/2 has no token and is no event; but it takes the receiver's away.
 exit_takes_the_token() ->
@@ -211,19 +216,21 @@ spawn_there_is_two_sends(There) ->
      {'receive', {1, 2}, Child, P, Answer}, {print, {2, 3}, P, [], parent}] = Events,
     {spawn_request, spawn_reply} = {element(1, Request), element(1, Answer)}.
 
-%% A monitor's message from another node takes the token away up to OTP 25, and leaves it from OTP 27 on. (OTP 26 wasn't
-%% measured.)
+%% A monitor's message from another node takes the token away up to OTP 25, and leaves it from OTP
+%% 27 on. (OTP 26 wasn't measured.)
 monitors_there_may_take_the_token(There) ->
     Other = spawn(There, erlang, self, []),
-    by_release(fun() -> erlang:monitor(process, Other), receive {'DOWN', _, _, Other, _} -> ok end end).
+    by_release(fun() ->
+                   erlang:monitor(process, Other),
+                   receive {'DOWN', _, _, Other, _} -> ok end
+               end).
 
 %% The answer of erpc is such a message.
 erpc_may_take_the_token(There) ->
     by_release(fun() -> There = erpc:call(There, erlang, node, []) end).
 
 by_release(Fun) ->
-    {_, {Before, After}, _} =
-        traced(0, fun() -> Before = seq_trace:get_token(), Fun(), {Before, seq_trace:get_token()} end),
+    {_, {Before, After}, _} = around(Fun),
     {7, 1, _, _, _} = Before,
     case release() of
         Early when Early =< 25 -> [] = After;
@@ -235,15 +242,18 @@ release() -> list_to_integer(erlang:system_info(otp_release)).
 
 %% So of several calls by rpc or erpc only the first one is traced up to OTP 25.
 only_the_first_rpc_is_traced(There) ->
-    {P, _, Events} = traced(2, fun() -> [There = rpc:call(There, erlang, node, []) || _ <- [1, 2]] end),
-    Requests = [Request || {send, _, From, To, Request} <- Events, From =:= P, To =:= There, is_tuple(Request)],
+    Call = fun() -> There = rpc:call(There, erlang, node, []) end,
+    {P, _, Events} = traced(2, fun() -> Call(), Call() end),
+    Requests = [Request || {send, _, From, To, Request} <- Events,
+                           From =:= P, To =:= There, is_tuple(Request)],
     case {release(), length(Requests)} of
         {Early, Count} when Early =< 25 -> 1 = Count;
         {Late, Count} when Late >= 27 -> 2 = Count;
         _ -> not_measured
     end.
 
-%% A linked process of another node that ends with a token gives it with its EXIT message, which is a receive here.
+%% A linked process of another node that ends with a token gives it with its EXIT message, which is
+%% a receive here.
 linked_end_there_gives_its_token(There) ->
     {P, {Child, {7, 1, _, Child, _}}, Events} =
         traced(0, fun() ->
@@ -282,8 +292,11 @@ dead_tracer_is_silent() ->
 
 %% The function brings no event, and leaves the token.
 unmoved(Fun) ->
-    {_, {Token, Token}, []} =
-        traced(0, fun() -> Before = seq_trace:get_token(), Fun(), {Before, seq_trace:get_token()} end).
+    {_, {Token, Token}, []} = around(Fun).
+
+%% The token before the function and after it.
+around(Fun) ->
+    traced(0, fun() -> Before = seq_trace:get_token(), Fun(), {Before, seq_trace:get_token()} end).
 
 %% The function brings an EXIT message, which is no event and takes the token away.
 taken(Fun) ->
@@ -297,8 +310,8 @@ ended() ->
     {Pid, Monitor} = spawn_monitor(fun() -> ok end),
     receive {'DOWN', Monitor, process, Pid, _} -> Pid end.
 
-%% The process that ran the function with a token, what the function returned, and the events: all of
-%% this process, and at least so many of all processes.
+%% The process that ran the function with a token, what the function returned, and the events: all
+%% of this process, and at least so many of all processes.
 traced(Count, Fun) ->
     Tracer = spawn(fun() -> tracer([]) end),
     true = seq_trace:reset_trace(),
@@ -351,5 +364,6 @@ events(Tracer, Count) ->
 
 %% Events of several processes by rising serial, sends first.
 in_order(Events) ->
-    [Event || {_, Event} <- lists:sort([{{element(2, Event), element(1, Event) =:= 'receive'}, Event}
-                                        || Event <- Events])].
+    Sorted = lists:sort([{{element(2, Event), element(1, Event) =:= 'receive'}, Event}
+                         || Event <- Events]),
+    [Event || {_, Event} <- Sorted].

@@ -27,9 +27,10 @@ name(Word, Host) ->
 
 %% Says in words what ran.
 title() ->
-    File = filename:join([code:root_dir(), "releases", erlang:system_info(otp_release), "OTP_VERSION"]),
+    Release = erlang:system_info(otp_release),
+    File = filename:join([code:root_dir(), "releases", Release, "OTP_VERSION"]),
     Version = case file:read_file(File) of
                   {ok, Text} -> string:trim(Text);
-                  {error, _} -> erlang:system_info(otp_release)
+                  {error, _} -> Release
               end,
     io_lib:format("OTP ~ts (erts ~ts)", [Version, erlang:system_info(version)]).

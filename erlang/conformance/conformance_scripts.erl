@@ -34,8 +34,8 @@ run([["seqtrace", _] | Lines], Parts) ->
     {Replies, World} = lists:mapfoldl(fun act/2, world(Names, Parts), Acts),
     lists:append([Replies, streams(World)]).
 
-%% The processes by their names in a script, each with the node's part that keeps it; their names; the
-%% parts; and how many messages lie in each queue.
+%% The processes by their names in a script, each with the node's part that keeps it; their names;
+%% the parts; and how many messages lie in each queue.
 world(Names, Parts) ->
     Processes = [{Name, {Part, Pid}}
                  || {Number, Part} <- lists:enumerate(0, Parts),
@@ -63,7 +63,8 @@ act([Word, Actor | Rest] = Act, World) ->
             {"nobody", World}
     end.
 
-is_possible([Word, Parent, Child], #{processes := Processes}) when Word =:= "spawn"; Word =:= "request" ->
+is_possible([Word, Parent, Child], #{processes := Processes})
+  when Word =:= "spawn"; Word =:= "request" ->
     is_map_key(Parent, Processes) andalso not is_map_key(Child, Processes);
 is_possible(Act, #{processes := Processes}) ->
     lists:all(fun(Name) -> is_map_key(Name, Processes) end, [Word || "<" ++ _ = Word <- Act]).
@@ -90,18 +91,21 @@ call("send", [To, Value], _, World) -> {send, pid(To, World), list_to_integer(Va
 call("receive", ["first"], _, _) -> {'receive', any, any};
 call("receive", ["from", From], _, World) -> {'receive', pid(From, World), any};
 call("receive", ["value", Value], _, _) -> {'receive', any, list_to_integer(Value)};
-call("receive", ["both", From, Value], _, World) -> {'receive', pid(From, World), list_to_integer(Value)};
+call("receive", ["both", From, Value], _, World) ->
+    {'receive', pid(From, World), list_to_integer(Value)};
 call("print", [Value], _, _) -> {print, list_to_integer(Value)};
 call("printat", [Label, Value], _, _) -> {print, list_to_integer(Label), list_to_integer(Value)};
 call("set", ["label", Label], _, _) -> {set, label, list_to_integer(Label)};
-call("set", [Flag, Value], _, _) -> {set, list_to_existing_atom(Flag), list_to_existing_atom(Value)};
+call("set", [Flag, Value], _, _) ->
+    {set, list_to_existing_atom(Flag), list_to_existing_atom(Value)};
 call("clear", [], _, _) -> {token, []};
 call("restore", Words, _, World) -> {token, token(Words, World)};
 call("look", [], _, _) -> look;
 call("reset", [], _, _) -> reset;
 call("spawn", [_], _, _) -> spawn;
 call("request", [_], _, _) -> request;
-call("tracer", ["true"], Actor, #{processes := Processes}) -> {tracer, element(1, map_get(Actor, Processes))};
+call("tracer", ["true"], Actor, #{processes := Processes}) ->
+    {tracer, element(1, map_get(Actor, Processes))};
 call("tracer", ["false"], _, _) -> {tracer, false}.
 
 pid(Name, #{processes := Processes}) ->
@@ -140,10 +144,14 @@ name(Pid, #{names := Names}) ->
 %% Each process's own events. An event of no process of the script is at the end as it came.
 streams(#{processes := Processes, parts := Parts} = World) ->
     Names = lists:sort(fun(One, Other) -> number(One) =< number(Other) end, maps:keys(Processes)),
-    Events = [{owner(Event, World), Event} || Part <- Parts, Event <- conformance_actors:events(Part)],
-    lists:append([[["process ", Name] | [event(Event, World) || {Owner, Event} <- Events, Owner =:= Name]]
-                  || Name <- Names])
-        ++ [io_lib:format("~0p", [Event]) || {Owner, Event} <- Events, not lists:member(Owner, Names)].
+    Events = [{owner(Event, World), Event}
+              || Part <- Parts, Event <- conformance_actors:events(Part)],
+    Streams = [[["process ", Name] | [event(Event, World)
+                                      || {Owner, Event} <- Events, Owner =:= Name]]
+               || Name <- Names],
+    Others = [io_lib:format("~0p", [Event])
+              || {Owner, Event} <- Events, not lists:member(Owner, Names)],
+    lists:append(Streams) ++ Others.
 
 owner({seq_trace, _, {'receive', _, _, To, _}}, World) -> name(To, World);
 owner({seq_trace, _, {_, _, From, _, _}}, World) -> name(From, World).
@@ -154,7 +162,8 @@ event({seq_trace, Label, {Kind, Serial, From, To, {From, Value}}}, World) ->
     event(Label, io_lib:format("~p", [Kind]), Serial, From, name(To, World), Value, World);
 event({seq_trace, Label, {Kind, Serial, From, To, Message}}, World)
   when element(1, Message) =:= spawn_request; element(1, Message) =:= spawn_reply ->
-    event(Label, io_lib:format("~p", [Kind]), Serial, From, name(To, World), element(1, Message), World);
+    event(Label, io_lib:format("~p", [Kind]), Serial, From, name(To, World), element(1, Message),
+          World);
 event(Event, _) ->
     io_lib:format("~0p", [Event]).
 

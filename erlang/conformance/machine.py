@@ -1,8 +1,8 @@
 """The slow models of the machine and of a standard node, with the replies of their calls.
 
-A standard node is the machine with all `RULES` exchanged (docs/MACHINE.md has a row for each); besides,
-its processes spawn and its counters wrap. `BROKEN` are rules broken on purpose: no node does these, so
-a comparison must find them.
+A standard node is the machine with all `RULES` exchanged (docs/MACHINE.md has a row for each);
+besides, its processes spawn and its counters wrap. `BROKEN` are rules broken on purpose: no node
+does these, so a comparison must find them.
 """
 
 import sys
@@ -19,7 +19,7 @@ import slow_seqaudit as model  # noqa: E402 (it lies in the folder just named)
 class Rule:
     """The rules that replace those of the machine.
 
-    `act` gives the act that is done in place of one. Where the rule applies to an act that was done,
+    `act` gives the act that is done in place of one. If the rule applies to an act that was done,
     `state` mends the world after it, and `reply` is its reply. It shows on so many nodes.
     """
     says: str
@@ -39,19 +39,24 @@ def signed(count):
     return count if count < SERIAL // 2 else count - SERIAL
 
 
+def with_counts(token, change):
+    return replace(token, prev=change(token.prev), this=change(token.this))
+
+
 class World(model.World):
     """The machine's processes, with what only a node does: processes spawn, and counters wrap."""
 
     def step(self, act, number=0):
-        """Does the act, and returns its reports and the number of the send whose message it took."""
+        """Does the act, and returns its reports and the number of the send that it took."""
         if not self.is_possible(act):
             return [], None
         if act[0] in SPAWNS:
-            return self.spawn(model.parse_pid(act[1]), model.parse_pid(act[2]), act[0] == "spawn"), None
+            parent, child = map(model.parse_pid, act[1:])
+            return self.spawn(parent, child, act[0] == "spawn"), None
         report, sent = super().step(act, number)
         one = self.of[model.parse_pid(act[1])]
         if act[0] == "restore":
-            one.token = replace(one.token, prev=one.token.prev % SERIAL, this=one.token.this % SERIAL)
+            one.token = with_counts(one.token, lambda count: count % SERIAL)
         return [report] if report else [], sent
 
     def is_possible(self, act):
@@ -68,7 +73,10 @@ class World(model.World):
         return self.report(one, kind, one.token, to, value)
 
     def spawn(self, parent, child, waits):
-        """The request and the reply to it are sent and received. That for which `spawn` waits gives no token."""
+        """The request and the reply to it, each sent and received.
+
+        The reply that `spawn` waits for gives no token.
+        """
         one, new = self.of[parent], model.Process(traced=self.of[parent].traced)
         self.of[child] = new
         if not one.token:
@@ -91,12 +99,12 @@ class World(model.World):
 
     @staticmethod
     def report(one, kind, token, to, value):
-        return model.World.report(one, kind, replace(token, prev=signed(token.prev), this=signed(token.this)), to, value)
+        return model.World.report(one, kind, with_counts(token, signed), to, value)
 
 
 @dataclass
 class Step:
-    """One act that was done: the processes before it, the world after it, and which send's message it took."""
+    """One act that was done: the processes before it, the world after it, and the send it took."""
     act: list
     before: dict
     world: World
@@ -147,12 +155,15 @@ def keep_sender(step):
 
 
 RULES = {
-    "set-last": Rule("a component set on no token leaves last as it was", sets_without_token, keep_last),
+    "set-last": Rule("a component set on no token leaves last as it was", sets_without_token,
+                     keep_last),
     "set-serial": Rule("a fresh token's serial is {last,0}", sets_without_token, begin_with_last),
     "set-reply": Rule("a component set on no token replies the default", sets_without_token,
                       reply=default_component),
-    "restore-counts": Rule("a restored token sets clock and last from its serial", restores, take_counts),
-    "restore-from": Rule("a restored token has the current one's from, or its process", restores, keep_sender),
+    "restore-counts": Rule("a restored token sets clock and last from its serial", restores,
+                           take_counts),
+    "restore-from": Rule("a restored token has the current one's from, or its process", restores,
+                         keep_sender),
     "restore-reply": Rule("a restored token replies ok", restores, reply=lambda step: "ok"),
 }
 
@@ -165,6 +176,10 @@ def receives_token(step):
 
 def receives_plainly(step):
     return step.act[0] == "receive" and step.sent is not None and step.new.token is None
+
+
+def prints_quietly(step):
+    return step.act[0] == "print" and step.old.token and not step.old.token.flags[2]
 
 
 def keep_clock(step):
@@ -225,14 +240,16 @@ def hide_upper_bits(step):
 
 
 def compare_signed(step):
-    step.new.clock = max(step.old.clock, step.new.token.this, key=lambda count: signed(count % SERIAL))
+    counts = (step.old.clock, step.new.token.this)
+    step.new.clock = max(counts, key=lambda count: signed(count % SERIAL))
 
 
 def take_newest(world, act):
     if act[0] != "receive":
         return act
     queue = world.of[model.parse_pid(act[1])].queue
-    places = [k for k, (sender, value, _, _) in enumerate(queue) if model.is_wanted(act[2:], k, sender, value)]
+    places = [k for k, (sender, value, _, _) in enumerate(queue)
+              if model.is_wanted(act[2:], k, sender, value)]
     return [*act[:2], "place", str(places[-1])] if places else act
 
 
@@ -247,27 +264,31 @@ def is_act(word):
 BROKEN = {
     "receive-last": Rule("a receive leaves last", receives_token, keep_last),
     "receive-clock": Rule("a receive leaves the clock", receives_token, keep_clock),
-    "plain-receive": Rule("a message without a token leaves the token", receives_plainly, keep_token),
+    "plain-receive": Rule("a message without a token leaves the token", receives_plainly,
+                          keep_token),
     "newest": Rule("a receive takes the newest message that matches", act=take_newest),
     "no-receive": Rule("a receive that matches nothing takes the token away",
                        lambda step: step.act[0] == "receive" and step.sent is None, drop_token),
-    "quiet-print": Rule("a print without its flag stamps nothing",
-                        lambda step: step.act[0] == "print" and step.old.token and not step.old.token.flags[2],
-                        take_back),
+    "quiet-print": Rule("a print without its flag stamps nothing", prints_quietly, take_back),
     "print-label": Rule("a print at a label looks at no label", act=print_at_any_label),
-    "clear": Rule("a token that is cleared takes the counts with it", is_act("clear"), forget_counts),
+    "clear": Rule("a token that is cleared takes the counts with it", is_act("clear"),
+                  forget_counts),
     "look": Rule("a look takes the token away", is_act("look"), drop_token),
     "reset-tracer": Rule("a reset takes the tracer off", is_act("reset"), turn_off),
-    "reset-queues": Rule("a reset leaves the tokens of queued messages", is_act("reset"), keep_queues),
+    "reset-queues": Rule("a reset leaves the tokens of queued messages", is_act("reset"),
+                         keep_queues),
     "reset-nodes": Rule("a reset reaches the other node", is_act("reset"), forget_everywhere,
                         nodes=2),
     "tracer-nodes": Rule("a tracer reaches the other node", is_act("tracer"), trace_everywhere,
                          nodes=2),
-    "answer-counts": Rule("the answer that spawn waits for moves the counts as a message does", spawns_with_token,
-                          answer_as_message),
-    "answer-token": Rule("the answer that spawn waits for gives its token", spawns_with_token, take_answer_token),
-    "counter-bits": Rule("a counter has the bits that a serial shows", spawns_with_token, hide_upper_bits),
-    "signed-clock": Rule("a receive compares counts with their signs", receives_token, compare_signed),
+    "answer-counts": Rule("the answer that spawn waits for moves the counts as a message does",
+                          spawns_with_token, answer_as_message),
+    "answer-token": Rule("the answer that spawn waits for gives its token", spawns_with_token,
+                         take_answer_token),
+    "counter-bits": Rule("a counter has the bits that a serial shows", spawns_with_token,
+                         hide_upper_bits),
+    "signed-clock": Rule("a receive compares counts with their signs", receives_token,
+                         compare_signed),
 }
 
 
@@ -343,8 +364,8 @@ def component_words(token, component):
 def token_words(token):
     if not token:
         return "none"
-    return " ".join([str(token.label), *map(truth, token.flags), str(signed(token.prev)), str(signed(token.this)),
-                     model.show(token.sender)])
+    return " ".join([str(token.label), *map(truth, token.flags), str(signed(token.prev)),
+                     str(signed(token.this)), model.show(token.sender)])
 
 
 def truth(value):

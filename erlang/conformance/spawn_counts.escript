@@ -6,8 +6,8 @@
 %% be {T, T + 1}. It is {16 T + 15, 16 T + 16}: 16 T + 15 is how the emulator holds the small
 %% integer T, its value with a tag of four bits, so a counter seems to be set from a term that
 %% wasn't turned into a number. So each spawn makes the counter 16 times as great. A process that
-%% spawns and prints in turn gives its 14th and 15th print the same serial on OTP 25.2.3: the counter
-%% has left its 60 bits.
+%% spawns and prints in turn gives its 14th and 15th print the same serial on OTP 25.2.3: the
+%% counter has left its 60 bits.
 %%
 %% `escript spawn_counts.escript' needs nothing but Erlang. The status is 1 where it is so.
 %%! -noinput
@@ -26,7 +26,8 @@ main(_) ->
     [io:format("    ~0p~n", [Event]) || Event <- Events],
     [T] = [This || {seq_trace, _, {'receive', {_, This}, _, To, _}} <- Events, To =:= Pid],
     [Serial] = [S || {seq_trace, _, {print, S, From, _, _}} <- Events, From =:= Pid],
-    io:format("T is ~b: the print should have the serial ~0p, and has ~0p~n", [T, {T, T + 1}, Serial]),
+    io:format("T is ~b: the print should have the serial ~0p, and has ~0p~n",
+              [T, {T, T + 1}, Serial]),
     halt(case Serial of {T, _} -> 0; _ -> 1 end).
 
 spawning() ->
@@ -38,4 +39,6 @@ spawning() ->
 events(Events) when length(Events) =:= 5 ->
     receive {for, Pid} -> Pid ! {events, lists:reverse(Events)} end;
 events(Events) ->
-    receive {seq_trace, _, _} = Event -> events([Event | Events]) after 5000 -> exit({only, Events}) end.
+    receive {seq_trace, _, _} = Event -> events([Event | Events])
+    after 5000 -> exit({only, Events})
+    end.
