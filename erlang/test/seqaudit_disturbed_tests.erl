@@ -57,7 +57,7 @@ clock_test_() ->
 
 jumps(Library, Warp) ->
     Offset = seqaudit_audits:file("clock_offset"),
-    ok = file:write_file(Offset, "+0"),
+    ok = shift_clock("+0", Offset),
     Variables = [{"LD_PRELOAD", Library}, {"FAKETIME_TIMESTAMP_FILE", Offset},
                  {"FAKETIME_NO_CACHE", "1"}, {"FAKETIME_DONT_FAKE_MONOTONIC", "1"}],
     with_node(["+C", Warp ++ "_time_warp"], Variables, fun(Peer, Node) ->
@@ -75,9 +75,14 @@ jumps(Library, Warp) ->
 
 jump(Jump, Offset, Peer) ->
     Before = peer:call(Peer, os, system_time, [second]),
-    ok = file:write_file(Offset, Jump),
+    ok = shift_clock(Jump, Offset),
     until(fun() -> abs(peer:call(Peer, os, system_time, [second]) - Before) > ?HOUR div 2 end),
     ok = peer:call(Peer, seqaudit_test_server, timed, [1, Jump]).
+
+%% The library reads the file at each look at the clock, and ends the node if it finds it empty.
+shift_clock(Jump, Offset) ->
+    ok = file:write_file(Offset ++ ".new", Jump),
+    file:rename(Offset ++ ".new", Offset).
 
 %% How many nanoseconds after the first event each one happened.
 times(Name) ->
