@@ -48,8 +48,6 @@ class World(model.World):
 
     def step(self, act, number=0):
         """Does the act, and returns its reports and the number of the send that it took."""
-        if not self.is_possible(act):
-            return [], None
         if act[0] in SPAWNS:
             parent, child = map(model.parse_pid, act[1:])
             return self.spawn(parent, child, act[0] == "spawn"), None
