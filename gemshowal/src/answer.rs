@@ -1,10 +1,10 @@
 //! The questions that a program asks of a trace, each with a result of its own type.
 
 use crate::device::Sink;
-use crate::{
-    Act, Answer, CompleteError, Completion, Event, Finding, Hop, Node, OutOfMemory, Paired,
-};
-use crate::{Pid, Reach, Reason, Text, Trace};
+use crate::{Act, Answer, CompleteError, Completion, Event, Finding, Global, Hop, Never, Node};
+use crate::{OutOfMemory, PairError, Paired, Pid, Reach, Reason, Text, Trace, TOP};
+use lack_decide::CompleteFault;
+use st_library::rt::HostRuntime;
 use std::collections::{BTreeMap, BTreeSet};
 use std::fmt::{self, Display, Formatter};
 use std::io::{self, Write};
@@ -17,7 +17,7 @@ use thiserror::Error;
 /// The checker has accepted the acts, so they are a run of that kind, whatever built them.
 #[derive(Debug)]
 pub struct Fits {
-    finding: Finding,
+    pub(crate) finding: Finding,
 }
 
 impl Fits {
@@ -36,11 +36,6 @@ impl Fits {
             Finding::Unfit(..) => &[],
         }
     }
-
-    /// Returns the acts and pairs as the libraries do.
-    pub fn finding(&self) -> &Finding {
-        &self.finding
-    }
 }
 
 /// An event at which the search for a run ended, and why.
@@ -50,32 +45,28 @@ pub struct Unfit {
     pub pid: Pid,
     /// The event's number among those of its process, from 0.
     pub index: u64,
-    /// The reason for which no run was found. [`Unfit::is_final`] says if there can be none.
+    /// The reason for which no run was found. [`Unfit::never`] says if there can be none.
     pub reason: Reason,
 }
 
 impl Unfit {
-    /// Returns whether no run without a reset reports the trace. If not, [`complete`] decides that.
-    pub fn is_final(&self) -> bool {
+    /// Returns the reason if no run without a reset reports the trace. Else [`complete`] decides
+    /// that.
+    pub fn never(&self) -> Option<Never> {
         match self.reason {
-            Reason::PrevNotBefore
-            | Reason::NotRising(_)
-            | Reason::Repeated(..)
-            | Reason::Mismatch(..) => true,
-            Reason::Uncaused | Reason::TooWide | Reason::NotReplayed(..) => false,
+            Reason::PrevNotBefore => Some(Never::PrevNotBefore),
+            Reason::NotRising(index) => Some(Never::NotRising(index)),
+            Reason::Repeated(pid, index) => Some(Never::Repeated(pid, index)),
+            Reason::Mismatch(pid, index) => Some(Never::Mismatch(pid, index)),
+            Reason::Uncaused | Reason::TooWide | Reason::NotReplayed(..) => None,
         }
-    }
-
-    /// Returns the event and the reason as the libraries do.
-    pub fn into_finding(self) -> Finding {
-        Finding::Unfit(self.pid, self.index, self.reason)
     }
 }
 
 impl Display for Unfit {
     fn fmt(&self, f: &mut Formatter<'_>) -> fmt::Result {
         let found =
-            if self.is_final() { "no run without a reset reports" } else { "no run was found of" };
+            self.never().map_or("no run was found of", |_| "no run without a reset reports");
         write!(f, "{found} event {} of {}: {:?}", self.index, Text(self.pid), self.reason)
     }
 }
@@ -98,7 +89,8 @@ pub enum AuditError {
 /// The acts of a yes are a run of that kind, in which each reported receive follows its send. A
 /// reason that is final means that no run without a reset reports the trace.
 pub fn audit(trace: &Trace) -> Result<Fits, AuditError> {
-    match trace.audit()? {
+    let found = st_audit::audit::<TOP>(&HostRuntime, Global, trace.streams());
+    match found.map_err(|_| OutOfMemory)? {
         Finding::Unfit(pid, index, reason) => Err(AuditError::Unfit(Unfit { pid, index, reason })),
         finding @ Finding::Fits(..) => Ok(Fits { finding }),
     }
@@ -131,14 +123,8 @@ pub struct Because {
 ///
 /// Each hop holds in every run without a reset that reports the trace and meets the hop's
 /// [premises](Hop::premises).
-pub fn why(trace: &Trace, place: (Pid, u64)) -> Result<Vec<Because>, AuditError> {
-    let paired = match Paired::of(trace.streams())? {
-        Ok(paired) => paired,
-        Err(Finding::Fits(..)) => return Ok(Vec::new()),
-        Err(Finding::Unfit(pid, index, reason)) => {
-            return Err(AuditError::Unfit(Unfit { pid, index, reason }))
-        }
-    };
+pub fn why(trace: &Trace, place: (Pid, u64)) -> Result<Vec<Because>, PairError> {
+    let paired = Paired::of(trace.streams())?;
     let hops = paired.hops()?;
     let because =
         |&Node { place, .. }: &Node| Some(Because { place, hop: hops.hop(place.0, place.1)? });
@@ -147,10 +133,18 @@ pub fn why(trace: &Trace, place: (Pid, u64)) -> Result<Vec<Because>, AuditError>
 }
 
 impl Trace {
+    /// Finds what the trace lacks, as [`complete`] says.
+    pub fn complete(&self) -> Result<Answer, CompleteError> {
+        lack_decide::complete::<TOP>(Global, self.streams()).map_err(|fault| match fault {
+            CompleteFault::Memory => OutOfMemory.into(),
+            CompleteFault::Uncompleted => CompleteError::Uncompleted,
+        })
+    }
+
     /// Returns the trace with each count replaced by its rank among all counts, and whether that
     /// changed any. If a run has these counts, one has the trace's own.
     pub fn renumbered(&self) -> Result<(Trace, bool), OutOfMemory> {
-        let ranked = Trace::of_streams(lack_decide::renumbered(crate::Global, self.streams())?);
+        let ranked = Trace::of_streams(lack_decide::renumbered(Global, self.streams())?);
         let is_other = self.processes().any(|(pid, events)| events != ranked.streams().events(pid));
         Ok((ranked, is_other))
     }
@@ -158,7 +152,7 @@ impl Trace {
     /// Asks the checker about the acts in the text, and returns `None` if the text has no acts.
     pub fn check(&self) -> Result<Option<st_check::Verdict>, OutOfMemory> {
         let Some(acts) = self.acts() else { return Ok(None) };
-        let verdict = st_check::check::<{ crate::TOP }>(crate::Global, self.streams(), acts);
+        let verdict = st_check::check::<TOP>(Global, self.streams(), acts);
         verdict.map(Some).map_err(|_| OutOfMemory)
     }
 
@@ -176,7 +170,7 @@ impl Trace {
             listed
                 .extend([Some(event.from), event.to].into_iter().flatten().filter(|&it| it != pid));
         }
-        let mut draft = st_core::Draft::new(crate::Global);
+        let mut draft = st_core::Draft::new(Global);
         for pid in listed {
             draft.open(pid).map_err(|_| OutOfMemory)?;
         }
@@ -184,11 +178,6 @@ impl Trace {
             draft.add(pid, event).map_err(|_| OutOfMemory)?;
         }
         draft.close().map(Trace::of_streams).map_err(|_| OutOfMemory)
-    }
-
-    /// Writes the streams with acts of a run that reports them.
-    pub fn write_fits(&self, out: &mut impl Write, fits: &Fits) -> io::Result<()> {
-        self.write_finding(out, fits.finding())
     }
 }
 

@@ -1,12 +1,13 @@
 //! The events that each event follows, and the order of all events, as the proved libraries find
 //! them.
 
-use crate::{pair, Event, Finding, Never, OutOfMemory, Pairing, Pid, Streams, TOP};
+use crate::{Event, Kind, Never, OutOfMemory, PairError, Partner, Pid, Streams, TOP};
 use lack_needs::{find_flaw, find_unfounded, Flaw};
 use node_why::{Hop, Node, Origins, Reach};
 use st_library::alloc::Global;
 use st_library::rt::HostRuntime;
 use st_order::Item;
+use st_pair::Pairing;
 
 /// Streams whose receives are paired with their sends.
 pub struct Paired<'a> {
@@ -15,12 +16,21 @@ pub struct Paired<'a> {
 }
 
 impl<'a> Paired<'a> {
-    /// Pairs streams, or says why they can't be paired, as [`crate::Trace::audit`] finds it.
-    pub fn of(streams: &'a Streams) -> Result<Result<Paired<'a>, Finding>, OutOfMemory> {
-        Ok(pair(streams)?.map(|pairing| Paired { streams, pairing }))
+    /// Pairs streams, or says why they can't be paired.
+    pub fn of(streams: &'a Streams) -> Result<Paired<'a>, PairError> {
+        Ok(Paired { streams, pairing: st_pair::pair(Global, streams)? })
     }
 
-    /// Finds an event and why no run without a reset reports it, as [`crate::Trace::complete`] does:
+    /// Pairs streams, if they can be paired.
+    pub fn if_possible(streams: &'a Streams) -> Result<Option<Paired<'a>>, OutOfMemory> {
+        match Paired::of(streams) {
+            Ok(paired) => Ok(Some(paired)),
+            Err(PairError::Never(..)) => Ok(None),
+            Err(PairError::Memory(error)) => Err(error),
+        }
+    }
+
+    /// Finds an event and why no run without a reset reports it, as [`crate::complete`] does:
     /// late events first, then unfounded ones.
     pub fn refusal(&self) -> Result<Option<(Pid, u64, Never)>, OutOfMemory> {
         if let Some((pid, index)) = find_flaw(self.streams, Flaw::Late) {
@@ -48,9 +58,9 @@ impl<'a> Paired<'a> {
         Ok(order.as_slice().to_vec())
     }
 
-    /// Returns what each event pairs with.
-    pub fn pairing(&self) -> &Pairing {
-        &self.pairing
+    /// Returns what the event of this kind at this place pairs with.
+    pub fn partner(&self, (pid, index): (Pid, u64), kind: Kind) -> Partner {
+        st_pair::partner_at(&self.pairing, pid, index, kind)
     }
 }
 

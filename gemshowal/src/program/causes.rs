@@ -6,14 +6,12 @@
 
 use crate::audit;
 use crate::names::{Line, Names};
+use crate::reason::paired;
 use crate::spawns;
 use crate::view::{Kept, Place, Shown, View};
 use crate::Failure;
-use gemshowal::{
-    Answer, Completion, Event, Finding, Hop, Hops, Item, Kind, Label, Never, OutOfMemory, Paired,
-    Partner,
-};
-use gemshowal::{Pid, Premises, Streams, Trace};
+use gemshowal::{Answer, Completion, Event, Hop, Hops, Item, Kind, Label, Never, OutOfMemory};
+use gemshowal::{Paired, Partner, Pid, Premises, Streams, Trace};
 use std::borrow::Cow;
 use std::collections::HashMap;
 
@@ -92,27 +90,22 @@ pub(crate) fn with_causes<T>(
     view: &View<'_>,
     is_enough: impl Fn(&Causes<'_>) -> bool,
     run: impl FnOnce(&Causes<'_>) -> Result<T, Failure>,
-) -> Result<Result<T, Finding>, Failure> {
-    let paired = match Paired::of(view.trace.streams())? {
-        Ok(paired) => paired,
-        Err(finding) => return Ok(Err(finding)),
-    };
+) -> Result<T, Failure> {
+    let paired = paired(view)?;
     let (never, hops) = (paired.refusal()?, paired.hops()?);
     let shown = Shown::reported(view);
     let requests = spawns::requests(view);
     let own = Causes { shown, never, hops, paired: &paired, whole: None, requests };
     if never.is_some() || is_enough(&own) || own.are_reported() {
-        return Ok(Ok(run(&own)?));
+        return run(&own);
     }
-    let Answer::Whole(completion) = view.trace.complete()? else { return Ok(Ok(run(&own)?)) };
-    match Paired::of(completion.streams())? {
-        Ok(all) if completion.added() > 0 => {
-            let whole = Some(Whole { completion: &completion, hops: all.hops()?, paired: &all });
-            let shown = Shown::completed(view, &completion);
-            Ok(Ok(run(&Causes { shown, whole, ..own })?))
-        }
-        _ => Ok(Ok(run(&own)?)),
-    }
+    let completion = match gemshowal::complete(view.trace)? {
+        Answer::Whole(completion) if completion.added() > 0 => completion,
+        _ => return run(&own),
+    };
+    let Some(all) = Paired::if_possible(completion.streams())? else { return run(&own) };
+    let whole = Some(Whole { completion: &completion, hops: all.hops()?, paired: &all });
+    run(&Causes { shown: Shown::completed(view, &completion), whole, ..own })
 }
 
 /// Does something with the causes of a trace. If no run without a reset reports it, that is done
@@ -122,13 +115,15 @@ pub(crate) fn with_each<T>(
     whole: &View<'_>,
     is_enough: impl Fn(&Causes<'_>) -> bool,
     mut run: impl FnMut(&Causes<'_>, Option<(usize, usize)>) -> Result<T, Failure>,
-) -> Result<Result<Vec<T>, Finding>, Failure> {
+) -> Result<Vec<T>, Failure> {
     let done = with_causes(whole, &is_enough, |causes| match causes.never() {
         None => run(causes, None).map(Some),
         Some(_) => Ok(None),
-    })?;
-    if let Ok(Some(done)) = done {
-        return Ok(Ok(vec![done]));
+    });
+    match done {
+        Ok(Some(done)) => return Ok(vec![done]),
+        Ok(None) | Err(Failure::Never(_)) => {}
+        Err(failure) => return Err(failure),
     }
     let parts = audit::parts(whole)?;
     if !are_paired(&parts)? {
@@ -138,14 +133,14 @@ pub(crate) fn with_each<T>(
     for ((kept, part), which) in parts.iter().zip(1..) {
         let view = whole.part(part, kept, false);
         let run = |causes: &Causes<'_>| run(causes, Some((which, parts.len())));
-        all.extend(with_causes(&view, &is_enough, run)?.ok());
+        all.push(with_causes(&view, &is_enough, run)?);
     }
-    Ok(Ok(all))
+    Ok(all)
 }
 
 fn are_paired(parts: &[(Kept, Trace)]) -> Result<bool, OutOfMemory> {
     for (_, part) in parts {
-        if part.pair()?.is_err() {
+        if Paired::if_possible(part.streams())?.is_none() {
             return Ok(false);
         }
     }
@@ -155,7 +150,7 @@ fn are_paired(parts: &[(Kept, Trace)]) -> Result<bool, OutOfMemory> {
 impl Whole<'_> {
     fn partner(&self, (pid, index): Place) -> Option<Place> {
         let kind = self.completion.streams().event(pid, index)?.kind;
-        match gemshowal::partner_at(self.paired.pairing(), pid, index, kind) {
+        match self.paired.partner((pid, index), kind) {
             Partner::Send(pid, index) | Partner::Receive(pid, index) => Some((pid, index)),
             Partner::Nobody | Partner::NoSend | Partner::NoReceive => None,
         }
@@ -258,7 +253,7 @@ impl Causes<'_> {
         let (pid, index) = item.place();
         let (kind, paired) =
             (self.event(item)?.kind, self.whole.as_ref().map_or(self.paired, |whole| whole.paired));
-        match (item, gemshowal::partner_at(paired.pairing(), pid, index, kind)) {
+        match (item, paired.partner((pid, index), kind)) {
             (Item::Hidden(..), _) => Some(Item::Reported(pid, index)),
             (_, Partner::Send(pid, index) | Partner::Receive(pid, index)) => {
                 Some(Item::Reported(pid, index))

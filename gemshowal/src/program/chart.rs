@@ -5,7 +5,6 @@ use crate::args::Chart as Args;
 use crate::causes::{with_each, Causes, Link};
 use crate::object::kind_word;
 use crate::output::Output;
-use crate::reason::write_unpaired;
 use crate::view::View;
 use crate::{moment, svg, words, Failure, Status, Task};
 use gemshowal::{Event, Item, Kind, Label, Pid};
@@ -43,29 +42,19 @@ pub(crate) fn run(args: &Args, task: Task<'_>) -> Result<Status, Failure> {
         (label, _) => Some(names.find_label(&trace, label.as_deref())?),
     };
     let whole = View::whole(&trace, &names);
-    let told = with_each(
-        &whole,
-        |_| false,
-        |causes, part| {
-            let found = Chart::of(causes, label)?;
-            if found.iter().any(Chart::is_long) {
-                return Err(Failure::LongChart(input.line_name().into()));
-            }
-            if let (Some(file), Some(chart)) = (&args.svg, found.first()) {
-                svg::write(&part_file(file, part), causes, chart)?;
-            }
-            write(causes, part, &found, out)?;
-            let grades = found.iter().flat_map(|chart| &chart.rows).map(|row| row.link.grade);
-            Ok((!found.is_empty(), words::chart_note(grades)))
-        },
-    )?;
-    let told = match told {
-        Ok(told) => told,
-        Err(finding) => {
-            write_unpaired(false, &whole, &finding, out)?;
-            return Ok(Status::No);
+    let all = |_: &Causes<'_>| false;
+    let told = with_each(&whole, all, |causes, part| {
+        let found = Chart::of(causes, label)?;
+        if found.iter().any(Chart::is_long) {
+            return Err(Failure::LongChart(input.line_name().into()));
         }
-    };
+        if let (Some(file), Some(chart)) = (&args.svg, found.first()) {
+            svg::write(&part_file(file, part), causes, chart)?;
+        }
+        write(causes, part, &found, out)?;
+        let grades = found.iter().flat_map(|chart| &chart.rows).map(|row| row.link.grade);
+        Ok((!found.is_empty(), words::chart_note(grades)))
+    })?;
     told.iter().find_map(|(_, note)| *note).into_iter().for_each(|note| notes.say(note));
     Ok(if told.iter().any(|(is_any, _)| *is_any) { Status::Yes } else { Status::No })
 }

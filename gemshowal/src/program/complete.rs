@@ -14,7 +14,7 @@ pub(crate) fn run(args: &Complete, task: Task<'_>) -> Result<Status, Failure> {
     let Task { json, input, out, notes } = task;
     let (trace, names) = input.read(notes)?;
     let view = View::whole(&trace, &names);
-    match trace.complete()? {
+    match gemshowal::complete(&trace)? {
         Answer::Whole(completion) if args.form == Form::Added => {
             if json {
                 write_object(&completion, &Shown::completed(&view, &completion), out)?;
@@ -27,33 +27,15 @@ pub(crate) fn run(args: &Complete, task: Task<'_>) -> Result<Status, Failure> {
             write_text(args.form, &trace, &completion, input.line_name(), out, notes)
         }
         Answer::Never(pid, index, never) => {
-            let shown = Shown::reported(&view);
-            let against = Against::by_complete(pid, index, never);
-            write_never(args.form, json, &against, &shown, out, notes)?;
+            let no = Against::by_complete(pid, index, never).no(&view);
+            if json || args.form == Form::Added {
+                return Err(Failure::Never(Box::new(no)));
+            }
+            // No other program is to take the sentence for a text.
+            notes.say(no.headline);
             Ok(Status::No)
         }
     }
-}
-
-/// Writes that no run without a reset has the trace. If a text was asked for, standard error says
-/// it, so that no other program takes the sentence for one.
-fn write_never(
-    form: Form,
-    json: bool,
-    against: &Against,
-    shown: &Shown<'_>,
-    out: &mut Output,
-    notes: &mut Notes,
-) -> Result<(), Failure> {
-    if json {
-        return out.report("never", &against.no(shown));
-    }
-    if form != Form::Added {
-        notes.say(against.headline(shown));
-        return Ok(());
-    }
-    writeln!(out, "{}", against.headline(shown))?;
-    Ok(against.write_details(shown, out)?)
 }
 
 fn write_text(

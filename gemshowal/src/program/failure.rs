@@ -1,6 +1,7 @@
 //! The ends of a command: its status, or the reason why there is no result.
 
 use crate::names;
+use crate::reason::No;
 use gemshowal::{CertificateError, CompleteError, OutOfMemory};
 use std::io::{self, ErrorKind};
 use thiserror::Error;
@@ -24,8 +25,11 @@ pub(crate) const PIPE: u8 = 141;
 pub(crate) enum Failure {
     #[error("memory ran out")]
     Memory(#[from] OutOfMemory),
-    #[error("the completion that was built isn't one")]
-    Uncompleted,
+    #[error(transparent)]
+    Uncompleted(#[from] CompleteError),
+    /// No run reports the trace: a result, and no error.
+    #[error("{0}")]
+    Never(Box<No>),
     #[error("{0} can't be opened: {1}")]
     Unopened(String, #[source] io::Error),
     #[error("{0} can't be read: {1}")]
@@ -83,33 +87,24 @@ impl Failure {
             | Failure::Beside(names::Fault::Wrong { .. }) => Status::Faulty as u8,
             Failure::NotFound(names::NotFound::Memory(_)) => 4,
             Failure::NotFound(_) | Failure::NoTimes | Failure::NothingLeft(_) => Status::No as u8,
-            Failure::TooLong(_) | Failure::LargeForSecond(_) => Status::Long as u8,
             Failure::Unread(_, reason) if reason.kind() == ErrorKind::InvalidData => {
                 Status::Faulty as u8
             }
-            Failure::TooManyRows(..) | Failure::LongChart(_) => Status::Long as u8,
+            Failure::TooLong(_)
+            | Failure::LargeForSecond(_)
+            | Failure::TooManyRows(..)
+            | Failure::LongChart(_) => Status::Long as u8,
             Failure::Unwritten(reason) if reason.kind() == ErrorKind::BrokenPipe => PIPE,
             _ => 4,
         }
     }
-}
 
-impl Failure {
     pub(crate) fn of_acts(error: CertificateError, name: &str) -> Failure {
         match error {
             CertificateError::Io(reason) => reason.into(),
             CertificateError::Memory(error) => error.into(),
             CertificateError::TooLong => Failure::TooLong(name.into()),
             CertificateError::Uncertified => Failure::Uncertified(name.into()),
-        }
-    }
-}
-
-impl From<CompleteError> for Failure {
-    fn from(error: CompleteError) -> Failure {
-        match error {
-            CompleteError::Memory(error) => error.into(),
-            CompleteError::Uncompleted => Failure::Uncompleted,
         }
     }
 }

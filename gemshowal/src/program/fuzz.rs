@@ -9,7 +9,7 @@ use crate::names::FILES;
 use crate::output::{Notes, Output};
 use crate::{diff, run_on, Status, Task};
 use clap::Parser;
-use gemshowal::{Partner, Text, Trace};
+use gemshowal::{Paired, Partner, Text, Trace};
 use std::env;
 use std::fs;
 use std::path::Path;
@@ -121,11 +121,11 @@ impl Example {
 /// Returns times that the events and the messages of a trace may have.
 fn times_of(trace: &Trace) -> String {
     let mut text = "seqaudit times 1\nbegin 1795742538123456789\n".to_owned();
-    let pairing = trace.pair().unwrap();
+    let paired = Paired::if_possible(trace.streams()).unwrap();
     for ((pid, index), event) in trace.events() {
         text += &format!("event {} {index} {}\n", Text(pid), 1_000 * event.serial.this);
-        let partner = |pairing| gemshowal::partner_at(pairing, pid, index, event.kind);
-        if let Ok(Partner::Send(from, sent)) = pairing.as_ref().map(partner) {
+        let partner = |paired: &Paired<'_>| paired.partner((pid, index), event.kind);
+        if let Some(Partner::Send(from, sent)) = paired.as_ref().map(partner) {
             text += &format!("message {} {sent} {} {index} 350\n", Text(from), Text(pid));
         }
     }

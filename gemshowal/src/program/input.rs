@@ -80,7 +80,10 @@ impl Input {
     }
 
     /// Reads a trace whose counters have wrapped, and the names that the files next to it give it.
-    pub(crate) fn read_wrapped(&mut self, notes: &mut Notes) -> Result<(NodeTrace, Names), Failure> {
+    pub(crate) fn read_wrapped(
+        &mut self,
+        notes: &mut Notes,
+    ) -> Result<(NodeTrace, Names), Failure> {
         let text = self.bytes()?;
         // No other command knows this version, so lint has no words for its faults.
         let no_text = |_: &mut Input| Err(ErrorKind::Unsupported.into());

@@ -4,7 +4,7 @@ use crate::args::List;
 use crate::names::{Line, Names};
 use crate::object::kind_word;
 use crate::{Failure, Status, Task};
-use gemshowal::{Kind, Partner, Pid, Row};
+use gemshowal::{Kind, Paired, Partner, Pid, Row};
 
 pub(crate) fn run(args: &List, task: Task<'_>) -> Result<Status, Failure> {
     let Task { json, input, out, notes } = task;
@@ -12,17 +12,15 @@ pub(crate) fn run(args: &List, task: Task<'_>) -> Result<Status, Failure> {
     let rows = trace.list(&args.conditions.filter(&trace, &names)?)?;
     let is_listed = |row: &&Row| args.conditions.are_met(row, &names);
     let rows = || rows.as_ref().iter().filter(is_listed);
-    let pairing = trace.pair()?.ok();
-    if pairing.is_none() && rows().next().is_some() {
+    let paired = Paired::if_possible(trace.streams())?;
+    if paired.is_none() && rows().next().is_some() {
         notes.say(
             "note: the trace can't be paired, so no partners are shown; gemshowal audit says why",
         );
     }
     let partner = |row: &Row| {
-        let pairing = pairing.as_ref();
-        pairing.map_or(Partner::Nobody, |pairing| {
-            gemshowal::partner_at(pairing, row.pid, row.index, row.event.kind)
-        })
+        let partner = |paired: &Paired<'_>| paired.partner((row.pid, row.index), row.event.kind);
+        paired.as_ref().map_or(Partner::Nobody, partner)
     };
     if json {
         let put = |line: &mut Line<'_>, row: &Row| put_object(line, row, partner(row), &names);

@@ -44,7 +44,7 @@ use crate::input::Input;
 use crate::output::{Headings, Notes, Output};
 use serde::Serialize;
 use std::env;
-use std::io::ErrorKind;
+use std::io::{ErrorKind, Write};
 use std::path::Path;
 use std::process::ExitCode;
 
@@ -112,14 +112,23 @@ fn run_on_path(
     ended
 }
 
+/// Writes in place of a result what there is to say of a failure.
 fn report(failure: Failure, is_json: bool, out: &mut Output) -> Result<Status, Failure> {
     out.forget();
-    if is_json && !matches!(failure, Failure::Unwritten(_)) {
-        let failed = Failed { status: failure.status(), error: failure.to_string() };
-        out.report("failed", &failed)?;
+    match failure {
+        Failure::Never(no) if is_json => out.report("never", &no)?,
+        Failure::Never(no) => write!(out, "{no}")?,
+        failure => {
+            if is_json && !matches!(failure, Failure::Unwritten(_)) {
+                let failed = Failed { status: failure.status(), error: failure.to_string() };
+                out.report("failed", &failed)?;
+            }
+            out.finish()?;
+            return Err(failure);
+        }
     }
     out.finish()?;
-    Err(failure)
+    Ok(Status::No)
 }
 
 /// Does the command on one input after the other. The status is that of the worst.

@@ -1,33 +1,20 @@
 //! The reasons why no run reports a trace, for an event of it: in sentences, and as JSON.
 
 use crate::object::{Fields, Place as PlaceObject};
-use crate::output::Output;
 use crate::view::{Place, Shown, View};
 use crate::Failure;
-use gemshowal::{Event, Finding, Never, Pid, Reason};
+use gemshowal::{Event, Never, PairError, Paired, Pid};
 use serde::Serialize;
-use std::io::{self, Write};
+use std::fmt::{self, Display, Formatter};
 
 /// An event, the reason against it, and the second event that this may be about.
 #[derive(Clone, Copy, Debug)]
 pub(crate) struct Against {
     pub(crate) place: Place,
-    never: Never,
+    pub(crate) never: Never,
 }
 
 impl Against {
-    /// Takes what `audit` found of an event, if that is final.
-    pub(crate) fn by_audit(pid: Pid, index: u64, reason: &Reason) -> Option<Against> {
-        let never = match *reason {
-            Reason::PrevNotBefore => Never::PrevNotBefore,
-            Reason::NotRising(index) => Never::NotRising(index),
-            Reason::Repeated(pid, index) => Never::Repeated(pid, index),
-            Reason::Mismatch(pid, index) => Never::Mismatch(pid, index),
-            Reason::Uncaused | Reason::TooWide | Reason::NotReplayed(..) => return None,
-        };
-        Some(Against::by_complete(pid, index, never))
-    }
-
     pub(crate) fn by_complete(pid: Pid, index: u64, never: Never) -> Against {
         Against { place: (pid, index), never }
     }
@@ -38,10 +25,6 @@ impl Against {
             Never::Repeated(pid, index) | Never::Mismatch(pid, index) => Some((pid, index)),
             Never::PrevNotBefore | Never::Unfounded | Never::TooHigh => None,
         }
-    }
-
-    pub(crate) fn never(&self) -> Never {
-        self.never
     }
 
     pub(crate) fn word(&self) -> &'static str {
@@ -61,57 +44,47 @@ impl Against {
         self.never != Never::PrevNotBefore
     }
 
-    pub(crate) fn headline(&self, shown: &Shown<'_>) -> String {
+    pub(crate) fn headline(&self, view: &View<'_>) -> String {
         let without = if self.allows_reset() { " without a reset" } else { "" };
-        let (event, word) = (shown.event(self.place), self.word());
+        let (event, word) = (Shown::reported(view).event(self.place), self.word());
         format!("doesn't fit: no run{without} reports this trace, because of {event} ({word})")
     }
 
-    fn events(&self, shown: &Shown<'_>) -> Vec<(Place, Event)> {
+    pub(crate) fn no(&self, view: &View<'_>) -> No {
+        No { headline: self.headline(view), refused: self.refused(view) }
+    }
+
+    pub(crate) fn refused(&self, view: &View<'_>) -> Refused {
+        let shown = Shown::reported(view);
         let places = [Some(self.place), self.other()].into_iter().flatten();
         let with_event = |place: Place| Some((place, shown.streams.event(place.0, place.1)?));
-        places.filter_map(with_event).collect()
-    }
-
-    /// Writes the events, what it means that they don't go together, and what to look at.
-    pub(crate) fn write_details(&self, shown: &Shown<'_>, out: &mut Output) -> io::Result<()> {
-        for (place, event) in self.events(shown) {
-            writeln!(out, "  {}: {}", shown.event(place), shown.sentence(&event))?;
-        }
-        writeln!(out, "What it means: {}", meaning(self.never))?;
-        writeln!(out, "What to look at: {}.", self.look_at(shown))
-    }
-
-    /// Says which causes the reason can have, the likeliest first.
-    fn look_at(&self, shown: &Shown<'_>) -> String {
-        let found: Vec<Event> = self.events(shown).into_iter().map(|(_, event)| event).collect();
-        causes(self.never, &found).join("; ")
-    }
-
-    pub(crate) fn no(&self, shown: &Shown<'_>) -> No {
-        No { headline: self.headline(shown), refused: self.object(shown) }
-    }
-
-    pub(crate) fn object(&self, shown: &Shown<'_>) -> Refused {
-        let event = |(place, event): (Place, Event)| Found {
-            place: PlaceObject::shown(shown, place),
-            fields: Fields::new(shown.view.names, &event),
-            what: shown.sentence(&event),
+        let (places, events): (Vec<Place>, Vec<Event>) = places.filter_map(with_event).unzip();
+        let found = |(&place, event): (&Place, &Event)| Found {
+            place: PlaceObject::shown(&shown, place),
+            fields: Fields::new(view.names, event),
+            what: shown.sentence(event),
         };
         Refused {
             reason: self.word(),
-            found: self.events(shown).into_iter().map(event).collect(),
+            found: places.iter().zip(&events).map(found).collect(),
             meaning: meaning(self.never),
-            look_at: self.look_at(shown),
+            look_at: causes(self.never, &events).join("; "),
         }
     }
 }
 
+/// The sentence that no run reports a trace, and why.
 #[derive(Clone, Debug, Serialize)]
 pub(crate) struct No {
-    headline: String,
+    pub(crate) headline: String,
     #[serde(flatten)]
     refused: Refused,
+}
+
+impl Display for No {
+    fn fmt(&self, f: &mut Formatter<'_>) -> fmt::Result {
+        write!(f, "{}\n{}", self.headline, self.refused)
+    }
 }
 
 #[derive(Clone, Debug, Serialize)]
@@ -120,6 +93,16 @@ pub(crate) struct Refused {
     found: Vec<Found>,
     meaning: &'static str,
     look_at: String,
+}
+
+impl Display for Refused {
+    /// Shows the events, what it means that they don't go together, and what to look at.
+    fn fmt(&self, f: &mut Formatter<'_>) -> fmt::Result {
+        for Found { place, what, .. } in &self.found {
+            writeln!(f, "  {}: {what}", place.event)?;
+        }
+        writeln!(f, "What it means: {}\nWhat to look at: {}.", self.meaning, self.look_at)
+    }
 }
 
 #[derive(Clone, Debug, Serialize)]
@@ -131,20 +114,14 @@ struct Found {
     what: String,
 }
 
-pub(crate) fn write_unpaired(
-    json: bool,
-    view: &View<'_>,
-    finding: &Finding,
-    out: &mut Output,
-) -> Result<(), Failure> {
-    let shown = Shown::reported(view);
-    let Finding::Unfit(pid, index, reason) = finding else { return Ok(()) };
-    let Some(against) = Against::by_audit(*pid, *index, reason) else { return Ok(()) };
-    if json {
-        return out.report("never", &against.no(&shown));
-    }
-    writeln!(out, "{}", against.headline(&shown))?;
-    Ok(against.write_details(&shown, out)?)
+/// Pairs the events of a trace, or fails with the sentences that say why they can't be.
+pub(crate) fn paired<'a>(view: &View<'a>) -> Result<Paired<'a>, Failure> {
+    Paired::of(view.trace.streams()).map_err(|error| match error {
+        PairError::Memory(error) => error.into(),
+        PairError::Never(pid, index, never) => {
+            Failure::Never(Box::new(Against::by_complete(pid, index, never).no(view)))
+        }
+    })
 }
 
 fn meaning(never: Never) -> &'static str {

@@ -4,10 +4,10 @@
 use crate::names::Names;
 use crate::object::Number;
 use crate::output::Output;
-use crate::reason::write_unpaired;
+use crate::reason::paired;
 use crate::view::View;
 use crate::{Failure, Status, Task};
-use gemshowal::{Event, Hop, Hops, Kind, Label, Paired, Pairing, Partner, Pid, Text, Trace};
+use gemshowal::{Event, Hop, Hops, Kind, Label, Paired, Partner, Pid, Text, Trace};
 use serde::Serialize;
 use std::collections::{BTreeMap, HashMap};
 use std::io::{self, Write};
@@ -15,19 +15,13 @@ use std::io::{self, Write};
 pub(crate) fn run(task: Task<'_>) -> Result<Status, Failure> {
     let Task { json, input, out, notes } = task;
     let (trace, names) = input.read(notes)?;
-    let paired = match Paired::of(trace.streams())? {
-        Ok(paired) => paired,
-        Err(finding) => {
-            write_unpaired(json, &View::whole(&trace, &names), &finding, out)?;
-            return Ok(Status::No);
-        }
-    };
+    let paired = paired(&View::whole(&trace, &names))?;
     let stats = Stats {
         processes: trace
             .processes()
             .map(|(pid, events)| Process::of(pid, events, &names))
             .collect(),
-        pairs: pairs(&trace, paired.pairing(), &names),
+        pairs: pairs(&trace, &paired, &names),
         labels: Depths::of(&trace, paired.hops()?).labels(&names),
     };
     if json {
@@ -127,12 +121,12 @@ impl Process {
 
 /// Counts the messages by sender and receiver, of which at least one end was reported. One that
 /// both ends reported is counted at its send.
-fn pairs(trace: &Trace, pairing: &Pairing, names: &Names) -> Vec<Pair> {
+fn pairs(trace: &Trace, paired: &Paired<'_>, names: &Names) -> Vec<Pair> {
     let mut pairs = BTreeMap::<_, [u64; 3]>::new();
     for ((pid, index), event) in trace.events() {
         let Some(to) = event.to else { continue };
         let [messages, unreceived, unsent] = pairs.entry((event.from, to)).or_default();
-        let other = match gemshowal::partner_at(pairing, pid, index, event.kind) {
+        let other = match paired.partner((pid, index), event.kind) {
             Partner::Nobody | Partner::Send(..) => continue,
             Partner::Receive(..) => None,
             Partner::NoReceive => Some(unreceived),

@@ -4,7 +4,6 @@ use crate::args::Why;
 use crate::causes::{with_each, Cause, Causes, Grade, Link};
 use crate::object::{kind_word, object, Number};
 use crate::output::Output;
-use crate::reason::write_unpaired;
 use crate::view::View;
 use crate::words;
 use crate::{Failure, Status, Task};
@@ -44,13 +43,7 @@ pub(crate) fn run(args: &Why, task: Task<'_>) -> Result<Status, Failure> {
         }
         Ok(Some(Status::Yes))
     })?;
-    match told {
-        Ok(done) => Ok(done.into_iter().flatten().next().unwrap_or(Status::No)),
-        Err(finding) => {
-            write_unpaired(json, &whole, &finding, out)?;
-            Ok(Status::No)
-        }
-    }
+    Ok(told.into_iter().flatten().next().unwrap_or(Status::No))
 }
 
 /// An event on the way back from another, or in the tree of what follows it.

@@ -5,7 +5,7 @@ use crate::causes::{Cause, Causes, Grade, Link};
 use crate::moment::moment;
 use crate::names::Line;
 use crate::reason::Against;
-use crate::view::{count, Shown};
+use crate::view::count;
 use gemshowal::{Item, Kind, Premises};
 
 const UNKNOWN: &str = "an unknown message";
@@ -163,8 +163,7 @@ pub(crate) fn at(causes: &Causes<'_>, item: Item) -> String {
 /// Says whether a run has the trace, and what is added to it, in a line.
 pub(crate) fn headline(causes: &Causes<'_>) -> String {
     if let Some((pid, index, never)) = causes.never() {
-        let shown = Shown::reported(causes.view());
-        return Against::by_complete(pid, index, never).headline(&shown);
+        return Against::by_complete(pid, index, never).headline(causes.view());
     }
     let own = causes.trace().streams();
     let events = count(own.total(), "event");

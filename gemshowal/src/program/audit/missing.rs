@@ -111,7 +111,7 @@ impl Finder<'_> {
             let this = event.serial.this;
             height = height.max(this);
             let place = (pid, index);
-            let partner = gemshowal::partner_at(self.paired.pairing(), pid, index, event.kind);
+            let partner = self.paired.partner(place, event.kind);
             if !self.shown.is_reported(place) {
                 let turn = (height, event.kind == Kind::Receive, pid, index);
                 let known = self.known(event, partner);
@@ -163,7 +163,7 @@ impl Finder<'_> {
     }
 
     fn is_invented_send(&self, event: &Event, place: Place) -> bool {
-        let partner = || gemshowal::partner_at(self.paired.pairing(), place.0, place.1, event.kind);
+        let partner = || self.paired.partner(place, event.kind);
         event.kind == Kind::Send
             && !self.shown.is_reported(place)
             && self.known(event, partner()) == Known::Invented

@@ -101,7 +101,7 @@ fn proved_question(trace: &Trace, outcome: &Outcome) -> Result<Question, Failure
         }
         Said::Never(against) => {
             let (pid, index) = against.place;
-            trace.write_never(&mut answer, pid, index, against.never())?;
+            trace.write_never(&mut answer, pid, index, against.never)?;
             ("complete", 1)
         }
     };

@@ -26,7 +26,8 @@ impl Outcome {
             Ok(fits) => return Ok(Outcome { said: Said::Fits(fits), ranked: None }),
             Err(AuditError::Memory(error)) => return Err(error.into()),
             Err(AuditError::Unfit(unfit)) => {
-                if let Some(against) = Against::by_audit(unfit.pid, unfit.index, &unfit.reason) {
+                if let Some(never) = unfit.never() {
+                    let against = Against::by_complete(unfit.pid, unfit.index, never);
                     return Ok(Outcome { said: Said::Never(against), ranked: None });
                 }
             }
@@ -39,7 +40,7 @@ impl Outcome {
                 Err(AuditError::Unfit(_)) => {}
             }
         }
-        let said = match trace.complete()? {
+        let said = match gemshowal::complete(trace)? {
             Answer::Whole(completion) => Said::Completed(completion),
             Answer::Never(pid, index, never) => {
                 Said::Never(Against::by_complete(pid, index, never))
@@ -72,9 +73,7 @@ impl Outcome {
         if !self.is_fit() {
             return Ok(Missing::default());
         }
-        match Paired::of(shown.streams)? {
-            Ok(paired) => Missing::find(shown, &paired),
-            Err(_) => Ok(Missing::default()),
-        }
+        let paired = Paired::if_possible(shown.streams)?;
+        paired.map_or(Ok(Missing::default()), |paired| Missing::find(shown, &paired))
     }
 }

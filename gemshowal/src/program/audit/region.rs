@@ -3,7 +3,7 @@
 use crate::args::Conditions;
 use crate::view::{count, grouped, Kept, View};
 use crate::Failure;
-use gemshowal::{OutOfMemory, Partner, Pid};
+use gemshowal::{OutOfMemory, Paired, Partner, Pid};
 
 /// Returns the events that are asked for, or `None` if all are.
 pub(super) fn kept(conditions: &Conditions, view: &View<'_>) -> Result<Option<Kept>, Failure> {
@@ -38,7 +38,7 @@ pub(super) fn note(view: &View<'_>, kept: &Kept) -> Result<String, OutOfMemory> 
 
 /// Counts the receives and sends whose other end is cut off, if the trace can be paired.
 pub(crate) fn open(view: &View<'_>, kept: &Kept) -> Result<Option<[u64; 2]>, OutOfMemory> {
-    let Ok(pairing) = view.trace.pair()? else { return Ok(None) };
+    let Some(paired) = Paired::if_possible(view.trace.streams())? else { return Ok(None) };
     let is_all = |own: &Vec<u64>, index: u64| own.get(index as usize) == Some(&index);
     let is_cut = |pid: Pid, index: u64| {
         let own = kept.get(&pid);
@@ -48,7 +48,7 @@ pub(crate) fn open(view: &View<'_>, kept: &Kept) -> Result<Option<[u64; 2]>, Out
     for (&pid, own) in kept {
         let events = view.trace.streams().events(pid);
         for (index, event) in own.iter().filter_map(|&at| Some((at, events.get(at as usize)?))) {
-            match gemshowal::partner_at(&pairing, pid, index, event.kind) {
+            match paired.partner((pid, index), event.kind) {
                 Partner::Send(pid, index) => open[0] += u64::from(is_cut(pid, index)),
                 Partner::Receive(pid, index) => open[1] += u64::from(is_cut(pid, index)),
                 _ => {}

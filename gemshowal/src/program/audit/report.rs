@@ -140,7 +140,7 @@ impl Part {
         let (outcome, shown) = (sentences.outcome, sentences.shown);
         let streams = shown.view.trace.streams();
         let (missing, refused) = match &outcome.said {
-            Said::Never(against) => (None, Some(against.object(shown))),
+            Said::Never(against) => (None, Some(against.refused(shown.view))),
             _ => (Some(MissingObject::new(sentences)), None),
         };
         Part {

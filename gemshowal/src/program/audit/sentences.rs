@@ -41,7 +41,7 @@ impl Sentences<'_> {
         let events = self.shown.view.trace.streams().total();
         let processes = self.shown.view.trace.streams().pids().len() as u64;
         match &self.outcome.said {
-            Said::Never(against) => against.headline(self.shown),
+            Said::Never(against) => against.headline(self.shown.view),
             _ if events == 0 => "nothing to audit: the trace has no events".into(),
             _ => format!(
                 "fits: {} of {}{}",
@@ -172,7 +172,7 @@ impl Sentences<'_> {
 
     pub(crate) fn write_details(&self, out: &mut Output) -> io::Result<()> {
         if let Said::Never(against) = &self.outcome.said {
-            return against.write_details(self.shown, out);
+            return write!(out, "{}", against.refused(self.shown.view));
         }
         self.write_lacks(out)?;
         if !self.missing.waiting.is_empty() {

@@ -16,13 +16,13 @@ mod span;
 mod work;
 
 use crate::args::{Export, Target};
-use crate::names::Names;
 use crate::output::{Notes, Output};
-use crate::reason::Against;
-use crate::view::{Shown, View};
+use crate::reason::{paired, Against};
+use crate::view::View;
 use crate::{Failure, Status, Task};
-use gemshowal::{Finding, Never, Paired, Trace};
+use gemshowal::Never;
 use scene::Scene;
+use std::fmt::Display;
 
 /// The greatest number of messages in a drawing that is easily read.
 const READABLE: usize = 300;
@@ -31,33 +31,28 @@ pub(crate) fn run(args: &Export, task: Task<'_>) -> Result<Status, Failure> {
     let Task { input, out, notes, .. } = task;
     let (trace, names) = input.read(notes)?;
     let name = input.line_name();
-    let paired = match Paired::of(trace.streams())? {
-        Ok(paired) => paired,
-        Err(Finding::Unfit(pid, index, reason)) => {
-            return Ok(no(Against::by_audit(pid, index, &reason), &trace, &names, notes));
-        }
-        Err(Finding::Fits(..)) => return Ok(Status::No),
+    let view = View::whole(&trace, &names);
+    let paired = match paired(&view) {
+        // The output is another program's, so standard error says it.
+        Err(Failure::Never(no)) => return Ok(nothing(notes, no.headline)),
+        paired => paired?,
     };
     // The order of all events isn't that of each process then. A graph needs no order.
     let refusal = paired.refusal()?.filter(|_| args.target != Target::Dot);
     if let Some((pid, index, never @ Never::Late(_))) = refusal {
-        return Ok(no(Some(Against::by_complete(pid, index, never)), &trace, &names, notes));
+        let against = Against::by_complete(pid, index, never);
+        return Ok(nothing(notes, against.headline(&view)));
     }
     let label = args.label.as_deref().map(|label| names.find_label(&trace, Some(label)));
     let scene = Scene::new(&trace, &names, &paired, label.transpose()?)?;
     if scene.events().next().is_none() {
-        notes.say(format_args!("no: {name}: there is no event to be drawn"));
-        return Ok(Status::No);
+        return Ok(nothing(notes, format_args!("no: {name}: there is no event to be drawn")));
     }
     write(args.target, &scene, name, out, notes)
 }
 
-/// Says on standard error why there is nothing to draw: the output is another program's.
-fn no(against: Option<Against>, trace: &Trace, names: &Names, notes: &mut Notes) -> Status {
-    let view = View::whole(trace, names);
-    if let Some(against) = against {
-        notes.say(against.headline(&Shown::reported(&view)));
-    }
+fn nothing(notes: &mut Notes, why: impl Display) -> Status {
+    notes.say(why);
     Status::No
 }
 

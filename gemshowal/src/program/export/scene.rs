@@ -65,8 +65,8 @@ impl<'a> Scene<'a> {
         (index < streams.len(pid)).then_some(start + index as usize)
     }
 
-    pub(super) fn partner(&self, (pid, index): Place, event: &Event) -> Partner {
-        gemshowal::partner_at(self.paired.pairing(), pid, index, event.kind)
+    pub(super) fn partner(&self, place: Place, event: &Event) -> Partner {
+        self.paired.partner(place, event.kind)
     }
 
     /// Returns whether the event at this place is a receive whose send nobody reported.

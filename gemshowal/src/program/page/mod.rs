@@ -9,9 +9,8 @@ mod data;
 mod script;
 
 use crate::args::Page as Args;
-use crate::causes::with_causes;
+use crate::causes::{with_causes, Causes};
 use crate::keep::keep;
-use crate::reason::write_unpaired;
 use crate::view::View;
 use crate::{Failure, Status, Task};
 use data::Data;
@@ -29,25 +28,18 @@ pub(crate) fn run(args: &Args, task: Task<'_>) -> Result<Status, Failure> {
     let label = args.label.as_deref().map(|label| names.find_label(&trace, Some(label)));
     let label = label.transpose()?;
     let whole = View::whole(&trace, &names);
-    let told = with_causes(
-        &whole,
-        |_| false,
-        |causes| {
-            let items = causes.order()?;
-            let messages = input.messages(|value| names.has_value(value))?;
-            let title = input.title();
-            let data = Data::of(causes, &items, &title, label, &messages);
-            let page = page(&title, &serde_json::to_string(&data)?);
-            match &args.out {
-                Some(file) => keep(file, page.as_bytes())?,
-                None => out.write_all(page.as_bytes())?,
-            }
-            Ok(Status::Yes)
-        },
-    )?;
-    told.or_else(|finding| {
-        write_unpaired(false, &whole, &finding, out)?;
-        Ok(Status::No)
+    let all = |_: &Causes<'_>| false;
+    with_causes(&whole, all, |causes| {
+        let items = causes.order()?;
+        let messages = input.messages(|value| names.has_value(value))?;
+        let title = input.title();
+        let data = Data::of(causes, &items, &title, label, &messages);
+        let page = page(&title, &serde_json::to_string(&data)?);
+        match &args.out {
+            Some(file) => keep(file, page.as_bytes())?,
+            None => out.write_all(page.as_bytes())?,
+        }
+        Ok(Status::Yes)
     })
 }
 
