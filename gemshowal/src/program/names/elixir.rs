@@ -129,7 +129,7 @@ fn pid(text: &str) -> Option<(Word<'_>, &str)> {
     let end = text.find('>')? + 1;
     let (whole, rest) = text.split_at(end);
     let numbers: Vec<&str> = whole.strip_prefix('<')?.strip_suffix('>')?.split('.').collect();
-    let are_numbers = numbers.iter().all(|it| super::entry::number(it).is_some());
+    let are_numbers = numbers.iter().all(|it| super::files::number(it).is_some());
     (numbers.len() == 3 && are_numbers).then_some((Word::Pid(whole), rest))
 }
 

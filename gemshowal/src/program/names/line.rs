@@ -46,7 +46,7 @@ impl Line<'_> {
     }
 
     pub(crate) fn process(&mut self, names: &Names, pid: Pid) -> &mut Self {
-        match names.terms.process(pid) {
+        match names.terms.processes.get(&pid) {
             Some(process) => self.text(&process.name),
             None => self.pid(pid),
         }

@@ -7,26 +7,21 @@
 
 mod brief;
 mod elixir;
-mod entry;
-mod facts;
-mod kinds;
+mod files;
 mod line;
-mod messages;
-mod shown;
 mod terms;
 mod times;
 mod which;
 
-pub(crate) use entry::Fault;
 #[cfg(test)]
-pub(crate) use entry::FILES;
+pub(crate) use files::FILES;
+pub(crate) use files::{Fault, Messages};
 pub(crate) use line::Line;
-pub(crate) use messages::Messages;
 pub(crate) use times::Times;
 pub(crate) use which::NotFound;
 
 use crate::output::Notes;
-use entry::read_text;
+use files::Beside;
 use gemshowal::{Label, Pid, Text, Trace};
 use std::borrow::Cow;
 use std::path::{Path, PathBuf};
@@ -53,6 +48,13 @@ fn with_extension(name: &Path, extension: &str) -> PathBuf {
     file.into()
 }
 
+/// Returns the file with this extension next to that of a trace. A file of another extension than
+/// `seqtrace` has none, nor has standard input: all is then shown by its numbers.
+fn beside(trace: &Path, extension: &str) -> Option<PathBuf> {
+    let has_others = trace.extension().is_some_and(|own| own == TRACE);
+    has_others.then(|| with_extension(&trace.with_extension(""), extension))
+}
+
 #[derive(Debug, Default)]
 pub(crate) struct Names {
     terms: Terms,
@@ -61,43 +63,34 @@ pub(crate) struct Names {
 }
 
 impl Names {
-    /// Reads the files next to this file of a trace. A file of another extension than `seqtrace`
-    /// has none, nor has standard input: all is then shown by its numbers.
+    /// Reads the files next to this file of a trace.
     pub(crate) fn beside(file: &Path, trace: &Trace, notes: &mut Notes) -> Result<Names, Fault> {
-        if file.extension().is_none_or(|extension| extension != TRACE) {
-            return Ok(Names::default());
+        let Some(file) = beside(file, "terms") else { return Ok(Names::default()) };
+        let next = |extension| Beside::read(file.with_extension(extension));
+        let mut names = Names::default();
+        match next("terms")? {
+            Some(terms) => names.terms = Terms::parse(&terms)?,
+            None => notes.say(format_args!(
+                "note: there is no {}, so numbers are shown in place of names",
+                file.display()
+            )),
         }
-        let name = file.with_extension("");
-        let (terms, facts, times) = ("terms", "facts", "times");
-        let [terms, facts, times] =
-            [terms, facts, times].map(|extension| with_extension(&name, extension));
-        Ok(Names {
-            terms: match read_text(&terms)? {
-                Some(text) => Terms::parse(&text, &terms)?,
-                None => {
-                    notes.say(format_args!(
-                        "note: there is no {}, so numbers are shown in place of names",
-                        terms.display()
-                    ));
-                    Terms::default()
-                }
-            },
-            losses: read_text(&facts)?
-                .map_or(Ok(Vec::new()), |text| facts::losses(&text, &facts))?,
-            times: match read_text(&times)? {
-                Some(text) => Times::parse(&text, &times)?.of_trace(trace, &times, notes),
-                None => None,
-            },
-        })
+        if let Some(facts) = next("facts")? {
+            names.losses = files::losses(&facts)?;
+        }
+        if let Some(times) = next("times")? {
+            names.times = Times::parse(&times)?.of_trace(trace, &times.file, notes);
+        }
+        Ok(names)
     }
 
     /// Returns the short name of a process, or its pid if it has none.
     pub(crate) fn process(&self, pid: Pid) -> Cow<'_, str> {
-        named(self.terms.process(pid).map(|process| &*process.name), || Text(pid).to_string())
+        named(self.terms.processes.get(&pid).map(|it| &*it.name), || Text(pid).to_string())
     }
 
     pub(crate) fn about(&self, pid: Pid) -> Option<&str> {
-        self.terms.process(pid).map(|process| &*process.about)
+        self.terms.processes.get(&pid).map(|process| &*process.about)
     }
 
     pub(crate) fn label(&self, label: Label) -> Cow<'_, str> {
@@ -107,16 +100,9 @@ impl Names {
     /// Returns the term of a message, or `value` and its number if it has none.
     pub(crate) fn value(&self, value: u64) -> Cow<'_, str> {
         match self.terms.value(value) {
-            Some(term) => self.shown(term),
+            Some(term) if self.terms.are_elixir => elixir::text(term).into(),
+            Some(term) => term.into(),
             None => format!("value {value}").into(),
-        }
-    }
-
-    fn shown<'a>(&self, term: &'a str) -> Cow<'a, str> {
-        if self.terms.are_elixir() {
-            elixir::text(term).into()
-        } else {
-            term.into()
         }
     }
 
@@ -128,8 +114,8 @@ impl Names {
     /// servers has: `call {take,apple,3}`.
     pub(crate) fn brief(&self, value: u64) -> Cow<'_, str> {
         match self.terms.value(value).and_then(brief::brief) {
-            Some((way, term)) if self.terms.are_elixir() => {
-                format!("{}{}", elixir::name(&way), self.shown(term)).into()
+            Some((way, term)) if self.terms.are_elixir => {
+                (elixir::name(&way) + &elixir::text(term)).into()
             }
             Some((way, term)) => format!("{way}{term}").into(),
             None => self.value(value),
@@ -144,7 +130,7 @@ impl Names {
 
     /// Returns whether two node numbers may mean one node.
     pub(crate) fn has_further_nodes(&self) -> bool {
-        self.terms.has_further_nodes()
+        !self.terms.further_nodes.is_empty()
     }
 
     pub(crate) fn losses(&self) -> &[String] {
@@ -153,6 +139,33 @@ impl Names {
 
     pub(crate) fn times(&self) -> Option<&Times> {
         self.times.as_ref()
+    }
+
+    /// Returns whether a message is the one by which OTP answers a spawn. It moves the counter of
+    /// the process that asked for it.
+    pub(crate) fn is_spawned(&self, value: u64) -> bool {
+        self.way(value).is_some_and(|way| way == "spawned ")
+    }
+
+    /// Returns whether a message is a reply to an alias, which a caller that waits no longer
+    /// doesn't get.
+    pub(crate) fn is_reply_to_alias(&self, value: u64) -> bool {
+        let is_to_alias = self.terms.value(value).is_some_and(|it| it.starts_with("{[alias|"));
+        is_to_alias && self.way(value).is_some_and(|way| way == "reply ")
+    }
+
+    fn way(&self, value: u64) -> Option<Cow<'static, str>> {
+        Some(brief::brief(self.terms.value(value)?)?.0)
+    }
+
+    /// Returns whether this is a port, which reports no receive.
+    pub(crate) fn is_port(&self, pid: Pid) -> bool {
+        self.about(pid).is_some_and(|about| about.starts_with("port #Port<"))
+    }
+
+    /// Returns whether there is a file that says what numbers mean.
+    pub(crate) fn has_terms(&self) -> bool {
+        !self.terms.is_empty()
     }
 }
 

@@ -3,13 +3,9 @@
 //! NAME` for a further number of a node that has more than one.
 
 use super::elixir;
-use super::entry::{lines, number, Fault};
-use super::shown::escaped;
+use super::files::{escaped, number, Beside, Fault};
 use gemshowal::{Label, Pid};
 use std::collections::{HashMap, HashSet};
-use std::path::Path;
-
-const HEADER: &str = "seqaudit terms 1";
 
 #[derive(Debug)]
 pub(super) struct Process {
@@ -19,26 +15,20 @@ pub(super) struct Process {
 
 #[derive(Debug, Default)]
 pub(super) struct Terms {
-    processes: HashMap<Pid, Process>,
+    pub(super) processes: HashMap<Pid, Process>,
     labels: HashMap<u32, Box<str>>,
     values: HashMap<u64, Box<str>>,
-    further_nodes: HashSet<u64>,
-    are_elixir: bool,
+    /// The further numbers of nodes: two numbers may then mean one node.
+    pub(super) further_nodes: HashSet<u64>,
+    /// Tells whether they name modules of Elixir, so that messages are shown as Elixir writes them.
+    pub(super) are_elixir: bool,
 }
 
 impl Terms {
-    pub(super) fn parse(text: &str, file: &Path) -> Result<Terms, Fault> {
-        let are_elixir = elixir::is_elixir(text);
-        let mut terms = Terms { are_elixir, ..Terms::default() };
-        for (number, line) in lines(text, file, HEADER)? {
-            if terms.add(line).is_none() {
-                return Err(Fault::at(
-                    file,
-                    number,
-                    "an entry of NAME.terms that no line before it has",
-                ));
-            }
-        }
+    pub(super) fn parse(file: &Beside) -> Result<Terms, Fault> {
+        let mut terms = Terms { are_elixir: elixir::is_elixir(&file.text), ..Terms::default() };
+        let wanted = "an entry of NAME.terms that no line before it has";
+        file.take("seqaudit terms 1", wanted, |line| terms.add(line))?;
         Ok(terms)
     }
 
@@ -54,11 +44,10 @@ impl Terms {
                 let process = Process { name: self.name(&text), about: self.name(&about) };
                 self.processes.insert(gemshowal::read_pid(of)?, process).is_none()
             }
-            "label" if self.are_elixir => {
-                let label = number(of)?.try_into().ok()?;
-                self.labels.insert(label, elixir::text(&text).into()).is_none()
+            "label" => {
+                let term = if self.are_elixir { elixir::text(&text).into() } else { text };
+                self.labels.insert(number(of)?.try_into().ok()?, term).is_none()
             }
-            "label" => self.labels.insert(number(of)?.try_into().ok()?, text).is_none(),
             "value" => self.values.insert(number(of)?, text).is_none(),
             "node" => self.further_nodes.insert(number(of)?),
             _ => false,
@@ -74,23 +63,8 @@ impl Terms {
         }
     }
 
-    /// Returns whether they name modules of Elixir, so that messages are shown as Elixir writes
-    /// them.
-    pub(super) fn are_elixir(&self) -> bool {
-        self.are_elixir
-    }
-
-    /// Returns whether two node numbers may mean one node.
-    pub(super) fn has_further_nodes(&self) -> bool {
-        !self.further_nodes.is_empty()
-    }
-
     pub(super) fn is_empty(&self) -> bool {
         self.processes.is_empty() && self.labels.is_empty() && self.values.is_empty()
-    }
-
-    pub(super) fn process(&self, pid: Pid) -> Option<&Process> {
-        self.processes.get(&pid)
     }
 
     pub(super) fn label(&self, label: Label) -> Option<&str> {

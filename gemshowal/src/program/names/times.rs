@@ -7,14 +7,12 @@
 //!
 //! A message between two nodes may seem to take less than no time, as far as their clocks differ.
 
-use super::entry::{lines, number, Fault};
+use super::files::{number, Beside, Fault};
 use crate::output::Notes;
 use crate::view::Place;
 use gemshowal::{Event, Kind, Trace};
 use std::collections::HashMap;
 use std::path::Path;
-
-const HEADER: &str = "seqaudit times 1";
 
 /// Nanoseconds.
 pub(crate) type Time = i64;
@@ -27,19 +25,18 @@ pub(crate) struct Times {
 }
 
 impl Times {
-    pub(super) fn parse(text: &str, file: &Path) -> Result<Times, Fault> {
-        let mut lines = lines(text, file, HEADER)?;
-        let wrong =
-            |line| Fault::at(file, line, "an entry of NAME.times that no line before it has");
-        let begin = lines
-            .next()
-            .and_then(|(_, line)| time(line.strip_prefix("begin ")?))
-            .ok_or_else(|| wrong(2))?;
-        let mut times = Times { begin, ..Times::default() };
-        for (number, line) in lines {
-            times.add(line).ok_or_else(|| wrong(number))?;
-        }
-        Ok(times)
+    pub(super) fn parse(file: &Beside) -> Result<Times, Fault> {
+        let wanted = "an entry of NAME.times that no line before it has";
+        let mut times = None;
+        file.take("seqaudit times 1", wanted, |line| match &mut times {
+            Some(times) => Times::add(times, line),
+            None => {
+                let begin = time(line.strip_prefix("begin ")?)?;
+                times = Some(Times { begin, ..Times::default() });
+                Some(())
+            }
+        })?;
+        times.ok_or_else(|| file.fault(2, wanted))
     }
 
     /// Adds the entry of a line; returns `None` if it isn't one, or its subject has a time already.

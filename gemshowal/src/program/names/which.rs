@@ -1,6 +1,6 @@
 //! The event or label that a word of the command line names.
 
-use super::entry::number;
+use super::files::number;
 use super::Names;
 use gemshowal::{Label, OutOfMemory, Pid, Trace};
 use std::collections::BTreeSet;

@@ -1,0 +1,187 @@
+//! The files that lie next to a trace: `NAME.terms`, `NAME.facts`, `NAME.times` and
+//! `NAME.messages`. Each begins with a header, and has an entry on each further line.
+//!
+//! Whatever text one of them has, a terminal or a page shows characters alone, on their line and in
+//! their order.
+
+use super::Names;
+use std::borrow::Cow;
+use std::collections::{BTreeSet, HashMap};
+use std::fmt::Write;
+#[cfg(not(test))]
+use std::fs::read;
+use std::io::{self, ErrorKind};
+use std::path::{Path, PathBuf};
+use thiserror::Error;
+
+/// The reason why a file next to a trace wasn't taken.
+#[derive(Debug, Error)]
+pub(crate) enum Fault {
+    /// The system doesn't give the file's bytes.
+    #[error("{} can't be read: {reason}", .file.display())]
+    Unread { file: PathBuf, reason: io::Error },
+    #[error("{}, line {line}, isn't {wanted}; convert it anew", .file.display())]
+    Wrong { file: PathBuf, line: usize, wanted: &'static str },
+}
+
+#[cfg(test)]
+thread_local! {
+    /// The files that tests have in place of the system's.
+    pub(crate) static FILES: std::cell::RefCell<HashMap<PathBuf, Vec<u8>>> = Default::default();
+}
+
+#[cfg(test)]
+fn read(file: &Path) -> io::Result<Vec<u8>> {
+    let found = FILES.with_borrow(|files| files.get(file).cloned());
+    found.ok_or_else(|| ErrorKind::NotFound.into())
+}
+
+/// A file that lies next to a trace.
+pub(super) struct Beside {
+    pub(super) file: PathBuf,
+    pub(super) text: String,
+}
+
+impl Beside {
+    /// Reads the file of this path, if it is there.
+    pub(super) fn read(file: PathBuf) -> Result<Option<Beside>, Fault> {
+        let bytes = match read(&file) {
+            Ok(bytes) => bytes,
+            Err(reason) if reason.kind() == ErrorKind::NotFound => return Ok(None),
+            Err(reason) => return Err(Fault::Unread { file, reason }),
+        };
+        match String::from_utf8(bytes) {
+            Ok(text) => Ok(Some(Beside { file, text })),
+            Err(error) => {
+                let valid = &error.as_bytes()[..error.utf8_error().valid_up_to()];
+                let line = 1 + valid.iter().filter(|&&byte| byte == b'\n').count();
+                Err(Fault::Wrong { file, line, wanted: "text in UTF-8" })
+            }
+        }
+    }
+
+    pub(super) fn fault(&self, line: usize, wanted: &'static str) -> Fault {
+        Fault::Wrong { file: self.file.clone(), line, wanted }
+    }
+
+    /// Takes each line after the first one, which has to be this header. The function returns `None`
+    /// if a line isn't what is wanted.
+    pub(super) fn take(
+        &self,
+        header: &'static str,
+        wanted: &'static str,
+        mut take: impl FnMut(&str) -> Option<()>,
+    ) -> Result<(), Fault> {
+        let mut lines = self.text.split_terminator('\n').zip(1..);
+        if lines.next().is_none_or(|(first, _)| first != header) {
+            return Err(self.fault(1, header));
+        }
+        let wrong = lines.find(|(line, _)| take(line).is_none());
+        wrong.map_or(Ok(()), |(_, line)| Err(self.fault(line, wanted)))
+    }
+}
+
+pub(super) fn number(text: &str) -> Option<u64> {
+    text.bytes().all(|byte| byte.is_ascii_digit()).then(|| text.parse().ok())?
+}
+
+/// Returns whether a character controls a terminal, begins a line or turns the direction of
+/// writing. The marks of direction are those of Unicode's bidirectional algorithm.
+fn is_control(c: char) -> bool {
+    c.is_control()
+        || matches!(c, '\u{200E}' | '\u{200F}' | '\u{2028}'..='\u{202E}' | '\u{2066}'..='\u{2069}')
+}
+
+/// Returns the text with its control characters escaped as in Erlang's strings: `\x{1B}`.
+pub(super) fn escaped(text: &str) -> Cow<'_, str> {
+    if !text.chars().any(is_control) {
+        return text.into();
+    }
+    let mut shown = String::with_capacity(text.len());
+    for c in text.chars() {
+        if is_control(c) {
+            let _ = write!(shown, "\\x{{{:X}}}", u32::from(c));
+        } else {
+            shown.push(c);
+        }
+    }
+    shown.into()
+}
+
+/// The kinds of facts that tell of a loss. The others say how the trace was made.
+const LOSSES: [&str; 13] = [
+    "nothing",
+    "lost",
+    "unread",
+    "ended",
+    "dropped",
+    "left",
+    "damaged",
+    "newer",
+    "no_events",
+    "pauses",
+    "written_over",
+    "taken",
+    "nameless",
+];
+
+/// Returns the losses of the conversion by `NAME.facts`, of which a line is the kind of the fact, a
+/// tab and a sentence.
+pub(super) fn losses(facts: &Beside) -> Result<Vec<String>, Fault> {
+    let mut losses = Vec::new();
+    let is_of_kind = |byte: u8| byte.is_ascii_lowercase() || byte == b'_';
+    facts.take("seqaudit facts 1", "an entry of NAME.facts", |line| {
+        let (kind, sentence) = line.split_once('\t')?;
+        losses.extend(LOSSES.contains(&kind).then(|| escaped(sentence).into_owned()));
+        (!kind.is_empty() && kind.bytes().all(is_of_kind)).then_some(())
+    })?;
+    Ok(losses)
+}
+
+/// The whole texts of the messages that `NAME.terms` has cut, by `NAME.messages`, of which a line is
+/// `value NUMBER TERM`, with tabs between. Only a page shows them.
+#[derive(Debug, Default)]
+pub(crate) struct Messages(HashMap<u64, String>);
+
+impl Messages {
+    /// Reads the texts next to this trace for which `is_wanted` is true; none if there is no file.
+    pub(crate) fn beside(trace: &Path, is_wanted: impl Fn(u64) -> bool) -> Result<Messages, Fault> {
+        let mut messages = HashMap::new();
+        let file = super::beside(trace, "messages").map_or(Ok(None), Beside::read)?;
+        let Some(file) = file else { return Ok(Messages(messages)) };
+        file.take("seqaudit messages 1", "an entry of NAME.messages", |line| {
+            let (value, term) = line.strip_prefix("value\t")?.split_once('\t')?;
+            let value = number(value)?;
+            messages.extend(is_wanted(value).then(|| (value, escaped(term).into_owned())));
+            Some(())
+        })?;
+        Ok(Messages(messages))
+    }
+
+    /// Returns the text of a message: whole if this file or the legend has it whole.
+    pub(crate) fn text<'a>(&'a self, value: u64, names: &'a Names) -> Cow<'a, str> {
+        self.0.get(&value).map_or_else(|| names.value(value), |text| Cow::Borrowed(text.as_str()))
+    }
+
+    /// Returns the length to which the texts of these messages are cut so that they have this
+    /// number of characters together: what the short ones leave is shared among the others. Returns
+    /// `None` if all fit.
+    pub(crate) fn most(
+        &self,
+        values: &BTreeSet<u64>,
+        names: &Names,
+        limit: usize,
+    ) -> Option<usize> {
+        let length = |&value: &u64| self.text(value, names).chars().count();
+        let mut lengths: Vec<usize> = values.iter().map(length).collect();
+        lengths.sort_unstable();
+        let mut left = limit;
+        for (&length, others) in lengths.iter().zip((1..=lengths.len()).rev()) {
+            if length.saturating_mul(others) > left {
+                return Some(left / others);
+            }
+            left -= length;
+        }
+        None
+    }
+}
