@@ -2,11 +2,10 @@
 //! stood above, so that no mistake is named twice.
 
 use super::grammar::{read, Above, Pid, Scan, Sort, Wanted};
-use super::kind::Kind;
 use super::mend::{can_only_end, mended_line, mends};
 use super::mistake::Mistake;
 use super::remedy::{remedy_of, remedy_of_text};
-use super::text::{lines, Line};
+use super::text::{lines, Kind, Line};
 use gemshowal::LIMITS;
 use std::collections::{HashMap, HashSet};
 

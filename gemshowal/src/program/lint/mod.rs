@@ -4,7 +4,6 @@
 
 mod grammar;
 mod judge;
-mod kind;
 mod mend;
 mod mistake;
 mod remedy;
