@@ -3,7 +3,7 @@
 
 use super::report::Part;
 use super::sentences::write_losses;
-use super::{Auditor, Outcome, NOT_PROVED};
+use super::{Auditor, NOT_PROVED};
 use crate::output::Output;
 use crate::view::{count, grouped, short, Kept};
 use crate::{Failure, Status};
@@ -30,8 +30,12 @@ pub(super) fn run(auditor: &Auditor<'_>, out: &mut Output) -> Result<Status, Fai
     for ((pid, index), event) in auditor.view.trace.events() {
         by_label.entry(event.label.0).or_default().entry(pid).or_default().push(index);
     }
-    let audited = by_label.iter().map(|(&label, kept)| audited(auditor, Label(label), kept));
-    let labels = audited.collect::<Result<Vec<OfLabel>, _>>()?;
+    let of_label = |(&label, kept): (&u32, &Kept)| {
+        let trace = auditor.view.trace.part(kept)?;
+        let label = auditor.view.names.label(Label(label)).into_owned();
+        Ok(OfLabel { label, part: auditor.part(&trace, kept, true)? })
+    };
+    let labels = by_label.iter().map(of_label).collect::<Result<Vec<OfLabel>, CompleteError>>()?;
     let (fits, of) = (labels.iter().filter(|it| it.part.fits).count(), labels.len());
     let status = if fits == of && of > 0 { Status::Yes } else { Status::No };
     let losses = auditor.view.names.losses();
@@ -47,14 +51,4 @@ pub(super) fn run(auditor: &Auditor<'_>, out: &mut Output) -> Result<Status, Fai
     write_losses(losses, out)?;
     writeln!(out, "{NOT_PROVED}")?;
     Ok(status)
-}
-
-fn audited(auditor: &Auditor<'_>, label: Label, kept: &Kept) -> Result<OfLabel, CompleteError> {
-    let trace = auditor.view.trace.part(kept)?;
-    let view = auditor.view.part(&trace, kept, true);
-    let outcome = Outcome::of(&trace)?;
-    let shown = outcome.shown(&view);
-    let missing = outcome.missing(&shown)?;
-    let part = Part::new(&auditor.sentences(&outcome, &shown, &missing));
-    Ok(OfLabel { label: auditor.view.names.label(label).into_owned(), part })
 }

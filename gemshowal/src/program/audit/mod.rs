@@ -24,6 +24,7 @@ use crate::{Failure, Status, Task};
 use gemshowal::{CertificateError, CompleteError, Event, OutOfMemory, Trace};
 use missing::Missing;
 use others::Comparison;
+use report::Part;
 use sentences::{write_losses, Sentences};
 use std::collections::HashSet;
 use std::fs::File;
@@ -71,13 +72,7 @@ struct Audited<'a> {
     outcome: &'a Outcome,
     missing: Missing,
     /// The parts between possible resets, if the trace doesn't fit and a reset may explain it.
-    parts: Vec<Part>,
-}
-
-struct Part {
-    kept: Kept,
-    trace: Trace,
-    outcome: Outcome,
+    parts: Vec<(Kept, Part)>,
 }
 
 /// Returns whether an event is twice in the trace, and its node gave the two no different times.
@@ -121,7 +116,7 @@ impl Auditor<'_> {
         let others = others::ask(self.args, self.view.trace, &outcome, self.input.line_name())?;
         let audited = self.audited(&outcome)?;
         if self.json {
-            report::write(self, &audited, &others, out)?;
+            report::write(self, audited, &others, out)?;
         } else {
             self.write(&audited, &others, out)?;
         }
@@ -136,8 +131,8 @@ impl Auditor<'_> {
     fn audited<'a>(&self, outcome: &'a Outcome) -> Result<Audited<'a>, CompleteError> {
         let missing = outcome.missing(&outcome.shown(self.view))?;
         let audited = |(kept, trace): (Kept, Trace)| {
-            let outcome = Outcome::of(&trace)?;
-            Ok(Part { kept, trace, outcome })
+            let part = self.part(&trace, &kept, self.view.is_cut)?;
+            Ok((kept, part))
         };
         let parts = match &outcome.said {
             Said::Never(against) if against.allows_reset() => {
@@ -146,6 +141,15 @@ impl Auditor<'_> {
             _ => Vec::new(),
         };
         Ok(Audited { outcome, missing, parts })
+    }
+
+    /// Audits a part of the trace by itself.
+    fn part(&self, trace: &Trace, kept: &Kept, is_cut: bool) -> Result<Part, CompleteError> {
+        let view = self.view.part(trace, kept, is_cut);
+        let outcome = Outcome::of(trace)?;
+        let shown = outcome.shown(&view);
+        let missing = outcome.missing(&shown)?;
+        Ok(Part::new(&self.sentences(&outcome, &shown, &missing)))
     }
 
     fn write_acts(&self, outcome: &Outcome, path: &Path) -> Result<(), Failure> {
@@ -186,7 +190,7 @@ impl Auditor<'_> {
         writeln!(out, "{}", sentences.headline())?;
         sentences.write_details(out)?;
         if !audited.parts.is_empty() {
-            report::write_parts(self, &audited.parts, out)?;
+            report::write_parts(self.view, &audited.parts, out)?;
         }
         write_losses(self.view.names.losses(), out)?;
         if let (Some(times), None) = (self.view.names.times(), &self.cut) {

@@ -9,46 +9,37 @@ use crate::output::Output;
 use crate::reason::Refused;
 use crate::view::{Kept, Place, Shown, View};
 use crate::Failure;
-use gemshowal::{OutOfMemory, Pid};
+use gemshowal::Pid;
 use serde::Serialize;
 use std::collections::BTreeMap;
-use std::io::Write;
+use std::io::{self, Write};
 
 /// Writes where resets may have been, and the findings about each part.
 pub(super) fn write_parts(
-    auditor: &Auditor<'_>,
-    parts: &[super::Part],
+    view: &View<'_>,
+    parts: &[(Kept, Part)],
     out: &mut Output,
-) -> Result<(), Failure> {
-    let found = parts.iter().map(|part| found(auditor, part)).collect::<Result<Vec<_>, _>>()?;
-    write!(out, "{}", where_resets(auditor.view, parts, &found))?;
-    for (part, number) in found.iter().zip(1..) {
+) -> io::Result<()> {
+    write!(out, "{}", where_resets(view, parts))?;
+    for ((_, part), number) in parts.iter().zip(1..) {
         writeln!(out, "part {number}: {}", part.headline)?;
     }
     Ok(())
 }
 
-fn found(auditor: &Auditor<'_>, part: &super::Part) -> Result<Part, OutOfMemory> {
-    let view = auditor.view.part(&part.trace, &part.kept, auditor.view.is_cut);
-    let shown = part.outcome.shown(&view);
-    let missing = part.outcome.missing(&shown)?;
-    Ok(Part::new(&auditor.sentences(&part.outcome, &shown, &missing)))
-}
-
 /// Says where the resets between the parts are, and whether they would explain the trace.
-fn where_resets(view: &View<'_>, parts: &[super::Part], found: &[Part]) -> String {
-    let kept: Vec<&Kept> = parts.iter().map(|part| &part.kept).collect();
+fn where_resets(view: &View<'_>, parts: &[(Kept, Part)]) -> String {
     let places: Vec<String> =
-        (1..kept.len()).map(|at| reset_at(view, &kept[..at], &kept[at..])).collect();
+        (1..parts.len()).map(|at| reset_at(view, &parts[..at], &parts[at..])).collect();
     let numbered = || {
         let lines = places.iter().zip(1..);
         lines.map(|(place, at): (&String, u64)| format!("  {at}. {place}\n")).collect::<String>()
     };
-    let lacking = match found.iter().any(Part::lacks) {
+    let lacking = match parts.iter().any(|(_, part)| part.lacks()) {
         true => ", if what the parts lack wasn't reported",
         false => "",
     };
-    match (&places[..], parts.iter().all(|part| part.outcome.is_fit())) {
+    match (&places[..], parts.iter().all(|(_, part)| part.fits)) {
         ([place], true) => {
             format!("A reset would explain it, as two runs in one trace would{lacking}: {place}.\n")
         }
@@ -70,10 +61,10 @@ fn where_resets(view: &View<'_>, parts: &[super::Part], found: &[Part]) -> Strin
 
 /// Says where a reset is, by the last event of each process before it and the first one after it.
 /// If no process has events on both sides, it names the processes of each side.
-fn reset_at(view: &View<'_>, before: &[&Kept], behind: &[&Kept]) -> String {
-    let pids: Vec<Pid> = view.trace.streams().pids().to_vec();
-    let last = |pid: &Pid| before.iter().rev().find_map(|kept| kept.get(pid)?.last().copied());
-    let first = |pid: &Pid| behind.iter().find_map(|kept| kept.get(pid)?.first().copied());
+fn reset_at(view: &View<'_>, before: &[(Kept, Part)], behind: &[(Kept, Part)]) -> String {
+    let pids = view.trace.streams().pids();
+    let last = |pid: &Pid| before.iter().rev().find_map(|(kept, _)| kept.get(pid)?.last().copied());
+    let first = |pid: &Pid| behind.iter().find_map(|(kept, _)| kept.get(pid)?.first().copied());
     let shown = Shown::reported(view);
     let between: Vec<String> = pids
         .iter()
@@ -215,19 +206,18 @@ struct Whole<'a> {
 
 pub(super) fn write(
     auditor: &Auditor<'_>,
-    audited: &Audited<'_>,
+    audited: Audited<'_>,
     others: &[Comparison],
     out: &mut Output,
 ) -> Result<(), Failure> {
     let shown = audited.outcome.shown(auditor.view);
     let whole = Part::new(&auditor.sentences(audited.outcome, &shown, &audited.missing));
-    let parts = audited.parts.iter().map(|part| found(auditor, part)).collect::<Result<_, _>>()?;
     let result = whole.said;
     let word = |asked| others.iter().find(|other| other.asked == asked).map(Comparison::word);
     let object = Whole {
         whole,
         cut: auditor.cut.as_deref(),
-        parts,
+        parts: audited.parts.into_iter().map(|(_, part)| part).collect(),
         losses: auditor.view.names.losses(),
         proved: word(Asked::Proved).unwrap_or("not asked"),
         second: word(Asked::Second),
