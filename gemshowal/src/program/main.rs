@@ -19,7 +19,6 @@ mod failure;
 #[cfg(test)]
 mod fuzz;
 mod input;
-mod keep;
 mod lint;
 mod list;
 mod moment;
@@ -41,7 +40,7 @@ mod words;
 use crate::args::{Args, Command};
 use crate::failure::{Failure, Status, PIPE};
 use crate::input::Input;
-use crate::output::{Headings, Notes, Output};
+use crate::output::{Notes, Output};
 use serde::Serialize;
 use std::env;
 use std::io::{ErrorKind, Write};
@@ -90,26 +89,20 @@ fn run_on(command: &Command, task: Task<'_>) -> Result<Status, Failure> {
 fn run_on_path(
     args: &Args,
     path: &Path,
-    headings: &mut Headings,
+    out: &mut Output,
     notes: &mut Notes,
 ) -> Result<Status, Failure> {
     let Args { command, json, .. } = args;
-    let mut opened = Input::open(path);
-    let name = match &opened {
-        Ok(input) => input.name().to_owned(),
-        Err(_) => path.to_string_lossy().into_owned(),
-    };
-    let mut out = headings.output(&name)?;
-    let ended = match &mut opened {
-        Ok(input) => {
-            let task = Task { json: *json, input, out: &mut out, notes };
-            run_on(command, task).and_then(|status| Ok(out.finish().map(|()| status)?))
-        }
-        Err(_) => opened.map(|_| Status::Yes),
-    };
-    let ended = ended.or_else(|failure| report(failure, *json, &mut out));
-    headings.note(&out);
-    ended
+    let opened = Input::open(path);
+    let name = opened.as_ref().map_or_else(|_| path.to_string_lossy(), |it| it.name().into());
+    out.begin(&name);
+    opened
+        .and_then(|mut input| {
+            let task = Task { json: *json, input: &mut input, out, notes };
+            let status = run_on(command, task)?;
+            Ok(out.finish().map(|()| status)?)
+        })
+        .or_else(|failure| report(failure, *json, out))
 }
 
 /// Writes in place of a result what there is to say of a failure.
@@ -132,41 +125,39 @@ fn report(failure: Failure, is_json: bool, out: &mut Output) -> Result<Status, F
 }
 
 /// Does the command on one input after the other. The status is that of the worst.
-fn run(word: &str, args: &Args) -> u8 {
+fn run(word: &str, args: &Args) -> Result<u8, Failure> {
     let mut status = 0;
     let files = args.command.files();
-    let mut headings = Headings::new(word, files.len() > 1 && !args.json, args.quiet);
+    let mut out = Output::new(word, files.len() > 1 && !args.json, args.quiet)?;
     for path in files {
         let mut notes = Notes::default();
-        let ended = run_on_path(args, path, &mut headings, &mut notes);
+        let ended = run_on_path(args, path, &mut out, &mut notes);
         if ended.as_ref().is_err_and(|failure| failure.status() == PIPE) {
-            return PIPE;
+            return Ok(PIPE);
         }
         if !args.quiet {
             notes.send();
         }
-        match ended {
-            Ok(ended) => status = status.max(ended as u8),
-            Err(failure) => {
-                output::complain(format_args!("error: {failure}\n"));
-                status = status.max(failure.status());
-                if matches!(failure, Failure::Unwritten(_)) {
-                    break;
-                }
-            }
-        }
+        status = status.max(match ended {
+            Ok(ended) => ended as u8,
+            Err(failure @ Failure::Unwritten(_)) => return Ok(status.max(complain(&failure))),
+            Err(failure) => complain(&failure),
+        });
     }
-    status
+    Ok(status)
+}
+
+/// Says an error, and returns the status that it gives.
+fn complain(failure: &Failure) -> u8 {
+    output::complain(format_args!("error: {failure}\n"));
+    failure.status()
 }
 
 /// Prints the words of the command line's reader: help, the version, or what it doesn't understand.
 fn print(error: &clap::Error) -> u8 {
     match error.print() {
         Err(reason) if reason.kind() == ErrorKind::BrokenPipe => PIPE,
-        Err(reason) => {
-            output::complain(format_args!("error: {}\n", Failure::Unwritten(reason)));
-            4
-        }
+        Err(reason) => complain(&Failure::Unwritten(reason)),
         Ok(()) if error.use_stderr() => USAGE,
         Ok(()) => 0,
     }
@@ -182,7 +173,7 @@ fn main() -> ExitCode {
         Ok((_, Args { command: Command::Pieces(pieces), quiet, .. })) => {
             pieces::run(&pieces, quiet)
         }
-        Ok((word, args)) => run(&word, &args),
+        Ok((word, args)) => run(&word, &args).unwrap_or_else(|failure| complain(&failure)),
         Err(error) => print(&error),
     })
 }

@@ -8,8 +8,8 @@
 
 use crate::causes::{Cause, Causes, Grade};
 use crate::chart::{short, Chart, Row};
-use crate::keep::keep;
 use crate::object::kind_word;
+use crate::output::keep;
 use crate::view::count;
 use crate::{words, Failure};
 use gemshowal::{Item, Kind, Pid};

@@ -10,7 +10,7 @@ mod script;
 
 use crate::args::Page as Args;
 use crate::causes::{with_causes, Causes};
-use crate::keep::keep;
+use crate::output::keep;
 use crate::view::View;
 use crate::{Failure, Status, Task};
 use data::Data;
