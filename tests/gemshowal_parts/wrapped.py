@@ -66,7 +66,9 @@ SAID = (
      ["doesn't fit: in no order of the events does each receive come after its send, because of <0.30.0>#0, <0.31.0>#0\n"]),
     ("no events", trace([], [], []), 1, ["nothing to audit: the trace has no events\n"]),
 )
-FAULTS = (("a count with a plus", b"{0,1}", b"{0,+1}", b"line 3 "), ("a count that no node has", b"{1,2}", b"{1,576460752303423488}", b"line 4 "),
+FAULTS = (("a count with a plus", b"{0,1}", b"{0,+1}", b"line 3 "), ("a count of minus 0", b"{0,1}", b"{-0,1}", b"line 3 "),
+          ("a count with a leading 0", b"{1,2}", b"{01,2}", b"line 4 "), ("no count", b"{1,2}", b"{,2}", b"line 4 "),
+          ("a count below the least", b"{1,2}", b"{1,-576460752303423489}", b"line 4 "), ("a count that no node has", b"{1,2}", b"{1,576460752303423488}", b"line 4 "),
           ("a word that is no kind", b"{answer,", b"{answers,", b"line 4 "), ("a pid that isn't listed", b"process <0.32.0>\n", b"", None))
 
 
