@@ -41,6 +41,9 @@ const STYLE: &str = include_str!("../../page/chart.css");
 /// The ends of arrows: of a message that was reported, of one that wasn't, and the bar.
 const ENDS: &str = include_str!("../../page/arrows.svg");
 
+/// The words for each mark: of what is unreported, of what is doubtful, and of the bar.
+const KEY: &str = include_str!("../../page/key.svg");
+
 pub(crate) fn write(file: &Path, causes: &Causes<'_>, chart: &Chart) -> Result<(), Failure> {
     if chart.rows.len() > MOST_ROWS {
         return Err(Failure::TooManyRows(chart.rows.len(), MOST_ROWS));
@@ -75,7 +78,7 @@ impl<'a> Drawing<'a> {
     /// Draws the texts and names last, so that no arrow hides them.
     fn draw(&self, out: &mut String) -> fmt::Result {
         let (width, height) = (self.width, self.height);
-        writeln!(out, "<?xml version=\"1.0\" encoding=\"UTF-8\"?>")?;
+        writeln!(out, r#"<?xml version="1.0" encoding="UTF-8"?>"#)?;
         writeln!(
             out,
             "<svg xmlns=\"http://www.w3.org/2000/svg\" width=\"{width}\" height=\"{height}\" \
@@ -96,11 +99,7 @@ impl<'a> Drawing<'a> {
             .try_for_each(|block| self.lane_names(out, block))?;
         for (number, name) in self.names.iter().enumerate() {
             let (x, y) = (LEFT - 20, y(number) + 4);
-            writeln!(
-                out,
-                "<text class=\"n\" x=\"{x}\" y=\"{y}\">{}</text>",
-                Xml(&short(name, NAME))
-            )?;
+            writeln!(out, r#"<text class="n" x="{x}" y="{y}">{}</text>"#, Xml(&short(name, NAME)))?;
         }
         writeln!(out, "</svg>")
     }
@@ -115,44 +114,29 @@ impl<'a> Drawing<'a> {
         let label = self.causes.names().label(self.chart.label);
         let (rows, lanes) = (count(rows as u64, "event"), count(lanes as u64, "process"));
         let title = format!("label {label}: {rows}, {lanes}");
-        writeln!(out, "<text class=\"h\" x=\"12\" y=\"26\">{}</text>", Xml(&title))?;
-        let class = if self.causes.never().is_some() { "class=\"w\" " } else { "" };
+        writeln!(out, r#"<text class="h" x="12" y="26">{}</text>"#, Xml(&title))?;
+        let class = if self.causes.never().is_some() { r#"class="w" "# } else { "" };
         let said = Xml(&short(&words::headline(self.causes), HEADING)).to_string();
-        writeln!(out, "<text {class}x=\"12\" y=\"46\">{said}</text>")?;
+        writeln!(out, r#"<text {class}x="12" y="46">{said}</text>"#)?;
         let losses = self.causes.names().losses().join("; ");
         if !losses.is_empty() {
             let losses = short(&format!("this trace isn't whole: {losses}"), HEADING);
-            writeln!(out, "<text class=\"w\" x=\"12\" y=\"86\">{}</text>", Xml(&losses))?;
+            writeln!(out, r#"<text class="w" x="12" y="86">{}</text>"#, Xml(&losses))?;
         }
         Ok(())
     }
 
     /// Explains the marks of the drawing that aren't plain.
     fn key(&self, out: &mut String) -> fmt::Result {
-        let rows = || self.chart.rows.iter();
-        if rows().any(|row| !self.is_reported(row)) {
-            writeln!(
-                out,
-                "<g class=\"d\"><path d=\"M12 62H48\"/></g>\
-                 <circle class=\"u\" cx=\"30\" cy=\"62\" r=\"4\"/>\
-                 <text x=\"56\" y=\"66\">unreported, as other events suggest</text>"
-            )?;
-        }
-        if rows().any(|row| self.is_doubtful(row)) {
-            writeln!(
-                out,
-                "<text class=\"q\" x=\"352\" y=\"66\">?</text>\
-                 <text x=\"364\" y=\"66\">what it follows may be unreported</text>"
-            )?;
-        }
-        if rows().any(|row| row.event.kind == Kind::Send && self.receive(row).is_none()) {
-            writeln!(
-                out,
-                "<g class=\"s\"><path d=\"M592 62H628\" marker-end=\"url(#x)\"/></g>\
-                 <text x=\"640\" y=\"66\">a message whose receive isn't in the chart</text>"
-            )?;
-        }
-        Ok(())
+        let rows = &self.chart.rows;
+        let is_open = |row: &Row| row.event.kind == Kind::Send && self.receive(row).is_none();
+        let are_used = [
+            rows.iter().any(|row| !self.is_reported(row)),
+            rows.iter().any(|row| self.is_doubtful(row)),
+            rows.iter().any(is_open),
+        ];
+        let mut used = KEY.lines().zip(are_used).filter(|(_, is_used)| *is_used);
+        used.try_for_each(|(line, _)| writeln!(out, "{line}"))
     }
 
     /// Shades every other five rows of the ground, so that the eye keeps the height across many
@@ -160,16 +144,13 @@ impl<'a> Drawing<'a> {
     fn ground(&self, out: &mut String) -> fmt::Result {
         for first in (5..self.chart.rows.len()).step_by(10) {
             let (y, width, height) = (y(first) - ROW / 2, self.width, 5 * ROW);
-            writeln!(
-                out,
-                "<rect class=\"z\" x=\"0\" y=\"{y}\" width=\"{width}\" height=\"{height}\"/>"
-            )?;
+            writeln!(out, r#"<rect class="z" x="0" y="{y}" width="{width}" height="{height}"/>"#)?;
         }
         for (lane, &pid) in self.chart.lanes.iter().enumerate() {
             let dashed =
-                if self.causes.is_unlisted(pid) { " stroke-dasharray=\"4 4\"" } else { "" };
+                if self.causes.is_unlisted(pid) { r#" stroke-dasharray="4 4""# } else { "" };
             let (x, top, bottom) = (x(lane), TOP - ROW, self.height - ROW);
-            writeln!(out, "<path class=\"l\"{dashed} d=\"M{x} {top}V{bottom}\"/>")?;
+            writeln!(out, r#"<path class="l"{dashed} d="M{x} {top}V{bottom}"/>"#)?;
         }
         Ok(())
     }
@@ -182,12 +163,11 @@ impl<'a> Drawing<'a> {
             write!(out, "<g><title>{}</title>", Xml(&self.about(pid)))?;
             write!(
                 out,
-                "<rect class=\"b\" x=\"{left}\" y=\"{top}\" width=\"{width}\" height=\"24\" \
-                 rx=\"4\"/>"
+                r#"<rect class="b" x="{left}" y="{top}" width="{width}" height="24" rx="4"/>"#
             )?;
             let (y, name) = (top + 16, short(&name, NAME));
             let text = Xml(&name);
-            writeln!(out, "<text x=\"{x}\" y=\"{y}\" text-anchor=\"middle\">{text}</text></g>")?;
+            writeln!(out, r#"<text x="{x}" y="{y}" text-anchor="middle">{text}</text></g>"#)?;
         }
         Ok(())
     }
@@ -238,11 +218,11 @@ impl<'a> Drawing<'a> {
     fn mark(&self, out: &mut String, row: &Row, number: usize) -> fmt::Result {
         let (x, y) = (x(row.lane), y(number));
         if self.is_doubtful(row) {
-            write!(out, "<text class=\"q\" x=\"{}\" y=\"{}\">?</text>", x - 14, y + 4)?;
+            write!(out, r#"<text class="q" x="{}" y="{}">?</text>"#, x - 14, y + 4)?;
         }
         let circle = match (row.event.kind, self.is_reported(row)) {
             (Kind::Print, _) => {
-                return write!(out, "<path class=\"p\" d=\"M{x} {}l5 5l-5 5l-5 -5z\"/>", y - 5)
+                return write!(out, r#"<path class="p" d="M{x} {}l5 5l-5 5l-5 -5z"/>"#, y - 5)
             }
             (_, false) => "u",
             (Kind::Receive, true) => "s r",
@@ -251,7 +231,7 @@ impl<'a> Drawing<'a> {
         if row.event.kind == Kind::Send {
             self.arrow(out, row, number)?;
         }
-        write!(out, "<circle class=\"{circle}\" cx=\"{x}\" cy=\"{y}\" r=\"3.5\"/>")
+        write!(out, r#"<circle class="{circle}" cx="{x}" cy="{y}" r="3.5"/>"#)
     }
 
     fn arrow(&self, out: &mut String, row: &Row, number: usize) -> fmt::Result {
@@ -269,7 +249,7 @@ impl<'a> Drawing<'a> {
         } else {
             line(from, (x(lane), y(at)))
         };
-        write!(out, "<g class=\"{class}\"><path d=\"{path}\" marker-end=\"url(#{end})\"/></g>")
+        write!(out, r#"<g class="{class}"><path d="{path}" marker-end="url(#{end})"/></g>"#)
     }
 
     /// Writes the text next to a mark: for a print its message, for a send the message too, which
@@ -293,7 +273,7 @@ impl<'a> Drawing<'a> {
         let text = short(&text, TEXT);
         write!(
             out,
-            "<text class=\"t\" x=\"{x}\" y=\"{y}\" text-anchor=\"{anchor}\">{}</text>",
+            r#"<text class="t" x="{x}" y="{y}" text-anchor="{anchor}">{}</text>"#,
             Xml(&text)
         )
     }
