@@ -1,10 +1,12 @@
 //! The questions that a program asks of a trace, each with a result of its own type.
 
 use crate::device::Sink;
-use crate::{Act, Answer, CompleteError, Completion, Event, Finding, Global, Hop, Never, Node};
-use crate::{OutOfMemory, PairError, Paired, Pid, Reach, Reason, Text, Trace, TOP};
+use crate::{Act, Answer, CompleteError, Completion, Event, Finding, Hop, Never, Node};
+use crate::{OutOfMemory, PairError, Paired, Pid, Reach, Reason, Streams, Text, Trace, TOP};
 use lack_decide::CompleteFault;
+use st_library::alloc::Global;
 use st_library::rt::HostRuntime;
+use st_world::{StepFault, World};
 use std::collections::{BTreeMap, BTreeSet};
 use std::fmt::{self, Display, Formatter};
 use std::io::{self, Write};
@@ -194,4 +196,44 @@ pub fn added(completion: &Completion) -> impl Iterator<Item = (Pid, u64, &Event)
 /// Writes what a completion adds, as `seqtool complete` does.
 pub fn write_added(out: &mut impl Write, completion: &Completion) -> io::Result<()> {
     Sink::write(out, |sink| seqtool_commands::send_added(sink, completion))
+}
+
+/// The tracing state of a process: its token, its clock, the count that it received last with a
+/// token, or that of a new trace's start, and whether a tracer is set on its node.
+pub type State = st_core::Local<TOP>;
+
+/// A run under way.
+pub struct Rerun {
+    world: World<TOP>,
+}
+
+/// The outcome of an act.
+#[derive(Clone, Copy, Debug, PartialEq, Eq)]
+pub enum Came {
+    /// A step, with its report if it made one, and for a receive the message's place in the queue.
+    Step(Option<Event>, Option<u64>),
+    /// No step: a process isn't there, or a clock is at its greatest value.
+    Stuck,
+}
+
+impl Rerun {
+    /// Begins a run of these processes, before its first act.
+    pub fn new(streams: &Streams) -> Result<Rerun, OutOfMemory> {
+        let world = World::new(Global, streams.pids()).map_err(|_| OutOfMemory)?;
+        Ok(Rerun { world })
+    }
+
+    /// Makes an act. One without a step changes nothing.
+    pub fn take(&mut self, act: &Act) -> Result<Came, OutOfMemory> {
+        match self.world.step(act) {
+            Ok(outcome) => Ok(Came::Step(outcome.report, outcome.place)),
+            Err(StepFault::Memory) => Err(OutOfMemory),
+            Err(StepFault::Unknown | StepFault::ClockFull) => Ok(Came::Stuck),
+        }
+    }
+
+    /// Returns the state of a process, or `None` if the run hasn't the process.
+    pub fn state(&self, pid: Pid) -> Option<State> {
+        self.world.local(pid)
+    }
 }

@@ -122,7 +122,6 @@ struct Found<'a> {
 }
 
 impl<'a> Found<'a> {
-    /// Makes these acts, and then the one that is refused.
     fn of(
         trace: &'a Trace,
         acts: &[Act],

@@ -1,15 +1,15 @@
 //! An input: standard input, a file, or the file of a trace's name, packed by gzip or not.
 
-use crate::lint;
 use crate::names::{self, Messages, Names};
 use crate::output::Notes;
-use crate::spool::Spooled;
-use crate::Failure;
+use crate::{lint, Failure};
 use flate2::read::MultiGzDecoder;
 use gemshowal::{NodeTrace, ReadError, Trace, WRAPPED};
-use std::fs::File;
-use std::io::{self, BufReader, Cursor, ErrorKind, Read, Seek};
+use std::fs::{self, File, OpenOptions};
+use std::io::{self, BufReader, Cursor, ErrorKind, Read, Seek, Write};
+use std::os::unix::fs::OpenOptionsExt;
 use std::path::{Path, PathBuf};
+use std::{env, process};
 
 /// The first bytes of a packed file.
 const GZIP: &[u8] = b"\x1f\x8b";
@@ -204,4 +204,58 @@ fn on_one_line(name: &str) -> &str {
     } else {
         name
     }
+}
+
+/// The greatest number of bytes that are kept in memory. A longer text goes to a file that has no
+/// name any more.
+const IN_MEMORY: usize = 16_777_216;
+
+/// A reader that keeps what it reads. If that fails, it goes on, and the text is lost.
+pub(crate) struct Spooled<R> {
+    reader: R,
+    held: Vec<u8>,
+    file: io::Result<Option<File>>,
+}
+
+impl<R: Read> Spooled<R> {
+    pub(crate) fn new(reader: R) -> Spooled<R> {
+        Spooled { reader, held: Vec::new(), file: Ok(None) }
+    }
+
+    pub(crate) fn bytes(self) -> io::Result<Vec<u8>> {
+        let Some(mut file) = self.file? else { return Ok(self.held) };
+        let mut bytes = Vec::new();
+        file.rewind()?;
+        file.read_to_end(&mut bytes)?;
+        bytes.extend_from_slice(&self.held);
+        Ok(bytes)
+    }
+}
+
+impl<R: Read> Read for Spooled<R> {
+    fn read(&mut self, piece: &mut [u8]) -> io::Result<usize> {
+        let taken = self.reader.read(piece)?;
+        if let Ok(file) = &mut self.file {
+            self.held.extend_from_slice(&piece[..taken]);
+            if self.held.len() > IN_MEMORY {
+                self.file = poured(file.take(), &self.held).map(Some);
+                self.held.clear();
+            }
+        }
+        Ok(taken)
+    }
+}
+
+fn poured(file: Option<File>, bytes: &[u8]) -> io::Result<File> {
+    let mut file = file.map_or_else(nameless, Ok)?;
+    file.write_all(bytes)?;
+    Ok(file)
+}
+
+fn nameless() -> io::Result<File> {
+    let path = env::temp_dir().join(format!("gemshowal-{}", process::id()));
+    let file =
+        OpenOptions::new().read(true).write(true).create_new(true).mode(0o600).open(&path)?;
+    fs::remove_file(&path)?;
+    Ok(file)
 }

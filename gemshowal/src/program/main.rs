@@ -12,7 +12,6 @@ mod check;
 mod complete;
 mod cut;
 mod diff;
-mod durations;
 mod erlang;
 mod export;
 mod failure;
@@ -29,7 +28,6 @@ mod page;
 mod pieces;
 mod reason;
 mod spawns;
-mod spool;
 mod stats;
 mod svg;
 mod times;
@@ -56,7 +54,6 @@ struct Failed {
     error: String,
 }
 
-/// A command's work on one input.
 struct Task<'a> {
     json: bool,
     input: &'a mut Input,

@@ -1,7 +1,5 @@
 //! The command `audit`: whether the events of a trace fit together, and what is missing.
 
-mod counter;
-mod each;
 mod missing;
 mod others;
 mod outcome;
@@ -107,7 +105,7 @@ pub(crate) fn parts(view: &View<'_>) -> Result<Vec<(Kept, Trace)>, OutOfMemory> 
 impl Auditor<'_> {
     fn run(&self, out: &mut Output) -> Result<Status, Failure> {
         if self.args.each_label {
-            return each::run(self, out);
+            return report::write_each(self, out);
         }
         let outcome = Outcome::of(self.view.trace)?;
         if let Some(path) = &self.args.acts {
@@ -143,7 +141,6 @@ impl Auditor<'_> {
         Ok(Audited { outcome, missing, parts })
     }
 
-    /// Audits a part of the trace by itself.
     fn part(&self, trace: &Trace, kept: &Kept, is_cut: bool) -> Result<Part, CompleteError> {
         let view = self.view.part(trace, kept, is_cut);
         let outcome = Outcome::of(trace)?;

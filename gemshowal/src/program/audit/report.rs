@@ -2,19 +2,18 @@
 
 use super::missing::{Known, Lack};
 use super::others::{Asked, Comparison};
-use super::sentences::{of_processes, Sentences};
-use super::{Audited, Auditor, Said};
+use super::sentences::{of_processes, write_losses, Sentences};
+use super::{Audited, Auditor, Said, NOT_PROVED};
 use crate::object::{Number, Place as PlaceObject};
 use crate::output::Output;
 use crate::reason::Refused;
-use crate::view::{Kept, Place, Shown, View};
-use crate::Failure;
-use gemshowal::Pid;
+use crate::view::{count, grouped, short, Kept, Place, Shown, View};
+use crate::{Failure, Status};
+use gemshowal::{CompleteError, Label, Pid};
 use serde::Serialize;
 use std::collections::BTreeMap;
 use std::io::{self, Write};
 
-/// Writes where resets may have been, and the findings about each part.
 pub(super) fn write_parts(
     view: &View<'_>,
     parts: &[(Kept, Part)],
@@ -223,4 +222,45 @@ pub(super) fn write(
         second: word(Asked::Second),
     };
     out.report(result, &object)
+}
+
+#[derive(Serialize)]
+struct Each<'a> {
+    labels: Vec<OfLabel>,
+    losses: &'a [String],
+}
+
+#[derive(Serialize)]
+struct OfLabel {
+    label: String,
+    #[serde(flatten)]
+    part: Part,
+}
+
+pub(super) fn write_each(auditor: &Auditor<'_>, out: &mut Output) -> Result<Status, Failure> {
+    let mut by_label: BTreeMap<u32, Kept> = BTreeMap::new();
+    for ((pid, index), event) in auditor.view.trace.events() {
+        by_label.entry(event.label.0).or_default().entry(pid).or_default().push(index);
+    }
+    let of_label = |(&label, kept): (&u32, &Kept)| {
+        let trace = auditor.view.trace.part(kept)?;
+        let label = auditor.view.names.label(Label(label)).into_owned();
+        Ok(OfLabel { label, part: auditor.part(&trace, kept, true)? })
+    };
+    let labels = by_label.iter().map(of_label).collect::<Result<Vec<OfLabel>, CompleteError>>()?;
+    let (fits, of) = (labels.iter().filter(|it| it.part.fits).count(), labels.len());
+    let status = if fits == of && of > 0 { Status::Yes } else { Status::No };
+    let losses = auditor.view.names.losses();
+    if auditor.json {
+        let result = if status == Status::Yes { "fits" } else { "never" };
+        out.report(result, &Each { labels, losses })?;
+        return Ok(status);
+    }
+    for OfLabel { label, part } in &labels {
+        writeln!(out, "{}: {}", short(label), part.headline)?;
+    }
+    writeln!(out, "{}: {} fit", count(of as u64, "label"), grouped(fits as u64))?;
+    write_losses(losses, out)?;
+    writeln!(out, "{NOT_PROVED}")?;
+    Ok(status)
 }

@@ -1,7 +1,6 @@
 //! The sentences of `audit`: each is here and nowhere else.
 
-use super::counter::Counter;
-use super::missing::{Before, Known, Lack, Missing};
+use super::missing::{Before, Counter, Known, Lack, Missing};
 use super::outcome::{Outcome, Said};
 use crate::output::Output;
 use crate::view::{count, grouped, Place, Shown};
@@ -319,7 +318,6 @@ impl Sentences<'_> {
         self.write_beginnings(out)
     }
 
-    /// Writes where counters stood before, and that spawns moved them.
     fn write_beginnings(&self, out: &mut Output) -> io::Result<()> {
         let before = self.counted(|it| it.before);
         if let (Some(((first, stood), rest)), false) = (before.split_first(), self.is_cut()) {

@@ -14,7 +14,6 @@ const COUNTS: u64 = 1 << 60;
 /// the counter rather jumped, as at a spawn.
 const MOST_MISSING: u64 = 1_000_000;
 
-/// Spells a serial as the node prints it.
 pub(super) fn serial_text(serial: Serial) -> String {
     format!("{{{},{}}}", signed(serial.prev), signed(serial.this))
 }
@@ -26,7 +25,6 @@ pub(super) struct Explainer<'a> {
     by_count: HashMap<(Pid, u64), Place>,
     /// A send without a reported receive, by receiver and serial.
     by_serial: HashMap<(Pid, u64, u64), Place>,
-    /// An event with each label and serial.
     holders: HashMap<(u32, u64, u64), Place>,
 }
 
@@ -47,7 +45,6 @@ impl<'a> Explainer<'a> {
         Explainer { trace, names, by_count, by_serial, holders }
     }
 
-    /// Says what may explain the serial of this send or print.
     pub(super) fn explanation(&self, place: Place) -> String {
         let Some(event) = event_at(self.trace, place) else { return String::new() };
         let process = self.names.process(place.0);

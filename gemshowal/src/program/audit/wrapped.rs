@@ -38,7 +38,6 @@ pub(super) fn run(args: &Audit, task: Task<'_>) -> Result<Status, Failure> {
     Ok(if judged.said().fits() { Status::Yes } else { Status::No })
 }
 
-/// A token that was put back.
 #[derive(Clone, Copy, Debug)]
 struct PutBack {
     /// The send or print that shows it.
@@ -204,7 +203,6 @@ impl<'a> Judged<'a> {
         })
     }
 
-    /// Returns the name of an event, with its serial.
     fn stamp(&self, place: Place) -> String {
         let serial = event_at(self.trace, place).map(|event| serial_text(event.serial));
         format!("{} {}", self.names.event(place), serial.unwrap_or_default())
@@ -312,7 +310,6 @@ impl Tokens {
         self.earlier.get(&(token.prev, token.this)).copied()
     }
 
-    /// Returns the last event with this token.
     fn last_of(&self, token: Serial) -> Option<u64> {
         match self.last {
             Some((serial, index)) if serial == (token.prev, token.this) => Some(index),
@@ -329,7 +326,6 @@ impl Tokens {
 
 #[derive(Serialize)]
 struct Object<'a> {
-    /// The rules by which it was judged.
     law: &'static str,
     fits: bool,
     headline: String,

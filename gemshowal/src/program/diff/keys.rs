@@ -2,7 +2,7 @@
 //! first keys tell the own events; each further one takes in those of the processes at the other
 //! ends of messages. A key is a hash, so two others may be equal by chance.
 
-use super::pairs::Ground;
+use super::matching::Ground;
 use super::side::{Side, NOBODY};
 use gemshowal::{Event, Serial};
 use std::collections::HashSet;

@@ -9,7 +9,6 @@ mod align;
 mod changes;
 mod keys;
 mod matching;
-mod pairs;
 mod report;
 mod side;
 
@@ -17,8 +16,7 @@ use crate::input::Input;
 use crate::{Failure, Status, Task};
 use changes::Changes;
 use keys::{all_keys, Keys, Ranks};
-use matching::Mate;
-use pairs::{Ground, Pairs};
+use matching::{Ground, Mate, Pairs};
 use report::{Moved, Report, Text};
 use side::{Side, Vocabulary};
 use std::cell::OnceCell;

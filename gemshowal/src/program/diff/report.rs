@@ -3,7 +3,7 @@
 
 use super::changes::{Change, Changes};
 use super::keys::Ranks;
-use super::pairs::{Ground, Pair, Pairs, Which};
+use super::matching::{Ground, Pair, Pairs, Which};
 use super::side::Side;
 use super::Found;
 use crate::names::Names;

@@ -3,17 +3,14 @@
 //! What an event pairs with and what it follows is found by the proved libraries. Each format has
 //! one writer here, with names, terms and times if the trace has them.
 
-mod calls;
-mod clock;
 mod dot;
-pub(crate) mod kind;
 mod mermaid;
 mod otlp;
 mod perfetto;
 mod scene;
 mod shiviz;
 mod span;
-mod work;
+pub(crate) mod work;
 
 use crate::args::{Export, Target};
 use crate::output::{Notes, Output};

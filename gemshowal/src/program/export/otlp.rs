@@ -3,9 +3,9 @@
 //!
 //! A label is a trace. A service is a registered process, or a node with its other processes.
 
-use super::kind;
 use super::scene::{Place, Scene};
 use super::span::{About, Span, Spans};
+use super::work as kind;
 use crate::names::Line;
 use crate::output::{Notes, Output};
 use crate::view::short;

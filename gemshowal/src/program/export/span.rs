@@ -6,8 +6,8 @@
 //! on the way back from it that doesn't end before it; the one that it follows directly is linked
 //! if it is below another.
 
-use super::calls::{role, Calls, Role};
 use super::scene::{Place, Scene};
+use super::work::{role, Calls, Role};
 use super::work::{Work, Works};
 use crate::Failure;
 use gemshowal::{Event, Hop, Kind, Label, Partner};

@@ -1,11 +1,13 @@
-//! The work of processes: from a receive to the last stamp that follows it.
+//! The work of processes, from a receive to the last stamp that follows it, and their calls, as far
+//! as terms tell them: a request has a reference, and its reply has the same one.
 //!
 //! A process that waits for the reply to its own call goes on with what it did before, so the
 //! receive of that reply begins nothing. What a stamp follows is what the proved hop says.
 
-use super::calls::{role, Calls, Role};
 use super::scene::{Place, Scene};
 use gemshowal::{Hop, Kind, Pid};
+use std::borrow::Cow;
+use std::collections::HashMap;
 
 const NONE: u32 = u32::MAX;
 
@@ -84,4 +86,139 @@ impl Works {
         let start = self.all.partition_point(|work| work.receive.0 < pid);
         self.all.iter().skip(start).take_while(move |work| work.receive.0 == pid)
     }
+}
+
+#[derive(Clone, Copy, Debug, PartialEq, Eq)]
+pub(super) enum Role<'a> {
+    Request(&'a str),
+    Reply(&'a str),
+}
+
+/// Returns the part of a message in a call, or `None` if it has none, or there are no terms.
+pub(super) fn role<'a>(scene: &Scene<'a>, value: u64) -> Option<Role<'a>> {
+    if !scene.has_terms() {
+        return None;
+    }
+    // A term that the trace's file has is borrowed.
+    let Cow::Borrowed(term) = scene.names.value(value) else { return None };
+    if let Some(caller) = term.strip_prefix("{'$gen_call',{") {
+        return Some(Role::Request(reference(caller.split_once(',')?.1)?));
+    }
+    Some(Role::Reply(reference(term.strip_prefix('{')?)?))
+}
+
+/// Returns the reference at the front of this text: `#Ref<0.1.2.3>`, or `[alias|#Ref<0.1.2.3>]`.
+fn reference(text: &str) -> Option<&str> {
+    let inside = text.strip_prefix("[alias|").unwrap_or(text).strip_prefix("#Ref<")?;
+    let (numbers, rest) = inside.split_once('>')?;
+    rest.starts_with([',', ']', '}']).then_some(numbers)
+}
+
+/// The calls of which both the request and the receive of the reply were reported.
+#[derive(Debug, Default)]
+pub(super) struct Calls {
+    /// For each request's send the reply's receive.
+    replies: HashMap<Place, Place>,
+    /// For each reply's receive the request's send.
+    requests: HashMap<Place, Place>,
+}
+
+impl Calls {
+    pub(super) fn of(scene: &Scene<'_>) -> Calls {
+        let mut calls = Calls::default();
+        let mut open = HashMap::new();
+        for (place, event) in scene.events() {
+            match (event.kind, role(scene, event.value)) {
+                (Kind::Send, Some(Role::Request(reference))) => {
+                    open.insert((place.0, reference), place);
+                }
+                (Kind::Receive, Some(Role::Reply(reference))) => {
+                    if let Some(request) = open.remove(&(place.0, reference)) {
+                        calls.replies.insert(request, place);
+                        calls.requests.insert(place, request);
+                    }
+                }
+                _ => {}
+            }
+        }
+        calls
+    }
+
+    /// Returns the receive of the reply to the request that was sent at this place.
+    pub(super) fn reply(&self, request: Place) -> Option<Place> {
+        self.replies.get(&request).copied()
+    }
+
+    /// Returns the send of the request whose reply was received at this place.
+    pub(super) fn request(&self, reply: Place) -> Option<Place> {
+        self.requests.get(&reply).copied()
+    }
+
+    pub(super) fn all(&self) -> impl Iterator<Item = (Place, Place)> + '_ {
+        self.replies.iter().map(|(&request, &reply)| (request, reply))
+    }
+}
+
+/// Says what was done by sending a message, and what sort it is.
+pub(super) fn sent(scene: &Scene<'_>, value: u64) -> String {
+    if !scene.has_terms() {
+        return "send".into();
+    }
+    let brief = scene.names.brief(value);
+    match (role(scene, value), brief.split_once(' ')) {
+        (Some(Role::Request(_)), Some((_, inside))) => format!("call {}", sort(inside)),
+        (Some(Role::Reply(_)), Some((_, inside))) => format!("reply {}", sort(inside)),
+        (None, Some(("cast" | "spawn", inside))) => format!("cast {}", sort(inside)),
+        _ => format!("send {}", sort(&brief)),
+    }
+}
+
+pub(super) fn handled(scene: &Scene<'_>, value: u64) -> String {
+    with_sort(scene, "handle", value)
+}
+
+pub(super) fn printed(scene: &Scene<'_>, value: u64) -> String {
+    with_sort(scene, "print", value)
+}
+
+fn with_sort(scene: &Scene<'_>, word: &str, value: u64) -> String {
+    if !scene.has_terms() {
+        return word.into();
+    }
+    let brief = scene.names.brief(value);
+    format!("{word} {}", sort(way_and_term(&brief).1))
+}
+
+/// Names the kind of a message that is shown as this: how it is sent, and its sort, as `call order`.
+pub(crate) fn of_brief(brief: &str) -> String {
+    let (way, term) = way_and_term(brief);
+    format!("{way}{}", sort(term))
+}
+
+fn way_and_term(brief: &str) -> (&str, &str) {
+    let ways = ["call ", "cast ", "reply ", "spawn ", "spawned "];
+    let way = ways.into_iter().find(|way| brief.starts_with(way)).unwrap_or_default();
+    brief.split_at(way.len())
+}
+
+/// Returns the first atom of a term, or the kind of the term if it doesn't begin with one.
+pub(super) fn sort(term: &str) -> &str {
+    let inside = term.strip_prefix('{').unwrap_or(term);
+    let is_of_atom = |c: char| c.is_alphanumeric() || matches!(c, '_' | '@');
+    let end = inside.find(|c| !is_of_atom(c)).unwrap_or(inside.len());
+    match inside.chars().next() {
+        Some('\'') => quoted(inside).unwrap_or("term"),
+        Some(first) if first.is_lowercase() => inside.get(..end).unwrap_or("term"),
+        Some(first) if first.is_ascii_digit() || first == '-' => "number",
+        Some('"' | '[') => "list",
+        Some('<') if inside.starts_with("<<") => "binary",
+        Some('<') => "pid",
+        Some('#') if inside.starts_with("#{") => "map",
+        _ => "term",
+    }
+}
+
+fn quoted(text: &str) -> Option<&str> {
+    let end = text.get(1..)?.find('\'')?;
+    text.get(1..end + 1)
 }

@@ -3,11 +3,11 @@
 
 use super::grammar::{read, Above, Pid, Scan, Sort, Wanted};
 use super::mend::{can_only_end, mended_line, mends};
-use super::mistake::Mistake;
 use super::remedy::{remedy_of, remedy_of_text};
 use super::text::{lines, Kind, Line};
 use gemshowal::LIMITS;
 use std::collections::{HashMap, HashSet};
+use std::fmt::{self, Display, Formatter};
 
 /// The mistakes of a text: how many there are, and the first ones.
 #[derive(Debug, Default)]
@@ -235,4 +235,73 @@ pub(super) fn names_remote(line: &[u8]) -> bool {
     };
     memchr::memchr_iter(b'<', line).any(|at| begins_as_pid(&line[at + 1..]))
         && Kind::of(line) != Kind::Comment
+}
+
+#[derive(Clone, Debug)]
+pub(super) struct Mistake<'a> {
+    pub(super) line: Line<'a>,
+    /// The column, from 0.
+    pub(super) column: usize,
+    pub(super) wanted: Wanted,
+    pub(super) remedy: &'static str,
+    pub(super) is_by_fix: bool,
+    /// Tells whether the reader takes the line, but no run reports it.
+    pub(super) is_read: bool,
+}
+
+impl<'a> Mistake<'a> {
+    /// Makes a mistake for which the reader refuses the line, and which a person has to mend.
+    pub(super) fn new(
+        line: Line<'a>,
+        column: usize,
+        wanted: Wanted,
+        remedy: &'static str,
+    ) -> Mistake<'a> {
+        Mistake { line, column, wanted, remedy, is_by_fix: false, is_read: false }
+    }
+
+    pub(super) fn by_fix(self, is_by_fix: bool) -> Mistake<'a> {
+        Mistake { is_by_fix, ..self }
+    }
+
+    /// Says where the mistake is, and what could be there.
+    pub(super) fn place(&self) -> String {
+        let Mistake { line, column, wanted, .. } = self;
+        format!("line {}, column {}: expected {wanted}", line.number, column + 1)
+    }
+}
+
+/// The greatest number of a line's bytes that are shown, on one line of a wide terminal; of a
+/// longer line those around the column.
+const SHOWN: usize = 150;
+
+/// The number of bytes in front of the column that are shown of a longer line.
+const IN_FRONT: usize = 60;
+
+impl Display for Mistake<'_> {
+    /// Shows its place, the line with a mark below the column, and the remedy.
+    fn fmt(&self, f: &mut Formatter<'_>) -> fmt::Result {
+        writeln!(f, "{}", self.place())?;
+        let line = self.line.bytes;
+        if !line.is_empty() {
+            let from = if line.len() > SHOWN { self.column.saturating_sub(IN_FRONT) } else { 0 };
+            let to = line.len().min(from + SHOWN);
+            let (dots, more) =
+                (if from > 0 { ".. " } else { "" }, if to < line.len() { " .." } else { "" });
+            let front = format!("  {dots}{}", shown(&line[from..self.column]));
+            let (rest, width) = (shown(&line[self.column..to]), front.len());
+            writeln!(f, "{front}{rest}{more}\n{:width$}^", "")?;
+        }
+        writeln!(f, "{}", self.remedy)
+    }
+}
+
+/// Shows each byte: one that can't be seen, or isn't ASCII, as `\t` or `\xNN`.
+fn shown(bytes: &[u8]) -> String {
+    let shown = |byte: &u8| match byte {
+        b' '..=b'~' => char::from(*byte).to_string(),
+        b'\t' => "\\t".into(),
+        _ => format!("\\x{byte:02x}"),
+    };
+    bytes.iter().map(shown).collect()
 }

@@ -5,7 +5,6 @@
 mod grammar;
 mod judge;
 mod mend;
-mod mistake;
 mod remedy;
 mod text;
 
@@ -14,8 +13,7 @@ use crate::object::Number;
 use crate::output::Output;
 use crate::{Failure, Status, Task};
 use gemshowal::{OutOfMemory, ReadError, Trace};
-use judge::Findings;
-use mistake::Mistake;
+use judge::{Findings, Mistake};
 use serde::Serialize;
 use std::fmt::{self, Display, Formatter};
 use std::io::Write;

@@ -36,7 +36,6 @@ fn read(file: &Path) -> io::Result<Vec<u8>> {
     found.ok_or_else(|| ErrorKind::NotFound.into())
 }
 
-/// A file that lies next to a trace.
 pub(super) struct Beside {
     pub(super) file: PathBuf,
     pub(super) text: String,

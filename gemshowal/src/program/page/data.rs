@@ -1,8 +1,8 @@
 //! The data of a page: the events of a trace, a list for each thing that is known of them.
 
 use crate::causes::{Cause, Causes, Grade, Link};
-use crate::durations::{self, Durations};
 use crate::names::{Messages, Names, Times};
+use crate::times::{self as durations, Durations};
 use crate::words;
 use gemshowal::{Event, Item, Kind, Label, Pid, Premises, Text};
 use serde::Serialize;

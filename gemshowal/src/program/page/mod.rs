@@ -6,7 +6,6 @@
 //! it is in, and the script puts it into the page as text.
 
 mod data;
-mod script;
 
 use crate::args::Page as Args;
 use crate::causes::{with_causes, Causes};
@@ -46,7 +45,7 @@ pub(crate) fn run(args: &Args, task: Task<'_>) -> Result<Status, Failure> {
 /// Fills the frame, which has a word between two at signs for each text. Nothing is put into what
 /// was put in.
 fn page(title: &str, data: &str) -> String {
-    let (nonce, script, data) = (nonce(), script::joined(), in_element(data));
+    let (nonce, script, data) = (nonce(), script(), in_element(data));
     let mut page = String::with_capacity(data.len() + script.len() + STYLE.len() + FRAME.len());
     for part in FRAME.split('@') {
         match part {
@@ -84,4 +83,43 @@ fn escape(text: &str, page: &mut String) {
             _ => write!(page, "&#{};", u32::from(c)),
         };
     }
+}
+
+const HEAD: &str = "\"use strict\";
+// Rows are events, in one order that no event precedes its cause in; lanes are processes. Only what
+// is in sight is in the document: the lanes and arrows on a canvas, the rows as elements of a grid,
+// so that keys and screen readers reach each of them.
+(() => {
+";
+
+macro_rules! modules {
+    ($($name:literal),* $(,)?) => {
+        [$(($name, include_str!(concat!("../../../page/", $name, ".js")))),*]
+    };
+}
+
+const MODULES: [(&str, &str); 12] = modules![
+    "elements", "trace", "layout", "choice", "drawing", "marks", "grid", "panel", "search",
+    "drawers", "controls", "main",
+];
+
+fn script() -> String {
+    let bodies: Vec<String> =
+        MODULES.iter().map(|(_, text)| without_words_of_modules(text)).collect();
+    format!("{HEAD}{}}})();\n", bodies.join("\n"))
+}
+
+/// Returns a module without its imports, which may take several lines, and without `export`.
+fn without_words_of_modules(text: &str) -> String {
+    let mut body = String::with_capacity(text.len());
+    let mut is_import = false;
+    for line in text.lines() {
+        is_import |= line.starts_with("import ");
+        if !is_import {
+            body.push_str(line.strip_prefix("export ").unwrap_or(line));
+            body.push('\n');
+        }
+        is_import &= !line.ends_with(';');
+    }
+    body
 }
