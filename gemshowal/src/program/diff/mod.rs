@@ -19,7 +19,7 @@ use keys::{all_keys, Keys, Ranks};
 use matching::{Ground, Mate, Pairs};
 use report::{Moved, Report, Text};
 use side::{Side, Vocabulary};
-use std::cell::OnceCell;
+use std::cell::LazyCell;
 
 pub(crate) fn run(task: Task<'_>, mut other: Input) -> Result<Status, Failure> {
     let Task { json, input, out, notes } = task;
@@ -60,21 +60,21 @@ struct Found {
 /// name, or by none.
 fn compare(sides: [&Side<'_>; 2], mates: &[Mate]) -> Found {
     let [first, second] = sides;
-    let ranks = sides.map(Ranks::of);
+    let ranks = LazyCell::new(|| sides.map(Ranks::of));
     let has_one_size = first.len() == second.len() && first.total() == second.total();
     let with_ranks = has_one_size.then(|| all_keys(sides, Some(&ranks))).filter(keys::are_alike);
     let may_be_same = with_ranks.is_some();
     let found = |mates: &[Mate], keys: &Keys| {
         let pairs = matching::by_keys(sides, mates, keys);
         let changes = Changes::find(sides, &pairs);
-        let moved = Moved::find(sides, &ranks, &pairs, &changes);
+        let has_changes = changes.len() > 0 || pairs.all.len() < first.len().max(second.len());
+        let moved = if has_changes { None } else { Moved::find(sides, &ranks, &pairs) };
         Found { pairs, changes, moved, is_certain: !may_be_same }
     };
-    let without_ranks = OnceCell::new();
-    let keys = || without_ranks.get_or_init(|| all_keys(sides, None));
+    let keys = LazyCell::new(|| all_keys(sides, None));
     let mut best = match &with_ranks {
         Some(with_ranks) => found(&[], with_ranks),
-        None => found(mates, keys()),
+        None => found(mates, &keys),
     };
     let named: Vec<Mate> = mates.iter().filter(|mate| mate.2 == Ground::Name).copied().collect();
     let least = changes::least(sides);
@@ -82,7 +82,7 @@ fn compare(sides: [&Side<'_>; 2], mates: &[Mate]) -> Found {
         [(mates, may_be_same), (&named, named.len() < mates.len()), (&[], !named.is_empty())]
     {
         if is_other && (best.changes.len() > least || may_be_same && best.moved.is_some()) {
-            let next = found(mates, keys());
+            let next = found(mates, &keys);
             if next.cost() < best.cost() {
                 best = next;
             }

@@ -1,7 +1,7 @@
 //! The report on two traces, in lines and as JSON: the sums, and then process by process what is
 //! gone, new and elsewhere.
 
-use super::changes::{Change, Changes};
+use super::changes::Change;
 use super::keys::Ranks;
 use super::matching::{Ground, Pair, Pairs, Which};
 use super::side::Side;
@@ -41,15 +41,12 @@ pub(super) struct Moved {
 }
 
 impl Moved {
+    /// Finds it in traces of which all processes are matched and no event is changed.
     pub(super) fn find(
         [first, second]: [&Side<'_>; 2],
         [ones, others]: &[Ranks; 2],
         pairs: &Pairs,
-        changes: &Changes,
     ) -> Option<Moved> {
-        if changes.len() > 0 || pairs.all.len() < first.len().max(second.len()) {
-            return None;
-        }
         let has_same_counts = ones == others;
         let moved = |pair: Pair| {
             let events = first.events(pair.first).iter().zip(second.events(pair.second));
