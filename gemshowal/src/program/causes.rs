@@ -147,16 +147,6 @@ fn are_paired(parts: &[(Kept, Trace)]) -> Result<bool, OutOfMemory> {
     Ok(!parts.is_empty())
 }
 
-impl Whole<'_> {
-    fn partner(&self, (pid, index): Place) -> Option<Place> {
-        let kind = self.completion.streams().event(pid, index)?.kind;
-        match self.paired.partner((pid, index), kind) {
-            Partner::Send(pid, index) | Partner::Receive(pid, index) => Some((pid, index)),
-            Partner::Nobody | Partner::NoSend | Partner::NoReceive => None,
-        }
-    }
-}
-
 impl Causes<'_> {
     /// Says why no run without a reset reports the trace, if none does: then causes mean nothing.
     pub(crate) fn never(&self) -> Option<(Pid, u64, Never)> {
@@ -181,8 +171,12 @@ impl Causes<'_> {
 
     /// Returns the events that are shown, each after its cause if the trace has a run.
     pub(crate) fn order(&self) -> Result<Vec<Item>, OutOfMemory> {
-        let paired = self.whole.as_ref().map_or(self.paired, |whole| whole.paired);
-        paired.order()
+        self.all().order()
+    }
+
+    /// Returns the pairs of all events that are shown.
+    fn all(&self) -> &Paired<'_> {
+        self.whole.as_ref().map_or(self.paired, |whole| whole.paired)
     }
 
     pub(crate) fn added(&self) -> Added {
@@ -241,9 +235,7 @@ impl Causes<'_> {
     pub(crate) fn message(&self, item: Item) -> Option<u64> {
         let is_known = match (self.reported(item), item, &self.whole) {
             (Some(_), ..) | (_, Item::Hidden(..), _) | (.., None) => true,
-            (None, Item::Reported(pid, index), Some(whole)) => whole
-                .partner((pid, index))
-                .is_some_and(|(pid, index)| self.reported(Item::Reported(pid, index)).is_some()),
+            _ => self.other_end(item).is_some_and(|end| self.reported(end).is_some()),
         };
         self.event(item).filter(|_| is_known).map(|event| event.value)
     }
@@ -251,9 +243,7 @@ impl Causes<'_> {
     /// Returns the other end of the message of an event, if that is shown too.
     pub(crate) fn other_end(&self, item: Item) -> Option<Item> {
         let (pid, index) = item.place();
-        let (kind, paired) =
-            (self.event(item)?.kind, self.whole.as_ref().map_or(self.paired, |whole| whole.paired));
-        match (item, paired.partner((pid, index), kind)) {
+        match (item, self.all().partner((pid, index), self.event(item)?.kind)) {
             (Item::Hidden(..), _) => Some(Item::Reported(pid, index)),
             (_, Partner::Send(pid, index) | Partner::Receive(pid, index)) => {
                 Some(Item::Reported(pid, index))
