@@ -9,11 +9,11 @@ mod remedy;
 mod text;
 
 use crate::args::Lint;
-use crate::object::Number;
-use crate::output::Output;
+use crate::object::{object, Number};
 use crate::{Failure, Status, Task};
 use gemshowal::{OutOfMemory, ReadError, Trace};
 use judge::{Findings, Mistake};
+use serde::ser::{SerializeMap, Serializer};
 use serde::Serialize;
 use std::fmt::{self, Display, Formatter};
 use std::io::Write;
@@ -31,8 +31,8 @@ pub(crate) fn run(args: &Lint, task: Task<'_>) -> Result<Status, Failure> {
         (Judged::Impossible(findings) | Judged::Faulty(findings), false) => {
             write!(out, "{findings}")?
         }
-        (Judged::Impossible(findings), true) => write_object("unfit", findings, out)?,
-        (Judged::Faulty(findings), true) => write_object("faulty", findings, out)?,
+        (Judged::Impossible(findings), true) => out.report("unfit", findings)?,
+        (Judged::Faulty(findings), true) => out.report("faulty", findings)?,
     }
     Ok(judged.status())
 }
@@ -127,32 +127,20 @@ impl Display for Counts {
     }
 }
 
-#[derive(Serialize)]
-struct Mistakes<'a> {
-    mistakes: u64,
-    by_fix: u64,
-    named: Vec<Named<'a>>,
+impl Serialize for Findings<'_> {
+    fn serialize<S: Serializer>(&self, serializer: S) -> Result<S::Ok, S::Error> {
+        let Findings { named, count, by_fix, .. } = self;
+        object!(serializer, "mistakes": count, "by_fix": by_fix, "named": named)
+    }
 }
 
-#[derive(Serialize)]
-struct Named<'a> {
-    line: u64,
-    column: usize,
-    expected: String,
-    remedy: &'a str,
-}
-
-fn write_object(result: &str, findings: &Findings<'_>, out: &mut Output) -> Result<(), Failure> {
-    let named = |mistake: &Mistake<'_>| Named {
-        line: mistake.line.number,
-        column: mistake.column + 1,
-        expected: mistake.wanted.to_string(),
-        remedy: mistake.remedy,
-    };
-    let mistakes = Mistakes {
-        mistakes: findings.count,
-        by_fix: findings.by_fix,
-        named: findings.named.iter().map(named).collect(),
-    };
-    out.report(result, &mistakes)
+impl Serialize for Mistake<'_> {
+    fn serialize<S: Serializer>(&self, serializer: S) -> Result<S::Ok, S::Error> {
+        object!(serializer,
+            "line": self.line.number,
+            "column": self.column + 1,
+            "expected": self.wanted.to_string(),
+            "remedy": self.remedy,
+        )
+    }
 }
