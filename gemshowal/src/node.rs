@@ -21,7 +21,7 @@ pub const WRAPPED: &[u8] = b"seqtrace 3\n";
 const SHOWN: Range<i64> = -(1 << 59)..1 << 59;
 
 /// The number of counts that a serial can show.
-const COUNTS: u64 = 1 << 60;
+pub const COUNTS: u64 = 1 << 60;
 
 /// Returns a count as the node prints it: above the greatest comes the least.
 pub fn signed(count: u64) -> i64 {
@@ -92,7 +92,7 @@ impl NodeTrace {
         let streams = self.trace.streams();
         let judgement = node_streams::judge(Global, streams)?;
         let ways = |(pid, events): (Pid, &[Event])| {
-            let seen = placed((pid, events)).map(|(place, event)| self.seen(place, event));
+            let seen = events.iter().zip(0..).map(|(event, at)| self.seen((pid, at), event));
             let ways = node_given::given(Global, &seen.collect::<Vec<_>>())?;
             Ok((pid, ways.as_slice().to_vec()))
         };
@@ -125,8 +125,7 @@ impl NodeTrace {
 
     /// Returns the events of a kind, by process.
     pub fn events(&self, kind: Kind) -> impl Iterator<Item = ((Pid, u64), &Event)> {
-        let all = self.trace.processes().flat_map(placed);
-        all.filter(move |(_, event)| event.kind == kind)
+        self.trace.events().filter(move |(_, event)| event.kind == kind)
     }
 
     fn seen(&self, place: (Pid, u64), event: &Event) -> Seen {
@@ -137,11 +136,6 @@ impl NodeTrace {
             answer: event.kind == Kind::Receive && self.is_answer(place),
         }
     }
-}
-
-/// Returns the events of a process with their places.
-fn placed((pid, events): (Pid, &[Event])) -> impl Iterator<Item = ((Pid, u64), &Event)> {
-    events.iter().zip(0..).map(move |(event, index)| ((pid, index), event))
 }
 
 /// A text of version 3 as one of version 1 or 2, line by line.

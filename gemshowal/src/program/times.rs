@@ -108,18 +108,15 @@ pub(crate) fn summary(trace: &Trace, times: &Times) -> String {
 
 fn write_entries(out: &mut Output, title: &str, entries: &[Durations]) -> io::Result<()> {
     let column = |time: fn(&Durations) -> i64| spans(&entries.iter().map(time).collect::<Vec<_>>());
-    let (median, most) = (column(|entry| entry.median), column(|entry| entry.percent_99));
-    let greatest = column(|entry| entry.greatest);
-    let times = median.into_iter().zip(most).zip(greatest);
-    let rows = entries.iter().zip(times).map(|(entry, ((median, most), greatest))| {
-        vec![
-            entry.of.clone(),
-            entry.count.to_string(),
-            median,
-            most,
-            greatest,
-            entry.slowest.clone(),
-        ]
+    let columns = [
+        column(|entry| entry.median),
+        column(|entry| entry.percent_99),
+        column(|entry| entry.greatest),
+    ];
+    let rows = entries.iter().enumerate().map(|(at, entry)| {
+        let [median, most, greatest] = columns.each_ref().map(|column| column[at].clone());
+        let (of, count, slowest) = (&entry.of, entry.count.to_string(), &entry.slowest);
+        vec![of.clone(), count, median, most, greatest, slowest.clone()]
     });
     write_table(out, &[title, "count", "median", "99 %", "greatest", "which"], rows.collect())
 }

@@ -9,7 +9,7 @@ use std::io::{self, Write};
 
 /// The greatest number of events, processes or messages of a kind that are listed; the rest are
 /// counted.
-const LISTED: usize = 20;
+pub(super) const LISTED: usize = 20;
 /// The other explanation of an event that a message without a reported receive explains.
 const ANEW: &str = "begun anew with a counter left from an earlier trace";
 
@@ -231,13 +231,7 @@ impl Sentences<'_> {
             return Ok(());
         }
         writeln!(out, "{heading}:")?;
-        for lack in lacks.iter().take(LISTED) {
-            writeln!(out, "  {}", self.lack(lack))?;
-        }
-        match lacks.len().saturating_sub(LISTED) as u64 {
-            0 => Ok(()),
-            more => writeln!(out, "  and {} more", grouped(more)),
-        }
+        write_all(out, lacks, |lack| self.lack(lack))
     }
 
     fn write_in_place_of(&self, out: &mut Output, is_some_certain: bool) -> io::Result<()> {
@@ -402,6 +396,21 @@ fn by_kind([sends, receives]: [u64; 2], more: &str) -> String {
     let kinds = [(sends, send.as_str()), (receives, "receive")];
     let said = kinds.into_iter().filter(|(number, _)| *number > 0);
     said.map(|(number, kind)| count(number, kind)).collect::<Vec<_>>().join(" and ")
+}
+
+/// Writes a line for each of these, and how many more there are.
+pub(super) fn write_all<T>(
+    out: &mut Output,
+    all: &[T],
+    line: impl Fn(&T) -> String,
+) -> io::Result<()> {
+    for one in all.iter().take(LISTED) {
+        writeln!(out, "  {}", line(one))?;
+    }
+    match all.len().saturating_sub(LISTED) as u64 {
+        0 => Ok(()),
+        more => writeln!(out, "  and {} more", grouped(more)),
+    }
 }
 
 fn listed<T>(things: &[T], say: impl Fn(&T) -> String, more: &str) -> String {

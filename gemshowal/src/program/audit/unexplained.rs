@@ -4,11 +4,8 @@
 use super::wrapped::event_at;
 use crate::names::Names;
 use crate::view::{count, short, Place};
-use gemshowal::{signed, Event, Kind, NodeTrace, Pid, Serial};
+use gemshowal::{signed, Event, Kind, NodeTrace, Pid, Serial, COUNTS};
 use std::collections::HashMap;
-
-/// The number of counts that a serial can show.
-const COUNTS: u64 = 1 << 60;
 
 /// The greatest number of counts that unreported sends and prints are said to have taken. Beyond it
 /// the counter rather jumped, as at a spawn.

@@ -1,7 +1,7 @@
 //! The audit of a trace whose counters have wrapped, by the laws of a standard node: they ask
 //! nothing of the order of counts.
 
-use super::sentences::write_losses;
+use super::sentences::{write_all, write_losses, LISTED};
 use super::unexplained::{serial_text, Explainer};
 use crate::args::Audit;
 use crate::names::Names;
@@ -14,9 +14,6 @@ use gemshowal::{Event, Kind, MessageContent, NodeFinding, NodeTrace, Pid, Serial
 use serde::Serialize;
 use std::collections::{HashMap, HashSet};
 use std::io::{self, Write};
-
-/// The greatest number of events of a kind that are listed; the rest are counted.
-const LISTED: usize = 20;
 
 /// The part of the answer that isn't proved.
 const NOT_PROVED: &str =
@@ -253,17 +250,6 @@ impl<'a> Judged<'a> {
             losses: self.names.losses(),
             proved: "not asked",
         }
-    }
-}
-
-/// Writes a line for each of these, and how many more there are.
-fn write_all<T>(out: &mut Output, all: &[T], line: impl Fn(&T) -> String) -> io::Result<()> {
-    for one in all.iter().take(LISTED) {
-        writeln!(out, "  {}", line(one))?;
-    }
-    match all.len().saturating_sub(LISTED) {
-        0 => Ok(()),
-        more => writeln!(out, "  and {} more", grouped(more as u64)),
     }
 }
 

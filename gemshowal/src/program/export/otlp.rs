@@ -3,6 +3,7 @@
 //!
 //! A label is a trace. A service is a registered process, or a node with its other processes.
 
+use super::nothing;
 use super::scene::{Place, Scene};
 use super::span::{About, Span, Spans};
 use super::work as kind;
@@ -27,23 +28,17 @@ pub(super) fn write(
     out: &mut Output,
     notes: &mut Notes,
 ) -> Result<Status, Failure> {
+    let no = |words: &str, notes| Ok(nothing(notes, format_args!("no: {name}: {words}")));
     let begin = match scene.names.times().map(|times| times.begin()) {
-        None => {
-            return no_times(
-                name,
-                "no event has a time, which spans need; trace with --times",
-                notes,
-            )
-        }
+        None => return no("no event has a time, which spans need; trace with --times", notes),
         Some(None) => {
-            let words = "the events came without the clock of their node, which spans need";
-            return no_times(name, words, notes);
+            return no("the events came without the clock of their node, which spans need", notes)
         }
         Some(Some(begin)) => begin,
     };
     let spans = Spans::of(scene)?;
     if spans.all.is_empty() {
-        return no_times(name, "no event has a time, which spans need", notes);
+        return no("no event has a time, which spans need", notes);
     }
     let writer = Writer { spans: &spans, begin };
     out.write_all(b"{\"resourceSpans\":[")?;
@@ -53,11 +48,6 @@ pub(super) fn write(
     }
     out.write_all(b"]}\n")?;
     Ok(Status::Yes)
-}
-
-fn no_times(name: &str, words: &str, notes: &mut Notes) -> Result<Status, Failure> {
-    notes.say(format_args!("no: {name}: {words}"));
-    Ok(Status::No)
 }
 
 struct Writer<'a> {
