@@ -15,13 +15,6 @@ use gemshowal::{Event, Hop, Kind, Label, Partner, Pid, Premises, Text};
 use std::collections::BTreeMap;
 use std::io::{self, Write};
 
-/// The kinds of spans, as `opentelemetry/proto/trace/v1` numbers them.
-const INTERNAL: u64 = 1;
-const SERVER: u64 = 2;
-const CLIENT: u64 = 3;
-const PRODUCER: u64 = 4;
-const CONSUMER: u64 = 5;
-
 pub(super) fn write(
     scene: &Scene<'_>,
     name: &str,
@@ -60,7 +53,7 @@ impl Writer<'_> {
     fn services(&self) -> BTreeMap<String, Vec<u32>> {
         let mut of_pid = BTreeMap::<Pid, Vec<u32>>::new();
         for (span, number) in self.spans.all.iter().zip(0..) {
-            of_pid.entry(span.about.place().0).or_default().push(number);
+            of_pid.entry(span.place.0).or_default().push(number);
         }
         let mut services = BTreeMap::<String, Vec<u32>>::new();
         for (pid, numbers) in of_pid {
@@ -78,7 +71,7 @@ impl Writer<'_> {
         let mut comma = "";
         for &number in of {
             let span = self.spans.get(number);
-            let event = span.and_then(|span| self.spans.scene.event(span.about.place()));
+            let event = span.and_then(|span| self.spans.scene.event(span.place));
             if let Some((span, event)) = span.zip(event) {
                 out.put(|line| self.put_span(line.text(comma), number, span, event))?;
                 comma = ",";
@@ -89,25 +82,19 @@ impl Writer<'_> {
 
     fn put_span(&self, line: &mut Line<'_>, number: u32, span: &Span, event: &Event) {
         let parent = span.parent.and_then(|parent| self.spans.get(parent));
-        let kind = match span.about {
-            About::Label(_) => INTERNAL,
-            About::Message(_) => PRODUCER,
-            About::Call(_) => CLIENT,
-            About::Work(_) => CONSUMER,
-            About::Service(_) => SERVER,
-        };
         line.text("{");
         self.put_ids(line, span);
         if let Some(parent) = parent {
             line.text(",\"parentSpanId\":\"").text(&self.span_id(parent)).text("\"");
         }
-        line.text(",\"name\":").string(&self.name(span, event)).text(",\"kind\":").number(kind);
+        line.text(",\"name\":").string(&self.name(span, event)).text(",\"kind\":");
+        line.number(span.about as u64);
         line.text(",\"startTimeUnixNano\":\"").number(self.time(span.start));
         line.text("\",\"endTimeUnixNano\":\"").number(self.time(span.end));
         line.text("\",\"attributes\":[");
         self.put_attributes(line, span, event);
         self.put_prints(line, number);
-        let other = self.spans.of_other_label(span.about.place()).filter(|_| parent.is_some());
+        let other = self.spans.of_other_label(span.place).filter(|_| parent.is_some());
         let links = [span.follows, other].into_iter().flatten();
         let mut before = "],\"links\":[{";
         for link in links.filter_map(|other| self.spans.get(other)) {
@@ -125,19 +112,19 @@ impl Writer<'_> {
     fn name(&self, span: &Span, event: &Event) -> String {
         let scene = self.spans.scene;
         match span.about {
-            About::Label(_) => match scene.has_terms() {
+            About::Label => match scene.has_terms() {
                 true => format!("trace {}", kind::sort(&scene.names.label(event.label))),
                 false => "trace".into(),
             },
-            About::Message(_) | About::Call(_) => kind::sent(scene, event.value),
-            About::Work(_) | About::Service(_) => kind::handled(scene, event.value),
+            About::Message | About::Call => kind::sent(scene, event.value),
+            About::Work | About::Service => kind::handled(scene, event.value),
         }
     }
 
     fn put_attributes(&self, line: &mut Line<'_>, span: &Span, event: &Event) {
-        let (scene, place) = (self.spans.scene, span.about.place());
+        let (scene, place) = (self.spans.scene, span.place);
         put_attribute(line, "", "erlang.label", &scene.names.label(event.label));
-        if matches!(span.about, About::Label(_)) {
+        if span.about == About::Label {
             put_attribute(line, ",", "seqaudit.premise_1", FIRST);
             put_attribute(line, ",", "seqaudit.premise_2", SECOND);
             return;
@@ -157,7 +144,7 @@ impl Writer<'_> {
         if event.kind == Kind::Send {
             put_cause(line, scene, place);
         }
-        if matches!(span.about, About::Call(_)) {
+        if span.about == About::Call {
             let reply = self.spans.calls.reply(place);
             put_flag(line, "seqaudit.reply_reported", reply.is_some());
             if let Some(reply) = reply {
@@ -196,8 +183,8 @@ impl Writer<'_> {
 
     /// Makes a number that no other span of the trace has, from what it is named after.
     fn span_id(&self, span: &Span) -> String {
-        let (pid, index) = span.about.place();
-        let kind = u64::from(matches!(span.about, About::Label(_)));
+        let (pid, index) = span.place;
+        let kind = u64::from(span.about == About::Label);
         let place = u64::from(pid.node()) << 48 | u64::from(pid.number()) << 32 | index << 1 | kind;
         format!("{:016x}", mixed(place.wrapping_add(self.begin as u64)).max(1))
     }

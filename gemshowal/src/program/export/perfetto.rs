@@ -192,8 +192,8 @@ impl Writer<'_> {
         span: Span,
         partner: Partner,
     ) {
-        let (kind, names) = (kind_word(event.kind), self.scene.names);
-        let has_terms = self.scene.has_terms();
+        let (kind, names, has_terms) =
+            (kind_word(event.kind), self.scene.names, self.scene.has_terms());
         line.text(",\n{\"ph\":\"X\",\"name\":");
         if has_terms {
             line.string(&format!("{kind} {}", short(&names.brief(event.value))));

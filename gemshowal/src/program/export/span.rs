@@ -13,36 +13,26 @@ use crate::Failure;
 use gemshowal::{Event, Hop, Kind, Label, Partner};
 use std::collections::BTreeMap;
 
+/// What a span is, by the number that `opentelemetry/proto/trace/v1` has for such a kind.
 #[derive(Clone, Copy, Debug, PartialEq, Eq)]
 pub(super) enum About {
-    /// The events of a label, of which this one is the first.
-    Label(Place),
-    /// The message that was sent here.
-    Message(Place),
-    /// The call whose request was sent here.
-    Call(Place),
-    /// The work of a process for the message that it received here.
-    Work(Place),
-    /// The work of a process for the request of a call that it received here.
-    Service(Place),
-}
-
-impl About {
-    pub(super) fn place(self) -> Place {
-        match self {
-            About::Label(place)
-            | About::Message(place)
-            | About::Call(place)
-            | About::Work(place)
-            | About::Service(place) => place,
-        }
-    }
+    /// The events of a label, of which this one is the first: internal.
+    Label = 1,
+    /// The work of a process for the request of a call that it received here: of a server.
+    Service = 2,
+    /// The call whose request was sent here: of a client.
+    Call = 3,
+    /// The message that was sent here: of a producer.
+    Message = 4,
+    /// The work of a process for the message that it received here: of a consumer.
+    Work = 5,
 }
 
 /// A span, with times in nanoseconds after the first event.
 #[derive(Clone, Copy, Debug)]
 pub(super) struct Span {
     pub(super) about: About,
+    pub(super) place: Place,
     pub(super) label: Label,
     pub(super) start: i64,
     pub(super) end: i64,
@@ -94,7 +84,8 @@ impl<'a> Spans<'a> {
                     (span.start, span.end) = (span.start.min(time), span.end.max(time));
                 }
                 None => self.all.push(Span {
-                    about: About::Label(place),
+                    about: About::Label,
+                    place,
                     label: event.label,
                     start: time,
                     end: time,
@@ -124,7 +115,8 @@ impl<'a> Spans<'a> {
         if let Some(begun) = self.scene.number(place).and_then(|it| self.begun.get_mut(it)) {
             *begun = Some(number);
         }
-        self.all.push(Span { about, label: event.label, start, end, parent, follows });
+        let label = event.label;
+        self.all.push(Span { about, place, label, start, end, parent, follows });
     }
 
     fn has_time(&self, place: Place) -> bool {
@@ -147,7 +139,7 @@ impl<'a> Spans<'a> {
         let done = work.and_then(|(_, work)| self.end(work)).or(got);
         let is_call = matches!(role(self.scene, event.value), Some(Role::Request(_)));
         let reply = self.calls.reply(place).and_then(|reply| self.scene.time(reply));
-        let about = if is_call { About::Call(place) } else { About::Message(place) };
+        let about = if is_call { About::Call } else { About::Message };
         Some((about, start, reply.or(done).unwrap_or(start).max(start)))
     }
 
@@ -160,7 +152,7 @@ impl<'a> Spans<'a> {
         let end = self.end(work);
         let start = self.scene.time(place).or(end)?;
         let is_call = matches!(role(self.scene, event.value), Some(Role::Request(_)));
-        let about = if is_call { About::Service(place) } else { About::Work(place) };
+        let about = if is_call { About::Service } else { About::Work };
         Some((about, start, end.unwrap_or(start).max(start)))
     }
 
