@@ -348,12 +348,9 @@ impl Command {
     /// Returns whether it writes a text, so that it takes one input.
     fn writes_text(&self) -> bool {
         match self {
-            Command::Cut(_) | Command::Export(_) | Command::Page(_) => true,
-            Command::Complete(complete) => complete.form != Form::Added,
-            Command::Lint(lint) => lint.fix,
             Command::Audit(audit) => audit.acts.is_some(),
             Command::Chart(chart) => chart.svg.is_some(),
-            _ => false,
+            _ => self.text_option().is_some(),
         }
     }
 

@@ -199,10 +199,10 @@ struct Explained<'a> {
 
 impl Display for Found<'_> {
     fn fmt(&self, f: &mut Formatter<'_>) -> fmt::Result {
-        let of_act = |number| on_line(self.lines.act_line(number));
         match &self.refused {
             Some((number, act, _)) => {
-                writeln!(f, "no: act {number}{}: {}", of_act(*number), Text(act))?;
+                let line = on_line(self.lines.act_line(*number));
+                writeln!(f, "no: act {number}{line}: {}", Text(act))?;
             }
             None => writeln!(f, "no: the acts end, and {} has events left", Text(self.pid))?,
         }
@@ -226,18 +226,21 @@ impl Display for Found<'_> {
         if !state.traced() {
             writeln!(f, "  no tracer on its node")?;
         }
+        self.write_queue(f)
+    }
+}
+
+impl Found<'_> {
+    fn write_queue(&self, f: &mut Formatter<'_>) -> fmt::Result {
         writeln!(f, "  messages in its queue {}", self.waiting.len())?;
         let shown = self.shown();
         for &(place, Sent { act, from, value, token }, is_due) in &shown {
-            let token = token.map_or(", without a token".into(), |token| {
-                format!(", count {}", token.serial.this)
-            });
-            let (from, line) = (Text(*from), of_act(*act));
+            let token = token.map(|token| format!(", count {}", token.serial.this));
+            let token = token.unwrap_or_else(|| ", without a token".into());
+            let (from, line) = (Text(*from), on_line(self.lines.act_line(*act)));
             let due = if is_due { ": this one is due" } else { "" };
-            writeln!(
-                f,
-                "    place {place}: {value} from {from}{token}, sent by act {act}{line}{due}"
-            )?;
+            let sent = format!("sent by act {act}{line}{due}");
+            writeln!(f, "    place {place}: {value} from {from}{token}, {sent}")?;
         }
         match self.waiting.len() - shown.len() {
             0 => Ok(()),
