@@ -98,8 +98,8 @@ pub fn audit(trace: &Trace) -> Result<Fits, AuditError> {
     }
 }
 
-/// Finds what the trace lacks, or why no run without a reset reports it, whatever processes that the
-/// trace doesn't list did.
+/// Finds what the trace lacks, or why no run without a reset reports it, whatever processes that
+/// the trace doesn't list did.
 ///
 /// # Guarantees
 ///
@@ -118,8 +118,8 @@ pub struct Because {
     pub hop: Hop,
 }
 
-/// Returns the event at this place, the one that it follows, and so on back, as far as its label goes;
-/// nothing if no event is there.
+/// Returns the event at this place, the one that it follows, and so on back, as far as its label
+/// goes; nothing if no event is there.
 ///
 /// # Guarantees
 ///

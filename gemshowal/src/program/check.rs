@@ -1,8 +1,8 @@
-//! The commands `check` and `explain`: whether the acts of a text are a run that reports exactly its
-//! events, and if not why. They make the run again up to the first act that reports something else
-//! than the trace has, and show the act, the event that was due, the report that came, and the actor's
-//! state before it with the messages that wait. If events are left at the end, they show the state
-//! then.
+//! The commands `check` and `explain`: whether the acts of a text are a run that reports exactly
+//! its events, and if not why. They make the run again up to the first act that reports something
+//! else than the trace has, and show the act, the event that was due, the report that came, and the
+//! actor's state before it with the messages that wait. If events are left at the end, they show
+//! the state then.
 
 use crate::object::Number;
 use crate::view::count;

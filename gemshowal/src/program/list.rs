@@ -58,8 +58,8 @@ fn put_row(line: &mut Line<'_>, row: &Row, partner: Partner, names: &Names) {
     line.text("\n");
 }
 
-/// Appends an event as JSON: serde takes four times as long. Its other end is null if nobody reported
-/// it, and left out of a print and if the trace can't be paired.
+/// Appends an event as JSON: serde takes four times as long. Its other end is null if nobody
+/// reported it, and left out of a print and if the trace can't be paired.
 fn put_object(line: &mut Line<'_>, row: &Row, partner: Partner, names: &Names) {
     let event = &row.event;
     line.text("{\"line\":").json_number(row.line).text(",");

@@ -7,8 +7,8 @@ use gemshowal::{Event, Kind, Pid};
 use std::collections::HashMap;
 
 /// Finds the sends and prints that go on from the answer of a spawn, each with the request of that
-/// spawn, or of the first one, if that request goes on from an answer too. The message of the answer
-/// tells what it is, so without names there are none.
+/// spawn, or of the first one, if that request goes on from an answer too. The message of the
+/// answer tells what it is, so without names there are none.
 pub(crate) fn requests(view: &View<'_>) -> HashMap<Place, Place> {
     let mut requests = HashMap::new();
     for (pid, events) in view.trace.processes() {

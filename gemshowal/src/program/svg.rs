@@ -1,10 +1,10 @@
 //! A chart as a sequence diagram in SVG, for a document.
 //!
-//! A lane for each process under its name, time downwards by the chart's rows, each next to the name
-//! of its event. An arrow goes from each send, a ring, to its receive, a disc; what nobody reported
-//! is dashed, a receive that nobody reported says so, and an arrow ends in a bar if the chart has
-//! no receive. Prints are diamonds. An event of which it isn't sure what it follows has a question
-//! mark. A text that is shortened next to a mark is whole in its tooltip.
+//! A lane for each process under its name, time downwards by the chart's rows, each next to the
+//! name of its event. An arrow goes from each send, a ring, to its receive, a disc; what nobody
+//! reported is dashed, a receive that nobody reported says so, and an arrow ends in a bar if the
+//! chart has no receive. Prints are diamonds. An event of which it isn't sure what it follows has a
+//! question mark. A text that is shortened next to a mark is whole in its tooltip.
 
 use crate::causes::{Cause, Causes, Grade};
 use crate::chart::{short, Chart, Row};

@@ -1,5 +1,5 @@
-//! Finds what may explain a serial that nothing its process had gives. The first that applies is said,
-//! and none of them is certain.
+//! Finds what may explain a serial that nothing its process had gives. The first that applies is
+//! said, and none of them is certain.
 
 use super::wrapped::event_at;
 use crate::names::Names;

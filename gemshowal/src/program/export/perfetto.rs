@@ -278,8 +278,8 @@ fn process(pid: Pid) -> u64 {
 /// before in its process, or than its send, it is one more than the later of them: a receive may
 /// have a lower count than what its process did before.
 ///
-/// With measured ones: nanoseconds after the first event, and at least one more than the event before
-/// in its process, so that two of one time are still told apart.
+/// With measured ones: nanoseconds after the first event, and at least one more than the event
+/// before in its process, so that two of one time are still told apart.
 #[derive(Debug)]
 pub(super) struct Clock {
     /// The time of each event; none if it has no time or isn't drawn.

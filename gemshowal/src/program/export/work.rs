@@ -189,7 +189,7 @@ fn with_sort(scene: &Scene<'_>, word: &str, value: u64) -> String {
     format!("{word} {}", sort(way_and_term(&brief).1))
 }
 
-/// Names the kind of a message that is shown as this: how it is sent, and its sort, as `call order`.
+/// Names the kind of a message by how it is shown: how it is sent, and its sort, as `call order`.
 pub(crate) fn of_brief(brief: &str) -> String {
     let (way, term) = way_and_term(brief);
     format!("{way}{}", sort(term))

@@ -1,6 +1,7 @@
 //! The command `lint`: the mistakes of a text, and `--fix`.
 //!
-//! The proved reader alone decides whether a text is a trace's. If it refuses one, [`judge`] goes through the lines.
+//! The proved reader alone decides whether a text is a trace's. If it refuses one, [`judge`] goes
+//! through the lines.
 
 mod grammar;
 mod judge;

@@ -63,8 +63,8 @@ impl Beside {
         Fault::Wrong { file: self.file.clone(), line, wanted }
     }
 
-    /// Takes each line after the first one, which has to be this header. The function returns `None`
-    /// if a line isn't what is wanted.
+    /// Takes each line after the first one, which has to be this header. The function returns
+    /// `None` if a line isn't what is wanted.
     pub(super) fn take(
         &self,
         header: &'static str,
@@ -137,8 +137,8 @@ pub(super) fn losses(facts: &Beside) -> Result<Vec<String>, Fault> {
     Ok(losses)
 }
 
-/// The whole texts of the messages that `NAME.terms` has cut, by `NAME.messages`, of which a line is
-/// `value NUMBER TERM`, with tabs between. Only a page shows them.
+/// The whole texts of the messages that `NAME.terms` has cut, by `NAME.messages`, of which a line
+/// is `value NUMBER TERM`, with tabs between. Only a page shows them.
 #[derive(Debug, Default)]
 pub(crate) struct Messages(HashMap<u64, String>);
 
