@@ -7,7 +7,7 @@ use crate::args::{Args, Command};
 use crate::input::Input;
 use crate::names::FILES;
 use crate::output::{Notes, Output};
-use crate::{diff, run_on, Status, Task};
+use crate::{diff, report, run_on, Status, Task};
 use clap::Parser;
 use gemshowal::{Paired, Partner, Text, Trace};
 use std::env;
@@ -159,8 +159,9 @@ fn run((word, args): &(&str, Args), name: &str, text: &[u8], whole: &[u8]) -> bo
         Command::Diff(_) => diff::run(task, Input::of_bytes(whole, name)),
         command => run_on(command, task),
     };
+    let ended = ended.or_else(|failure| report(failure, args.json, &mut out));
     out.finish().unwrap();
-    if args.json && ended.is_ok() {
+    if args.json {
         let object: serde_json::Value = serde_json::from_slice(out.taken()).unwrap();
         assert_eq!(object["command"], *word);
     }
