@@ -38,8 +38,7 @@ if [ ${#programs[@]} = 0 ]; then
     exit 1
 fi
 install -D -t "$to/bin" "${programs[@]}"
-install -D -m 644 -t "$to/share/man/man1" man/*.1
-install -d "$to/share/man/man5"
+install -d "$to/share/man/man1" "$to/share/man/man5"
 man/seqtrace docs/FORMATS.md >"$to/share/man/man5/seqtrace.5"
 if [ -e erlang/ebin/seqaudit_node.beam ]; then
     install -D -t "$application/erlang" erlang/seqaudit-node
@@ -48,8 +47,16 @@ if [ -e erlang/ebin/seqaudit_node.beam ]; then
     ln -sf ../lib/gemshowal/erlang/seqaudit-node "$to/bin/seqaudit-node"
     programs+=(erlang/seqaudit-node)
 else
-    rm -f "$to/share/man/man1/seqaudit-node.1"
     echo "seqaudit-node isn't installed: make -C erlang builds it (erlc is in Debian's erlang-base)"
 fi
+for program in "${programs[@]}"; do
+    page=${program##*/}.1
+    # That of gemshowal is made of its help.
+    if [ -e "man/$page" ]; then
+        install -m 644 -t "$to/share/man/man1" "man/$page"
+    else
+        man/gemshowal "$program" >"$to/share/man/man1/$page"
+    fi
+done
 completions/write "$to/share" "${programs[@]}"
 echo "In $to: ${programs[*]##*/}, their man pages and completions."
