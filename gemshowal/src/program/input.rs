@@ -74,7 +74,7 @@ impl Input {
         let read = self.reader.by_ref().take(WRAPPED.len() as u64).read_to_end(&mut front);
         read.map_err(|reason| self.unread(reason))?;
         let is_wrapped = front == WRAPPED;
-        let rest = std::mem::replace(&mut self.reader, Box::new(io::empty()));
+        let rest = self.take();
         self.reader = Box::new(Cursor::new(front).chain(rest));
         Ok(is_wrapped)
     }
@@ -137,9 +137,19 @@ impl Input {
         }
     }
 
-    /// Returns the reader of its bytes, unpacked.
-    pub(crate) fn into_reader(self) -> Box<dyn Read> {
-        self.reader
+    /// Takes the reader of its bytes, unpacked.
+    pub(crate) fn take(&mut self) -> Box<dyn Read> {
+        std::mem::replace(&mut self.reader, Box::new(io::empty()))
+    }
+
+    pub(crate) fn path(&self) -> &Path {
+        &self.path
+    }
+
+    /// Returns whether it can be opened again: a pipe gives its bytes once.
+    pub(crate) fn is_regular(&self) -> bool {
+        let data = self.file.as_ref().and_then(|file| file.metadata().ok());
+        data.is_some_and(|data| data.is_file())
     }
 
     pub(crate) fn bytes(&mut self) -> Result<Vec<u8>, Failure> {

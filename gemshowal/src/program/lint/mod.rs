@@ -12,7 +12,9 @@ mod text;
 use crate::args::Lint;
 use crate::object::{object, Number};
 use crate::{Failure, Status, Task};
-use gemshowal::{OutOfMemory, ReadError, Trace};
+use arrayvec::ArrayVec;
+use gemshowal::{OutOfMemory, Pid, ReadError, Trace};
+use grammar::{Above, Sort};
 use judge::{Findings, Mistake};
 use serde::ser::{SerializeMap, Serializer};
 use serde::Serialize;
@@ -42,6 +44,17 @@ pub(crate) fn run(args: &Lint, task: Task<'_>) -> Result<Status, Failure> {
 pub(crate) fn first_refused(text: &[u8]) -> Option<String> {
     let mistake = Findings::of(text, 0).first_refused?;
     Some(format!(", {}; {}", mistake.place(), mistake.remedy))
+}
+
+/// The pids of a line.
+pub(crate) type Pids = ArrayVec<Pid, { grammar::MOST_PIDS }>;
+
+/// Reads an act, and returns its pids and how many of them, the first ones, have to be listed.
+pub(crate) fn read_act(line: &[u8]) -> Option<(Pids, usize)> {
+    let (scan, sort) = grammar::read(line, Above::Acts);
+    let listed = if sort.ok()? == Sort::SendAct { 2 } else { 1 };
+    let pid = |&(_, grammar::Pid(node, number)): &_| Pid::on(node as u16, number as u16);
+    Some((scan.pids.iter().map(pid).collect(), listed))
 }
 
 enum Judged<'a> {

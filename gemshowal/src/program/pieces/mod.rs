@@ -5,6 +5,7 @@
 
 mod gather;
 mod judge;
+mod reader;
 mod record;
 mod scatter;
 #[cfg(test)]
@@ -13,18 +14,22 @@ mod text;
 mod verdict;
 mod words;
 
+pub(crate) use self::reader::{walk, Entry, Reported};
 pub(crate) use self::words::Pieces;
 
 use self::words::Scatter;
 use crate::input::Input;
 use crate::{output, Failure, Status};
 use std::fs::File;
-use std::io::{self, BufRead, BufReader, BufWriter, Write};
+use std::io::{self, BufRead, BufReader, BufWriter, Read, Write};
 use std::os::fd::AsFd;
 use std::path::{Path, PathBuf};
 
 /// The bytes that are read at once.
-const BUFFER: usize = 1 << 20;
+pub(crate) const BUFFER: usize = 1 << 20;
+
+/// More bytes than a line of a trace or of a filter has: more aren't read before it is refused.
+const LONGEST: usize = 4096;
 
 /// The lines of a text, without their ends.
 struct Lines<R> {
@@ -53,20 +58,22 @@ impl<R: BufRead> Lines<R> {
 
     fn next(&mut self) -> io::Result<Next<'_>> {
         self.line.clear();
-        if self.input.read_until(b'\n', &mut self.line)? == 0 {
+        let mut front = self.input.by_ref().take(LONGEST as u64);
+        if front.read_until(b'\n', &mut self.line)? == 0 {
             return Ok(Next::End);
         }
         self.number += 1;
         Ok(match self.line.split_last() {
             Some((b'\n', line)) => Next::Line(line),
+            _ if self.line.len() == LONGEST => Next::Line(&self.line),
             _ => Next::Torn,
         })
     }
 }
 
 fn open(file: &Path) -> Result<(String, impl BufRead), Failure> {
-    let input = Input::open(file)?;
-    Ok((input.line_name().to_owned(), BufReader::with_capacity(BUFFER, input.into_reader())))
+    let mut input = Input::open(file)?;
+    Ok((input.line_name().to_owned(), BufReader::with_capacity(BUFFER, input.take())))
 }
 
 /// Numbers the parts from this one on.
