@@ -1,6 +1,6 @@
 //! The command line.
 
-use crate::names::Names;
+use crate::names::{Names, Time};
 use crate::pieces::Pieces;
 use crate::view::Kept;
 use crate::Failure;
@@ -141,10 +141,18 @@ pub(crate) enum Form {
 
 #[derive(clap::Args)]
 pub(crate) struct Cut {
-    #[command(flatten)]
-    inputs: Inputs,
+    /// The parts of the trace, in order: NAME (of NAME.seqtrace), files, or - for standard input
+    #[arg(value_name = "NAME", default_value = "-", hide_default_value = true)]
+    pub(crate) names: Vec<PathBuf>,
     #[command(flatten)]
     pub(crate) conditions: Conditions,
+    /// Only events near this one in its process, and the other ends of their messages: shop#2,
+    /// '<0.81.0> 2', FILE:LINE, or a line of the only file; may be given several times
+    #[arg(long, value_name = "EVENT")]
+    pub(crate) around: Vec<String>,
+    /// How many events before and after each of these are near
+    #[arg(long, value_name = "N", default_value_t = 10, requires = "around")]
+    pub(crate) near: u64,
 }
 
 #[derive(clap::Args)]
@@ -209,16 +217,16 @@ pub(crate) struct List {
 pub(crate) struct Conditions {
     /// Only events with this label, a number or a term
     #[arg(long)]
-    label: Option<String>,
+    pub(crate) label: Option<String>,
     /// Only events of this process, by its name or pid
     #[arg(long, value_name = "NAME")]
-    process: Option<String>,
+    pub(crate) process: Option<String>,
     /// Only events on these lines of the text, as 7, 7-9 or 7-
     #[arg(long, value_parser = span)]
-    lines: Option<Span>,
+    pub(crate) lines: Option<Span>,
     /// Only events with these counts (the second number of the serial)
     #[arg(long, value_parser = span)]
-    counts: Option<Span>,
+    pub(crate) counts: Option<Span>,
     /// Only events from this time on, in seconds after the first event; it needs NAME.times
     #[arg(long, value_name = "SECONDS")]
     from: Option<f64>,
@@ -234,7 +242,7 @@ impl Conditions {
             && !self.are_of_time()
     }
 
-    fn are_of_time(&self) -> bool {
+    pub(crate) fn are_of_time(&self) -> bool {
         self.from.is_some() || self.to.is_some()
     }
 
@@ -244,7 +252,8 @@ impl Conditions {
             return Err(Failure::NoTimes);
         }
         let label = self.label.as_deref().map(|label| names.find_label(trace, Some(label)));
-        let process = self.process.as_deref().map(|name| names.find_process(trace, name));
+        let process =
+            self.process.as_deref().map(|name| names.find_process(trace.streams().pids(), name));
         Ok(Filter {
             label: label.transpose()?,
             process: process.transpose()?,
@@ -255,11 +264,14 @@ impl Conditions {
 
     /// Returns whether an event meets the conditions on times.
     pub(crate) fn are_met(&self, row: &Row, names: &Names) -> bool {
-        let time = || names.times()?.of_event((row.pid, row.index)).map(|time| time as f64 / 1e9);
-        !self.are_of_time()
-            || time().is_some_and(|time| {
-                self.from.is_none_or(|from| time >= from) && self.to.is_none_or(|to| time <= to)
-            })
+        let time = || names.times()?.of_event((row.pid, row.index));
+        !self.are_of_time() || time().is_some_and(|time| self.cover(time))
+    }
+
+    /// Returns whether they are met by an event that happened so much later than the first one.
+    pub(crate) fn cover(&self, time: Time) -> bool {
+        let seconds = time as f64 / 1e9;
+        self.from.is_none_or(|from| seconds >= from) && self.to.is_none_or(|to| seconds <= to)
     }
 
     /// Returns the places of the events that meet all conditions.
@@ -331,7 +343,6 @@ impl Command {
             | Command::Chart(Chart { inputs, .. })
             | Command::Check(inputs)
             | Command::Complete(Complete { inputs, .. })
-            | Command::Cut(Cut { inputs, .. })
             | Command::Explain(inputs)
             | Command::Export(Export { inputs, .. })
             | Command::Lint(Lint { inputs, .. })
@@ -339,6 +350,7 @@ impl Command {
             | Command::Page(Page { inputs, .. })
             | Command::Stats(inputs)
             | Command::Times(inputs) => &inputs.names,
+            Command::Cut(args) => &args.names[..1],
             Command::Diff(args) => std::slice::from_ref(&args.first),
             Command::Why(args) => std::slice::from_ref(&args.name),
             Command::Collect | Command::Watch | Command::Convert | Command::Pieces(_) => &[],
@@ -381,13 +393,20 @@ impl Args {
     fn checked(self) -> Result<Args, clap::Error> {
         let command = &self.command;
         let wrong = |words: String| Err(Args::command().error(ErrorKind::ValueValidation, words));
-        if command.files().iter().filter(|file| *file == Path::new("-")).count() > 1 {
+        let names = match command {
+            Command::Cut(cut) => &cut.names,
+            command => command.files(),
+        };
+        if names.iter().filter(|file| *file == Path::new("-")).count() > 1 {
             return wrong("standard input is read once: name it once".into());
         }
         if command.writes_text() && command.files().len() > 1 {
             return wrong("what this writes is of one trace: name one alone".into());
         }
         match (command, command.text_option()) {
+            (Command::Cut(cut), _) if cut.names.len() > 1 && cut.conditions.lines.is_some() => {
+                wrong("--lines are those of one file: ask for --around FILE:LINE".into())
+            }
             (Command::Diff(diff), _)
                 if diff.first == diff.second && diff.first == Path::new("-") =>
             {

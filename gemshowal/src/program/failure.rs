@@ -53,6 +53,10 @@ pub(crate) enum Failure {
     NotFound(#[from] names::NotFound),
     #[error("the trace has no times: events need the flag timestamp, and NAME.times beside it")]
     NoTimes,
+    #[error("the files' times can't be compared: those of one tell no date")]
+    NoDate,
+    #[error("{0} is of another trace: it has events that aren't there")]
+    OtherTimes(String),
     #[error("the cut leaves none of {0}: no event has all that the options ask for")]
     NothingLeft(String),
     #[error("{0} has a completion, with more acts or processes than are read")]
@@ -84,9 +88,14 @@ impl Failure {
             | Failure::Wrapped(_)
             | Failure::Torn(_)
             | Failure::NoActs(_)
-            | Failure::Beside(names::Fault::Wrong { .. }) => Status::Faulty as u8,
+            | Failure::OtherTimes(_)
+            | Failure::Beside(names::Fault::Wrong { .. } | names::Fault::Unlike { .. }) => {
+                Status::Faulty as u8
+            }
             Failure::NotFound(names::NotFound::Memory(_)) => 4,
-            Failure::NotFound(_) | Failure::NoTimes | Failure::NothingLeft(_) => Status::No as u8,
+            Failure::NotFound(_) | Failure::NoTimes | Failure::NoDate | Failure::NothingLeft(_) => {
+                Status::No as u8
+            }
             Failure::Unread(_, reason) if reason.kind() == ErrorKind::InvalidData => {
                 Status::Faulty as u8
             }

@@ -28,8 +28,9 @@ const PIECES: &[u8] = b"<1.2.0>|<0.7|<70000.1.0>|<03.1.0>|#Pid<|'receive',|recei
 /// The command lines that are tried on each text, with bars between them.
 const COMMANDS: &str = "audit|audit --json|audit --each-label|audit --each-label --json|\
     audit --label 17|audit --process 0.30.0 --json|check|check --json|complete|complete --json|\
-    complete --as streams|complete --as acts|cut --label 17|cut --lines 2-5|explain|explain --json|\
-    lint|lint --json --most 50|lint --fix|list|list --json --counts 1-|stats|stats --json|\
+    complete --as streams|complete --as acts|cut --label 17|cut --lines 2-5|cut --around 4|\
+    cut --from 0|explain|explain --json|lint|lint --json --most 50|lint --fix|list|\
+    list --json --counts 1-|stats|stats --json|\
     export --as mermaid|export --as dot|export --as perfetto|export --as shiviz|export --as otlp|\
     why NAME 3|why NAME 4 --effects --json|chart|chart --label 1000000|diff NAME NAME --json|page|times|\
     times --json|why NAME shop#2|list --label {order,7}";

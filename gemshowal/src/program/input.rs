@@ -225,11 +225,32 @@ pub(crate) struct Spooled<R> {
     reader: R,
     held: Vec<u8>,
     file: io::Result<Option<File>>,
+    is_at_end: bool,
 }
 
 impl<R: Read> Spooled<R> {
     pub(crate) fn new(reader: R) -> Spooled<R> {
-        Spooled { reader, held: Vec::new(), file: Ok(None) }
+        Spooled { reader, held: Vec::new(), file: Ok(None), is_at_end: false }
+    }
+
+    /// Reads to the end, and returns a reader of all that was read.
+    pub(crate) fn whole(&mut self) -> io::Result<impl Read + '_> {
+        if !self.is_at_end {
+            io::copy(self, &mut io::sink())?;
+            self.is_at_end = true;
+        }
+        let file = self.file.as_mut().map_err(|error| {
+            let words = format!("it can't be kept in {}: {error}", env::temp_dir().display());
+            io::Error::new(error.kind(), words)
+        })?;
+        let front: Box<dyn Read> = match file {
+            None => Box::new(io::empty()),
+            Some(file) => {
+                file.rewind()?;
+                Box::new(file)
+            }
+        };
+        Ok(front.chain(&self.held[..]))
     }
 
     pub(crate) fn bytes(self) -> io::Result<Vec<u8>> {

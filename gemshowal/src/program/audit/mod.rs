@@ -11,7 +11,6 @@ mod unexplained;
 mod wrapped;
 
 pub(crate) use outcome::{Outcome, Said};
-pub(crate) use region::open as open_ends;
 
 use crate::args::Audit;
 use crate::input::Input;

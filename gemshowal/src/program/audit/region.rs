@@ -37,7 +37,7 @@ pub(super) fn note(view: &View<'_>, kept: &Kept) -> Result<String, OutOfMemory> 
 }
 
 /// Counts the receives and sends whose other end is cut off, if the trace can be paired.
-pub(crate) fn open(view: &View<'_>, kept: &Kept) -> Result<Option<[u64; 2]>, OutOfMemory> {
+fn open(view: &View<'_>, kept: &Kept) -> Result<Option<[u64; 2]>, OutOfMemory> {
     let Some(paired) = Paired::if_possible(view.trace.streams())? else { return Ok(None) };
     let is_all = |own: &Vec<u64>, index: u64| own.get(index as usize) == Some(&index);
     let is_cut = |pid: Pid, index: u64| {

@@ -9,8 +9,8 @@ use std::borrow::Cow;
 use std::collections::{BTreeSet, HashMap};
 use std::fmt::Write;
 #[cfg(not(test))]
-use std::fs::read;
-use std::io::{self, ErrorKind};
+use std::fs::{read, File};
+use std::io::{self, BufRead, BufReader, ErrorKind};
 use std::path::{Path, PathBuf};
 use thiserror::Error;
 
@@ -22,6 +22,11 @@ pub(crate) enum Fault {
     Unread { file: PathBuf, reason: io::Error },
     #[error("{}, line {line}, isn't {wanted}; convert it anew", .file.display())]
     Wrong { file: PathBuf, line: usize, wanted: &'static str },
+    #[error(
+        "{} calls label {label} otherwise than a file before it: they aren't parts of one trace",
+        .file.display()
+    )]
+    Unlike { file: PathBuf, label: u32 },
 }
 
 #[cfg(test)]
@@ -34,6 +39,41 @@ thread_local! {
 fn read(file: &Path) -> io::Result<Vec<u8>> {
     let found = FILES.with_borrow(|files| files.get(file).cloned());
     found.ok_or_else(|| ErrorKind::NotFound.into())
+}
+
+/// Opens a file to be read line by line.
+#[cfg(not(test))]
+fn opened(file: &Path) -> io::Result<impl BufRead> {
+    File::open(file).map(BufReader::new)
+}
+
+#[cfg(test)]
+fn opened(file: &Path) -> io::Result<impl BufRead> {
+    read(file).map(|bytes| BufReader::new(io::Cursor::new(bytes)))
+}
+
+/// Opens a file, if it is there, to hand on the lines after the header, without their ends.
+pub(super) fn open_lines(
+    file: &Path,
+    header: &'static str,
+) -> Result<Option<impl Iterator<Item = Result<(usize, String), Fault>>>, Fault> {
+    let opened = match opened(file) {
+        Ok(opened) => opened,
+        Err(reason) if reason.kind() == ErrorKind::NotFound => return Ok(None),
+        Err(reason) => return Err(Fault::Unread { file: file.into(), reason }),
+    };
+    let path = file.to_owned();
+    let mut lines = opened.lines().zip(1..).map(move |(line, number)| match line {
+        Ok(line) => Ok((number, line)),
+        Err(reason) if reason.kind() == ErrorKind::InvalidData => {
+            Err(Fault::Wrong { file: path.clone(), line: number, wanted: "text in UTF-8" })
+        }
+        Err(reason) => Err(Fault::Unread { file: path.clone(), reason }),
+    });
+    match lines.next().transpose()? {
+        Some((_, first)) if first == header => Ok(Some(lines)),
+        _ => Err(Fault::Wrong { file: file.into(), line: 1, wanted: header }),
+    }
 }
 
 pub(super) struct Beside {

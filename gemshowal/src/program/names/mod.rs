@@ -17,7 +17,7 @@ mod which;
 pub(crate) use files::FILES;
 pub(crate) use files::{Fault, Messages};
 pub(crate) use line::Line;
-pub(crate) use times::Times;
+pub(crate) use times::{Time, Times, TimesFile};
 pub(crate) use which::NotFound;
 
 use crate::output::Notes;
@@ -65,6 +65,16 @@ pub(crate) struct Names {
 impl Names {
     /// Reads the files next to this file of a trace.
     pub(crate) fn beside(file: &Path, trace: &Trace, notes: &mut Notes) -> Result<Names, Fault> {
+        let mut names = Names::without_times(file, notes)?;
+        let times = beside(file, "times").map_or(Ok(None), Beside::read)?;
+        if let Some(times) = times {
+            names.times = Times::parse(&times)?.of_trace(trace, &times.file, notes);
+        }
+        Ok(names)
+    }
+
+    /// Reads these files but for that of times.
+    pub(crate) fn without_times(file: &Path, notes: &mut Notes) -> Result<Names, Fault> {
         let Some(file) = beside(file, "terms") else { return Ok(Names::default()) };
         let next = |extension| Beside::read(file.with_extension(extension));
         let mut names = Names::default();
@@ -78,10 +88,19 @@ impl Names {
         if let Some(facts) = next("facts")? {
             names.losses = files::losses(&facts)?;
         }
-        if let Some(times) = next("times")? {
-            names.times = Times::parse(&times)?.of_trace(trace, &times.file, notes);
-        }
         Ok(names)
+    }
+
+    /// Takes the names that the files next to another part of the trace give to processes and
+    /// labels.
+    pub(crate) fn join(&mut self, other: Names, file: &Path) -> Result<(), Fault> {
+        match self.terms.join(other.terms) {
+            None => Ok(()),
+            Some(label) => {
+                let file = beside(file, "terms").unwrap_or_default();
+                Err(Fault::Unlike { file, label })
+            }
+        }
     }
 
     /// Returns the short name of a process, or its pid if it has none.

@@ -55,6 +55,19 @@ impl Terms {
         (is_new && parts.next().is_none()).then_some(())
     }
 
+    /// Takes the names of processes and labels that another part of the trace has, and returns a
+    /// label that is another one there.
+    pub(super) fn join(&mut self, other: Terms) -> Option<u32> {
+        self.are_elixir |= other.are_elixir;
+        for (pid, process) in other.processes {
+            self.processes.entry(pid).or_insert(process);
+        }
+        other.labels.into_iter().find_map(|(label, term)| {
+            let known = self.labels.entry(label).or_insert_with(|| term.clone());
+            (*known != term).then_some(label)
+        })
+    }
+
     fn name(&self, name: &str) -> Box<str> {
         if self.are_elixir {
             elixir::name(name).into()

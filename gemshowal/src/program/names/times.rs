@@ -7,12 +7,15 @@
 //!
 //! A message between two nodes may seem to take less than no time, as far as their clocks differ.
 
-use super::files::{number, Beside, Fault};
+use super::files::{number, open_lines, Beside, Fault};
 use crate::output::Notes;
 use crate::view::Place;
 use gemshowal::{Event, Kind, Trace};
-use std::collections::HashMap;
-use std::path::Path;
+use std::collections::{HashMap, HashSet};
+use std::path::{Path, PathBuf};
+
+const HEADER: &str = "seqaudit times 1";
+const WANTED: &str = "an entry of NAME.times that no line before it has";
 
 /// Nanoseconds.
 pub(crate) type Time = i64;
@@ -24,35 +27,100 @@ pub(crate) struct Times {
     messages: HashMap<Place, (Place, Time)>,
 }
 
-impl Times {
-    pub(super) fn parse(file: &Beside) -> Result<Times, Fault> {
-        let wanted = "an entry of NAME.times that no line before it has";
-        let mut times = None;
-        file.take("seqaudit times 1", wanted, |line| match &mut times {
-            Some(times) => Times::add(times, line),
-            None => {
-                let begin = time(line.strip_prefix("begin ")?)?;
-                times = Some(Times { begin, ..Times::default() });
-                Some(())
-            }
-        })?;
-        times.ok_or_else(|| file.fault(2, wanted))
-    }
+/// `NAME.times` of a text that isn't read whole: it is read line by line.
+pub(crate) struct TimesFile {
+    file: PathBuf,
+    begin: Time,
+}
 
-    /// Adds the entry of a line; returns `None` if it isn't one, or its subject has a time already.
-    fn add(&mut self, line: &str) -> Option<()> {
+/// A line after those of the header and of the first event.
+enum Entry {
+    Event(Place, Time),
+    Message { send: Place, receive: Place, time: Time },
+}
+
+impl Entry {
+    fn read(line: &str) -> Option<Entry> {
         let mut words = line.split(' ');
         let kind = words.next()?;
         let first = place(&mut words)?;
-        let is_new = match kind {
-            "event" => self.events.insert(first, time(words.next()?)?).is_none(),
+        let entry = match kind {
+            "event" => Entry::Event(first, time(words.next()?)?),
             "message" => {
                 let receive = place(&mut words)?;
-                self.messages.insert(receive, (first, time(words.next()?)?)).is_none()
+                Entry::Message { send: first, receive, time: time(words.next()?)? }
             }
-            _ => false,
+            _ => return None,
         };
-        (is_new && words.next().is_none()).then_some(())
+        words.next().is_none().then_some(entry)
+    }
+}
+
+/// Reads when the first event happened.
+fn begin(line: &str) -> Option<Time> {
+    time(line.strip_prefix("begin ")?)
+}
+
+fn wrong(file: &Path, line: usize) -> Fault {
+    Fault::Wrong { file: file.into(), line, wanted: WANTED }
+}
+
+impl TimesFile {
+    /// Opens the file next to that of a trace, if there is one.
+    pub(crate) fn beside(trace: &Path) -> Result<Option<TimesFile>, Fault> {
+        let Some(file) = super::beside(trace, "times") else { return Ok(None) };
+        let Some(mut lines) = open_lines(&file, HEADER)? else { return Ok(None) };
+        let line = lines.next().transpose()?;
+        let begin = line.and_then(|(_, line)| begin(&line)).ok_or_else(|| wrong(&file, 2))?;
+        Ok(Some(TimesFile { file, begin }))
+    }
+
+    /// Returns when the first event happened, since 1970; less than 0 if its node told no clock.
+    pub(crate) fn begin(&self) -> Time {
+        self.begin
+    }
+
+    pub(crate) fn name(&self) -> String {
+        self.file.display().to_string()
+    }
+
+    /// Returns the events that happened so much later than the first one that it is wanted.
+    pub(crate) fn events(&self, is_wanted: impl Fn(Time) -> bool) -> Result<HashSet<Place>, Fault> {
+        let mut events = HashSet::new();
+        for line in open_lines(&self.file, HEADER)?.into_iter().flatten().skip(1) {
+            let (number, line) = line?;
+            match Entry::read(&line).ok_or_else(|| wrong(&self.file, number))? {
+                Entry::Event(place, time) if is_wanted(time) && !events.insert(place) => {
+                    return Err(wrong(&self.file, number));
+                }
+                _ => {}
+            }
+        }
+        Ok(events)
+    }
+}
+
+impl Times {
+    pub(super) fn parse(file: &Beside) -> Result<Times, Fault> {
+        let mut times = None;
+        file.take(HEADER, WANTED, |line| match &mut times {
+            Some(times) => Times::add(times, Entry::read(line)?).then_some(()),
+            None => {
+                times = Some(Times { begin: begin(line)?, ..Times::default() });
+                Some(())
+            }
+        })?;
+        times.ok_or_else(|| file.fault(2, WANTED))
+    }
+
+    /// Adds an entry, and returns whether its subject had no time yet.
+    fn add(&mut self, entry: Entry) -> bool {
+        match entry {
+            Entry::Event(place, time) => self.events.insert(place, time).is_none(),
+            Entry::Message { send, receive, time } => {
+                self.messages.insert(receive, (send, time)).is_none()
+            }
+        }
     }
 
     /// Returns the times, unless they are of another trace: one in which an event is gone, or was

@@ -23,6 +23,8 @@ pub(crate) enum NotFound {
     NoEvent(String, u64, String),
     #[error("there is no event on line {0}")]
     NoLine(u64),
+    #[error("line {0} of which file? Write FILE:{0}")]
+    NoFile(u64),
     #[error("there is no label {0}; the trace has {1}")]
     NoLabel(String, String),
     #[error("several labels are shown as {0}; write the number of one: {1}")]
@@ -47,11 +49,23 @@ impl Names {
         if let Some(line) = number(&joined) {
             return trace.place(line)?.ok_or(NotFound::NoLine(line));
         }
-        let parts = joined.rsplit_once('#').or_else(|| joined.rsplit_once(' '));
+        let streams = trace.streams();
+        self.find_event_among(streams.pids(), |pid| streams.len(pid), &joined)
+    }
+
+    /// Finds the place of an event that is named by its process, one of these, each with this
+    /// number of events.
+    pub(crate) fn find_event_among(
+        &self,
+        listed: &[Pid],
+        count: impl Fn(Pid) -> u64,
+        word: &str,
+    ) -> Result<(Pid, u64), NotFound> {
+        let parts = word.rsplit_once('#').or_else(|| word.rsplit_once(' '));
         let found = parts.and_then(|(process, index)| Some((process, number(index)?)));
-        let (process, index) = found.ok_or_else(|| NotFound::NoEventName(joined.clone()))?;
-        let pid = self.find_process(trace, process)?;
-        let count = trace.streams().len(pid);
+        let (process, index) = found.ok_or_else(|| NotFound::NoEventName(word.into()))?;
+        let pid = self.find_process(listed, process)?;
+        let count = count(pid);
         if index < count {
             return Ok((pid, index));
         }
@@ -63,15 +77,16 @@ impl Names {
         Err(NotFound::NoEvent(process.into(), index, has))
     }
 
-    pub(crate) fn find_process(&self, trace: &Trace, word: &str) -> Result<Pid, NotFound> {
-        let listed = trace.streams().pids();
+    /// Finds the process of this name or pid among the listed ones, which rise.
+    pub(crate) fn find_process(&self, listed: &[Pid], word: &str) -> Result<Pid, NotFound> {
+        let is_listed = |pid: &Pid| listed.binary_search(pid).is_ok();
         let named = self.terms.processes_of(word);
         match (
             &named[..],
             gemshowal::read_pid(word).or_else(|| gemshowal::read_pid(&format!("<{word}>"))),
         ) {
-            (_, Some(pid)) if listed.contains(&pid) => Ok(pid),
-            ([pid], _) if listed.contains(pid) => Ok(*pid),
+            (_, Some(pid)) if is_listed(&pid) => Ok(pid),
+            ([pid], _) if is_listed(pid) => Ok(*pid),
             ([_, _, ..], _) => {
                 let pids = named.iter().map(|&pid| gemshowal::Text(pid).to_string());
                 Err(NotFound::SeveralProcesses(word.into(), few(pids)))
@@ -86,7 +101,15 @@ impl Names {
     /// Finds the label that is shown as this text, but for blanks, or has this number; without a
     /// text the only label.
     pub(crate) fn find_label(&self, trace: &Trace, text: Option<&str>) -> Result<Label, NotFound> {
-        let labels: BTreeSet<u32> = trace.events().map(|(_, event)| event.label.0).collect();
+        self.find_label_among(&trace.events().map(|(_, event)| event.label.0).collect(), text)
+    }
+
+    /// Finds the label among these.
+    pub(crate) fn find_label_among(
+        &self,
+        labels: &BTreeSet<u32>,
+        text: Option<&str>,
+    ) -> Result<Label, NotFound> {
         let shown = |labels: &BTreeSet<u32>| {
             few(labels.iter().map(|&label| self.label(Label(label)).into_owned()))
         };
@@ -94,7 +117,7 @@ impl Names {
             return match (labels.first(), labels.len()) {
                 (None, _) => Err(NotFound::NoEvents),
                 (Some(&label), 1) => Ok(Label(label)),
-                (_, count) => Err(NotFound::WhichLabel(count, shown(&labels))),
+                (_, count) => Err(NotFound::WhichLabel(count, shown(labels))),
             };
         };
         let is_meant =
@@ -104,7 +127,7 @@ impl Names {
         match (&meant[..], numbered) {
             (_, Some(label)) if labels.contains(&label) => Ok(Label(label)),
             (&[label], _) => Ok(Label(label)),
-            ([], _) => Err(NotFound::NoLabel(text.into(), shown(&labels))),
+            ([], _) => Err(NotFound::NoLabel(text.into(), shown(labels))),
             (several, _) => {
                 Err(NotFound::SeveralLabels(text.into(), few(several.iter().map(u32::to_string))))
             }

@@ -1,0 +1,146 @@
+//! What is written: the lines of the chosen events, and how many messages lose an end.
+
+use super::part::Parts;
+use super::selection::Selection;
+use crate::pieces::{Entry, Reported};
+use crate::Failure;
+use gemshowal::{Event, Kind, MessageContent, Pid, Text};
+use std::collections::{BTreeMap, HashMap, HashSet};
+use std::io::{self, Write};
+
+/// The messages of the chosen events.
+#[derive(Default)]
+pub(super) struct Ends {
+    /// The senders and counts of those whose other ends are kept, too.
+    stamps: HashSet<(Pid, u64)>,
+    /// The others, each with how many sends and how many receives of it are chosen.
+    chosen: HashMap<MessageContent, [u64; 2]>,
+}
+
+/// The chosen lines of a process.
+#[derive(Default)]
+struct Own {
+    count: u64,
+    text: Vec<u8>,
+}
+
+#[derive(Default)]
+pub(super) struct Kept {
+    processes: BTreeMap<Pid, Own>,
+    events: u64,
+    /// How many receives have a send, and sends a receive, that isn't kept.
+    open: [u64; 2],
+    /// The places that were asked for, each with the event's index in what is kept.
+    places: Vec<(Pid, u64, u64)>,
+}
+
+impl Ends {
+    pub(super) fn new(parts: &mut Parts, selection: &mut Selection<'_>) -> Result<Ends, Failure> {
+        let mut ends = Ends::default();
+        parts.walk(|line, before, entry| {
+            let Entry::Event(reported) = entry else { return Ok(()) };
+            if selection.takes(line, before, &reported)? {
+                if selection.is_near() {
+                    ends.stamps.insert(stamp(&reported.event));
+                } else {
+                    ends.choose(&reported.event);
+                }
+            }
+            Ok(())
+        })?;
+        selection.end()?;
+        Ok(ends)
+    }
+
+    fn choose(&mut self, event: &Event) {
+        let end = usize::from(event.kind == Kind::Receive);
+        if event.kind != Kind::Print {
+            self.chosen.entry(MessageContent::of(event)).or_default()[end] += 1;
+        }
+    }
+}
+
+fn stamp(event: &Event) -> (Pid, u64) {
+    (event.from, event.serial.this)
+}
+
+impl Kept {
+    pub(super) fn new(
+        parts: &mut Parts,
+        selection: &mut Selection<'_>,
+        ends: &Ends,
+    ) -> Result<Kept, Failure> {
+        let mut kept = Kept::default();
+        parts.walk(|line, before, entry| {
+            let Entry::Event(reported) = entry else { return Ok(()) };
+            if selection.takes(line, before, &reported)?
+                || ends.stamps.contains(&stamp(&reported.event))
+            {
+                if selection.has_place(reported.pid, before + reported.index) {
+                    kept.add_place(&reported, before);
+                }
+                kept.add(&reported);
+            } else {
+                kept.count_open(&reported.event, ends);
+            }
+            Ok(())
+        })?;
+        selection.end()?;
+        Ok(kept)
+    }
+
+    fn add(&mut self, reported: &Reported<'_>) {
+        let event = &reported.event;
+        for pid in [Some(event.from), event.to].into_iter().flatten() {
+            self.processes.entry(pid).or_default();
+        }
+        let own = self.processes.entry(reported.pid).or_default();
+        own.count += 1;
+        own.text.extend_from_slice(reported.line);
+        own.text.push(b'\n');
+        self.events += 1;
+    }
+
+    fn add_place(&mut self, reported: &Reported<'_>, before: u64) {
+        let now = self.processes.get(&reported.pid).map_or(0, |own| own.count);
+        self.places.push((reported.pid, before + reported.index, now));
+    }
+
+    /// Counts the chosen ends of a message that this event, which isn't kept, is the other end of.
+    fn count_open(&mut self, event: &Event, ends: &Ends) {
+        let Some([sends, receives]) = ends.chosen.get(&MessageContent::of(event)) else { return };
+        match event.kind {
+            Kind::Send => self.open[0] += receives,
+            Kind::Receive => self.open[1] += sends,
+            Kind::Print => {}
+        }
+    }
+
+    /// Writes the text of a trace.
+    pub(super) fn write(&self, out: &mut impl Write) -> io::Result<()> {
+        let is_remote = self.processes.keys().any(|pid| pid.node() > 0);
+        writeln!(out, "seqtrace {}", if is_remote { 2 } else { 1 })?;
+        self.processes.iter().try_for_each(|(&pid, own)| {
+            writeln!(out, "process {}", Text(pid))?;
+            out.write_all(&own.text)
+        })
+    }
+
+    pub(super) fn events(&self) -> u64 {
+        self.events
+    }
+
+    pub(super) fn open(&self) -> [u64; 2] {
+        self.open
+    }
+
+    /// Returns the places that were asked for, each with the event's index in what is kept and its
+    /// line there.
+    pub(super) fn places(&self) -> impl Iterator<Item = (Pid, u64, u64, u64)> + '_ {
+        self.places.iter().map(|&(pid, index, now)| {
+            // The header and the process lines up to this one come before the event, too.
+            let lines: u64 = self.processes.range(..pid).map(|(_, own)| 1 + own.count).sum();
+            (pid, index, now, lines + now + 3)
+        })
+    }
+}

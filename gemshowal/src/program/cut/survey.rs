@@ -1,0 +1,79 @@
+//! What there is to choose from: the processes, the labels, and the events on lines that are named.
+
+use super::part::{Line, Parts};
+use super::selection::Places;
+use crate::pieces::Entry;
+use crate::Failure;
+use gemshowal::{Pid, ReadFault};
+use std::collections::{BTreeMap, BTreeSet, HashMap};
+
+#[derive(Default)]
+pub(super) struct Survey {
+    /// The processes that are listed, each with the number of its events.
+    processes: BTreeMap<Pid, u64>,
+    labels: BTreeSet<u32>,
+    /// The events on the lines that places name.
+    on_lines: HashMap<Line, (Pid, u64)>,
+    events: u64,
+}
+
+impl Survey {
+    /// Reads the parts, and refuses one that names a process which none lists.
+    pub(super) fn new(parts: &mut Parts, places: &Places) -> Result<Survey, Failure> {
+        let mut survey = Survey::default();
+        let mut named = HashMap::new();
+        let mut label = None;
+        let counts = parts.walk(|line, before, entry| {
+            let mut name = |pid| {
+                named.entry(pid).or_insert(line);
+            };
+            let reported = match entry {
+                Entry::Process(_) => return Ok(()),
+                Entry::Act(pids) => {
+                    pids.iter().copied().for_each(name);
+                    return Ok(());
+                }
+                Entry::Event(reported) => reported,
+            };
+            let event = &reported.event;
+            let ends = [Some(event.from), event.to].into_iter().flatten();
+            ends.filter(|&end| end != reported.pid).for_each(&mut name);
+            if label.replace(event.label.0) != Some(event.label.0) {
+                survey.labels.insert(event.label.0);
+            }
+            if places.have_line(line) {
+                survey.on_lines.insert(line, (reported.pid, before + reported.index));
+            }
+            survey.events += 1;
+            Ok(())
+        })?;
+        survey.processes = counts.into_iter().collect();
+        let unlisted = named.into_iter().filter(|(pid, _)| !survey.processes.contains_key(pid));
+        match unlisted.map(|(_, line)| line).min() {
+            None => Ok(survey),
+            Some((part, line)) => {
+                Err(parts.describe(part, format!(": {}", ReadFault::Unknown(line))))
+            }
+        }
+    }
+
+    pub(super) fn pids(&self) -> Vec<Pid> {
+        self.processes.keys().copied().collect()
+    }
+
+    pub(super) fn count(&self, pid: Pid) -> u64 {
+        self.processes.get(&pid).copied().unwrap_or(0)
+    }
+
+    pub(super) fn labels(&self) -> &BTreeSet<u32> {
+        &self.labels
+    }
+
+    pub(super) fn on_line(&self, line: Line) -> Option<(Pid, u64)> {
+        self.on_lines.get(&line).copied()
+    }
+
+    pub(super) fn events(&self) -> u64 {
+        self.events
+    }
+}
