@@ -11,7 +11,7 @@ mod survey;
 
 use self::kept::{Ends, Kept};
 use self::part::Parts;
-use self::selection::{Places, Selection};
+use self::selection::{NamedEvents, Selection};
 use self::survey::Survey;
 use crate::args::Cut;
 use crate::view::{count, grouped};
@@ -20,7 +20,7 @@ use crate::{Failure, Status, Task};
 pub(crate) fn run(args: &Cut, task: Task<'_>) -> Result<Status, Failure> {
     let Task { input, out, notes, .. } = task;
     let mut parts = Parts::new(input, &args.names)?;
-    let places = Places::read(&args.around, &parts)?;
+    let places = NamedEvents::read(&args.around, &parts)?;
     let survey = Survey::new(&mut parts, &places)?;
     let names = parts.names(notes)?;
     let mut selection = Selection::new(args, &places, &survey, &names, &parts)?;

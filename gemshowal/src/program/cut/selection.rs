@@ -10,40 +10,40 @@ use gemshowal::{Label, Pid, Span};
 use std::collections::HashSet;
 
 /// An event near which others are chosen, as the command line names it.
-enum Place<'a> {
+enum NamedEvent<'a> {
     Line(Line),
     Name(&'a str),
 }
 
-pub(super) struct Places<'a>(Vec<Place<'a>>);
+pub(super) struct NamedEvents<'a>(Vec<NamedEvent<'a>>);
 
-impl<'a> Places<'a> {
-    pub(super) fn read(words: &'a [String], parts: &Parts) -> Result<Places<'a>, Failure> {
-        let place = |word: &'a String| -> Result<Place<'a>, NotFound> {
+impl<'a> NamedEvents<'a> {
+    pub(super) fn read(words: &'a [String], parts: &Parts) -> Result<NamedEvents<'a>, Failure> {
+        let place = |word: &'a String| -> Result<NamedEvent<'a>, NotFound> {
             match (word.parse(), word.rsplit_once(':')) {
-                (Ok(line), _) if parts.iter().len() == 1 => return Ok(Place::Line((0, line))),
+                (Ok(line), _) if parts.iter().len() == 1 => return Ok(NamedEvent::Line((0, line))),
                 (Ok(line), _) => return Err(NotFound::NoFile(line)),
                 (_, Some((file, line))) => {
                     let part = parts.iter().position(|part| part.is_called(file));
                     if let (Some(part), Ok(line)) = (part, line.parse()) {
-                        return Ok(Place::Line((part, line)));
+                        return Ok(NamedEvent::Line((part, line)));
                     }
                 }
                 _ => {}
             }
-            Ok(Place::Name(word))
+            Ok(NamedEvent::Name(word))
         };
-        Ok(Places(words.iter().map(place).collect::<Result<_, _>>()?))
+        Ok(NamedEvents(words.iter().map(place).collect::<Result<_, _>>()?))
     }
 
     pub(super) fn have_line(&self, line: Line) -> bool {
-        self.0.iter().any(|place| matches!(place, &Place::Line(other) if other == line))
+        self.0.iter().any(|place| matches!(place, &NamedEvent::Line(other) if other == line))
     }
 
     fn find(&self, survey: &Survey, names: &Names) -> Result<Vec<(Pid, u64)>, NotFound> {
-        let find = |place: &Place<'_>| match *place {
-            Place::Line(line) => survey.on_line(line).ok_or(NotFound::NoLine(line.1)),
-            Place::Name(word) => {
+        let find = |place: &NamedEvent<'_>| match *place {
+            NamedEvent::Line(line) => survey.on_line(line).ok_or(NotFound::NoLine(line.1)),
+            NamedEvent::Name(word) => {
                 names.find_event_among(&survey.pids(), |pid| survey.count(pid), word)
             }
         };
@@ -118,7 +118,7 @@ impl Times {
 impl<'a> Selection<'a> {
     pub(super) fn new(
         args: &'a Cut,
-        places: &Places<'_>,
+        places: &NamedEvents<'_>,
         survey: &Survey,
         names: &Names,
         parts: &Parts,

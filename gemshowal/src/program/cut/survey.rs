@@ -1,7 +1,7 @@
 //! What there is to choose from: the processes, the labels, and the events on lines that are named.
 
 use super::part::{Line, Parts};
-use super::selection::Places;
+use super::selection::NamedEvents;
 use crate::pieces::Entry;
 use crate::Failure;
 use gemshowal::{Pid, ReadFault};
@@ -19,7 +19,7 @@ pub(super) struct Survey {
 
 impl Survey {
     /// Reads the parts, and refuses one that names a process which none lists.
-    pub(super) fn new(parts: &mut Parts, places: &Places) -> Result<Survey, Failure> {
+    pub(super) fn new(parts: &mut Parts, places: &NamedEvents) -> Result<Survey, Failure> {
         let mut survey = Survey::default();
         let mut named = HashMap::new();
         let mut label = None;
