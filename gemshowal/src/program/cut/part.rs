@@ -1,10 +1,9 @@
 //! The parts of a trace, each of which can be read several times.
 
-use crate::input::Input;
+use crate::input::{Input, Spooled};
 use crate::names::Names;
 use crate::output::Notes;
 use crate::pieces::{walk, Entry, BUFFER};
-use crate::spool::Spooled;
 use crate::{lint, Failure};
 use gemshowal::Pid;
 use std::collections::HashMap;
