@@ -1,5 +1,5 @@
 -- One event more: its place is added if it is such a receive.
-use Rattle.std.proofs.Common.{◌+◌, cond, get_or, take, [], ◌∷◌, ◌++◌, sym, ◌∙◌, ap, subst}
+use Rattle.std.proofs.Common.{cond, get_or, take, [], ◌∷◌, ◌++◌, sym, ◌∙◌, ap, subst}
 use Rattle.std.proofs.Common.{append-nil, None, Vec, Global, ℕ}
 use Rattle.st_core.specs.declared.types.Pid.{Pid}
 use Rattle.st_core.specs.declared.types.Event.{Event}
