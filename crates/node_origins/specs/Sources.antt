@@ -1,0 +1,31 @@
+-- Where the origins of the stamp at an index come from: a token that it succeeds, the receive right
+-- before it, the request of the answer right before it, and home.
+use Rattle.std.specs.Prelude.{◌≡◌, ◌⊎◌, ℕ, ◌<◌, true, false, List}
+use Rattle.node_machine.specs.declared.types.Seen.{Seen}
+use Rattle.node_machine.specs.Origins.{Can, Follows, Home, IsAnsweredAt, IsAtHome, IsSuccessor}
+use Rattle.node_machine.specs.Origins.{IsTaken, TokenOrigin}
+use Rattle.node_given.specs.declared.way.Way.{Way}
+use Rattle.node_given.specs.declared.way.Way.TheVariants as way
+
+abbrev pub FromPredecessor : List Seen → ℕ → TokenOrigin → Type 0
+FromPredecessor es i h = (k : ℕ)
+    × ((IsSuccessor true es i k × (h ≡ Follows k)) ⊎ (IsSuccessor false es i k × Can es k h))
+
+abbrev pub FromReceive : List Seen → ℕ → TokenOrigin → Type 0
+FromReceive es i h = (k : ℕ) × IsTaken es i k × (h ≡ Follows k)
+
+abbrev pub FromRequest : List Seen → ℕ → TokenOrigin → Type 0
+FromRequest es i h = (k : ℕ) × IsAnsweredAt es i k × Can es k h
+
+abbrev pub FromHome : List Seen → ℕ → TokenOrigin → Type 0
+FromHome es i h = IsAtHome es i × (h ≡ Home)
+
+-- The receive right before a stamp, which brought its prev, can have brought its token, by what
+-- gives the stamp. If a token was put back right before the stamp, that can as well have been before
+-- the receive, unless the receive lifted the clock above the token's count.
+abbrev pub LeavesReceive : Way → Seen → Type 0
+LeavesReceive way.Plain e = Unit {0}
+LeavesReceive (way.Lowered t) e = Unit {0}
+LeavesReceive (way.PutBack t) e = (e.serial.this ≡ 0) ⊎ (e.serial.prev < e.serial.this)
+LeavesReceive way.Receive e = ⊥
+LeavesReceive way.Ungiven e = ⊥

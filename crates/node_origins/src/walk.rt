@@ -1,0 +1,186 @@
+//! The walk.
+
+ghost use Rattle.std.specs.Prelude.{◌≡◌, ◌≢◌, ◌<◌, ◌≤◌, ◌^◌, ◌↔◌, false, true, ℕ};
+ghost use Rattle.std.specs.Prelude.{length, slice_get, take, List, Some, IfOk, IsTrue};
+ghost use Rattle.st_core.specs.Step.{Outcome};
+ghost use Rattle.st_core.specs.declared.types.Pid.{Pid as PidValue};
+ghost use Rattle.node_machine.specs.Counts.{answer_count, serial_count};
+ghost use Rattle.node_machine.specs.Node.{NodeAct};
+ghost use Rattle.node_machine.specs.Origins.{Can, TokenOrigin, origins_told};
+ghost use Rattle.node_machine.specs.Readings.{is_next, is_receipt};
+ghost use Rattle.node_machine.specs.declared.types.Seen.{Seen as SeenValue};
+ghost use Rattle.node_given.specs.Walk.{AreFit, IsWay};
+ghost use Rattle.node_given.specs.declared.way.Way.{Way as WayValue};
+ghost use Rattle.node_origins.specs.declared.origin.EventOrigins.{EventOrigins as EventOriginsValue};
+ghost use Rattle.node_origins.specs.declared.origin.EventOrigins.TheVariants as allowed;
+ghost use Rattle.node_origins.specs.declared.origin.StampOrigin.{StampOrigin as StampOriginValue};
+ghost use Rattle.node_origins.specs.Runs.{HaveOrigins};
+ghost use Rattle.node_origins.specs.Sources.{FromReceive, FromRequest, LeavesReceive};
+ghost use Rattle.node_origins.specs.Summary.{HasBothOrigins, HasNoOrigin, HasOneOrigin, IsEntry};
+ghost use Rattle.node_origins.specs.Summary.{IsSummary, origin_of};
+ghost use Rattle.node_origins.specs.Tables.{AreFirsts, AreSuccessors};
+
+use crate::counts::{clock_of_answer, count_after, last_of_answer};
+use crate::home::Firsts;
+use crate::origin::{EventOrigins, StampOrigin};
+use crate::successors::Successors;
+use node_given::{Way, given};
+use node_machine::Seen;
+use st_core::Kind;
+use std::alloc::{AllocError, Global};
+
+/// Whether the receive right before a stamp, which brought its prev, can have brought its token:
+/// the stamp is given plainly, or a token that was put back before the receive lowered the clock.
+fn receive_gives(way: Way, stamp: Seen) -> bool
+    ensures { IsTrue result ↔ LeavesReceive way stamp }
+{
+    match way {
+        Way::Plain | Way::Lowered(_) => true,
+        Way::PutBack(_) => stamp.serial.this == 0 || stamp.serial.prev < stamp.serial.this,
+        Way::Receive | Way::Ungiven => false,
+    }
+}
+
+/// The receive right before the stamp at this index, if it can have brought its token.
+fn receive_before(events: &[Seen], index: usize, stamp: Seen, way: Way) -> EventOrigins
+    requires fit { AreFit events.now }
+    requires at { slice_get events.now index ≡ Some stamp }
+    requires stamps { is_receipt stamp ≡ false }
+    requires given { IsWay (take index events.now) stamp way }
+    ensures { IsSummary (FromReceive events.now index) result }
+{
+    if index == 0 {
+        return EventOrigins::Unknown;
+    }
+    let before = events[index - 1];
+    let takes = before.kind == Kind::Receive && !before.answer;
+    let fits = before.label == stamp.label && before.serial.this == stamp.serial.prev;
+    if takes && fits && receive_gives(way, stamp) {
+        EventOrigins::One(StampOrigin::Follows(index - 1))
+    } else {
+        EventOrigins::Unknown
+    }
+}
+
+/// Whether a stamp goes on from the counts that an answer leaves.
+fn goes_on_from(answer: Seen, stamp: Seen) -> bool
+    requires { answer.serial.this < 2 ^ 60 }
+    ensures { (let clock = answer_count answer.serial.this in
+        result ≡ is_next clock (serial_count clock) stamp) }
+{
+    let count = answer.serial.this;
+    stamp.serial.this == count_after(clock_of_answer(count))
+        && stamp.serial.prev == last_of_answer(count)
+}
+
+/// The origins of the request before an answer that is right before the stamp at this index, if the
+/// stamp goes on from that answer.
+fn request_before(
+    events: &[Seen],
+    found: &[EventOrigins],
+    index: usize,
+    stamp: Seen,
+) -> EventOrigins
+    requires fit { AreFit events.now }
+    requires at { slice_get events.now index ≡ Some stamp }
+    requires all { index ≤ length found.now }
+    requires entries { (k : ℕ) (e : SeenValue) (o : EventOriginsValue)
+        → slice_get events.now k ≡ Some e → slice_get found.now k ≡ Some o
+        → IsEntry events.now k e o }
+    ensures { IsSummary (FromRequest events.now index) result }
+{
+    if index < 2 {
+        return EventOrigins::Unknown;
+    }
+    let answer = events[index - 1];
+    let request = events[index - 2];
+    let asks = request.kind != Kind::Receive && request.label == stamp.label;
+    if answer.answer && asks && goes_on_from(answer, stamp) {
+        found[index - 2]
+    } else {
+        EventOrigins::Unknown
+    }
+}
+
+/// The origins of the stamp at this index.
+fn stamp_origins(
+    events: &[Seen],
+    found: &[EventOrigins],
+    firsts: &Firsts,
+    successors: &Successors,
+    index: usize,
+    stamp: Seen,
+    way: Way,
+) -> EventOrigins
+    requires fit { AreFit events.now }
+    requires at { slice_get events.now index ≡ Some stamp }
+    requires stamps { is_receipt stamp ≡ false }
+    requires given { IsWay (take index events.now) stamp way }
+    requires all { index ≤ length found.now }
+    requires entries { (k : ℕ) (e : SeenValue) (o : EventOriginsValue)
+        → slice_get events.now k ≡ Some e → slice_get found.now k ≡ Some o
+        → IsEntry events.now k e o }
+    requires firsts { AreFirsts events.now firsts.now }
+    requires successors { AreSuccessors events.now index successors.now }
+    ensures { IsSummary (Can events.now index) result }
+{
+    successors
+        .origins_of(stamp)
+        .or(receive_before(events, index, stamp, way))
+        .or(request_before(events, found, index, stamp))
+        .or(firsts.home(index, stamp))
+}
+
+/// Finds what the events of one process, in order, allow as the origin of the token of each of its
+/// stamps, if it ran on a standard node. In a serial a count is the number from 0 to 2^60 - 1 that
+/// has its bits.
+///
+/// In each run in which these are its events, it reported each stamp and each receive of a token,
+/// and its tokens and their labels are its own, an origin that is the one allowed is that of the
+/// stamp. If none is allowed for some stamp, there is no such run.
+pub fn origins(alloc: Global, events: &[Seen]) -> Result<Vec<EventOrigins>, AllocError>
+    requires { AreFit events.now }
+    ensures each { IfOk result (λ v. length v.items ≡ length events.now) }
+    ensures receives { IfOk result (λ v. (i : ℕ) (e : SeenValue) → slice_get events.now i ≡ Some e
+        → (slice_get v.items i ≡ Some allowed.Receive) ↔ (is_receipt e ≡ true)) }
+    ensures unknown { IfOk result (λ v. (i : ℕ) (e : SeenValue) → slice_get events.now i ≡ Some e
+        → is_receipt e ≡ false
+        → (slice_get v.items i ≡ Some allowed.Unknown) ↔ HasNoOrigin (Can events.now i)) }
+    ensures one { IfOk result (λ v. (i : ℕ) (e : SeenValue) → slice_get events.now i ≡ Some e
+        → is_receipt e ≡ false → (h : StampOriginValue)
+        → (slice_get v.items i ≡ Some (allowed.One h)) ↔ HasOneOrigin (Can events.now i) h) }
+    ensures several { IfOk result (λ v. (i : ℕ) (a b : StampOriginValue)
+        → slice_get v.items i ≡ Some (allowed.Several a b)
+        → HasBothOrigins (Can events.now i) a b) }
+    ensures certain { IfOk result (λ v. (p : PidValue) (pids : List PidValue) (acts : List NodeAct)
+        (os : List Outcome) (hs : List TokenOrigin) → HaveOrigins p events.now pids acts os hs
+        → (i : ℕ) (h : StampOriginValue) → slice_get v.items i ≡ Some (allowed.One h)
+        → slice_get (origins_told acts os hs p) i ≡ Some (origin_of h)) }
+    ensures impossible { IfOk result (λ v. (i : ℕ) → slice_get v.items i ≡ Some allowed.Unknown
+        → (p : PidValue) (pids : List PidValue) (acts : List NodeAct) (os : List Outcome)
+        (hs : List TokenOrigin) → ¬ (HaveOrigins p events.now pids acts os hs)) }
+{
+    let ways = given(alloc, events)?;
+    let firsts = Firsts::of(alloc, events)?;
+    let mut successors = Successors::new(alloc);
+    let mut found = Vec::with_capacity(alloc, events.len())?;
+    for (index, &event) in events.iter().enumerate() {
+        let origins = match event.kind {
+            Kind::Receive => EventOrigins::Receive,
+            Kind::Send | Kind::Print => {
+                stamp_origins(
+                    events,
+                    &found,
+                    &firsts,
+                    &successors,
+                    index,
+                    event,
+                    ways[index],
+                )
+            }
+        };
+        successors.note(index, event, origins)?;
+        found.push(origins)?;
+    }
+    Ok(found)
+}
