@@ -12,9 +12,8 @@ pub use Rattle.node_machine.proofs.Places.{needs_met}
 -- ---- origins
 pub use Rattle.node_machine.proofs.Follows.{origins_can}
 -- ---- counts, readings and tokens, one event more
-pub use Rattle.node_machine.proofs.Counts.{count_once, FitsSerial, next_of_zero, serial_case}
+pub use Rattle.node_machine.proofs.Counts.{count_once, FitsSerial, next_of_zero}
 pub use Rattle.node_machine.proofs.Lists.{all_append, all_of, among_back, among_front, among_parts}
-pub use Rattle.node_machine.proofs.Readings.{next_parts, next_true}
 pub use Rattle.node_machine.proofs.Readings.{put_back_reads, some_reading, stamp_reads}
 pub use Rattle.node_machine.proofs.Readings.{stamped_reads, take_reads, took_reads}
 pub use Rattle.node_machine.proofs.Tokens.{clock_by_answer, clock_by_receive, last_by_answer}
@@ -27,4 +26,3 @@ pub use Rattle.node_machine.proofs.Steps.{node_process_after, node_run_parts, no
 pub use Rattle.node_machine.proofs.Steps.{NodeStepped}
 pub use Rattle.node_machine.proofs.Queues.{alike_in, LastsFit, lasts_fit_then, queue_step}
 pub use Rattle.node_machine.proofs.Queues.{report_own, takes_alike, zero_alike, zero_lasts_fit}
-pub use Rattle.node_machine.proofs.Ways.{carried_held, lasts_held, lowered_receive}

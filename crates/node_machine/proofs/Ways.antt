@@ -13,10 +13,10 @@ use Rattle.node_machine.specs.Given.{fresh, IsGiven, IsPutBack, shown, takes, to
 use Rattle.node_machine.specs.Ways.{carried, IsAgain, IsFreshly, IsInSomeWay, IsLowered, lasts}
 use Rattle.node_machine.specs.Ways.{lasts_shown}
 use Rattle.node_machine.proofs.Counts.{max_either, next_of_zero}
-use Rattle.node_machine.proofs.Lists.{all_append, among_back, among_front, among_parts}
+use Rattle.node_machine.proofs.Lists.{among_back, among_front, among_parts}
 use Rattle.node_machine.proofs.Readings.{next_parts, next_true}
-use Rattle.node_machine.proofs.Tokens.{clock_by_receive, clock_push, last_by_receive, last_push}
-use Rattle.node_machine.proofs.Tokens.{takes_parts, tokens_more, tokens_receive}
+use Rattle.node_machine.proofs.Tokens.{clock_by_receive, last_by_receive, takes_parts, tokens_more}
+use Rattle.node_machine.proofs.Tokens.{tokens_receive}
 
 -- TOKENS
 
@@ -175,47 +175,6 @@ lower es e clock count front first (d ∷ back) t split held all clock_is last_i
           (tokens_receive first front parts.0 parts.1) all.1
           (clock_is ∙ ap (λ n. clock_behind n (d ∷ back)) (lifted ∙ same)) last_is
     ]
-
--- so it does before a receive that comes after such counts
-module _ (es : List Seen) (receive e : Seen) (clock last : ℕ) (way : IsPutBack es clock last)
-    (taken : takes receive ≡ true) (prev : receive.serial.this ≡ e.serial.prev)
-    (count : e.serial.this ≡ stamp_count (max clock receive.serial.this)) where
-  lowered_behind : (back : List Seen) → way.back ≡ back
-      → (token : Serial) × IsLowered (es ++ receive ∷ []) e token
-  lowered_behind [] none =
-      let this : clock ≡ way.token.this = way.clock_is ∙ ap (clock_behind way.token.this) none in
-      let whole : way.front ≡ es =
-      sym (way.split ∙ ap (λ xs. way.front ++ xs) none ∙ append-nil way.front) in (
-        way.token,
-        record {
-          front = es;
-          receive = receive;
-          split = refl;
-          taken = taken;
-          held = subst (λ xs. IsAmong (tokens xs) way.token) whole way.held;
-          prev = prev;
-          count = count ∙ ap (λ n. stamp_count (max n receive.serial.this)) this;
-        },
-      )
-  lowered_behind (first ∷ back) is =
-      let parts = takes_parts receive taken in
-      let t = way.token in
-      let before : clock ≡ clock_behind t.this (first ∷ back) =
-      way.clock_is ∙ ap (clock_behind t.this) is in
-      let split = ap (λ xs. xs ++ receive ∷ []) (way.split ∙ ap (λ xs. way.front ++ xs) is)
-      ∙ append_assoc way.front (first ∷ back) (receive ∷ []) in
-      lower (es ++ receive ∷ []) e (max clock receive.serial.this) count way.front first
-      (back ++ receive ∷ []) t split way.held
-      (all_append (λ r. takes r ≡ true) (first ∷ back) (receive ∷ [])
-      (subst AreTaken is way.receives) (taken, tt))
-      (ap (λ n. max n receive.serial.this) before
-      ∙ sym (clock_by_receive receive (clock_behind t.this (first ∷ back)) parts.1)
-      ∙ sym (clock_push (first ∷ back) receive t.this))
-      (sym (last_push (first ∷ back) receive t.prev ∙ last_by_receive receive parts.0 parts.1
-      ∙ prev))
-
-  pub lowered_receive : (token : Serial) × IsLowered (es ++ receive ∷ []) e token
-  lowered_receive = lowered_behind way.back refl
 
 -- THE WAYS
 

@@ -18,18 +18,18 @@ use Rattle.node_machine.specs.Given.{fresh, IsPutBack, IsStraight, takes, tokens
 use Rattle.node_machine.specs.Ways.{IsLowered, IsPlainly}
 use Rattle.node_machine.specs.Origins.{IsTaken}
 use Rattle.node_machine.proofs.ForCallers.{all_of, clock_by_receive, count_once, last_by_receive}
-use Rattle.node_machine.proofs.ForCallers.{last_push, lowered_receive, next_parts, next_true}
-use Rattle.node_machine.proofs.ForCallers.{serial_case, take_reads, takes_parts, takes_true}
+use Rattle.node_machine.proofs.ForCallers.{last_push, take_reads, takes_true}
 use Rattle.node_machine.proofs.ForCallers.{took_reads, ways_give}
 use Rattle.node_given.specs.declared.way.Way.{Way}
 use Rattle.node_given.specs.declared.way.Way.TheVariants as way
 use Rattle.node_given.specs.Walk.{AreFit, IsWay}
-use Rattle.node_given.proofs.ForCallers.{before_receive, fits_at, lowered_clock, lowered_last}
-use Rattle.node_given.proofs.ForCallers.{taken_more, tokens_fit, zero_held}
+use Rattle.node_origins.proofs.Steps.{before_receive, lowered_clock, lowered_last}
+use Rattle.node_origins.proofs.Steps.{lowered_receive, next_parts, next_true, serial_case}
+use Rattle.node_origins.proofs.Steps.{tokens_fit, zero_held}
 use Rattle.node_origins.specs.Sources.{LeavesReceive}
 
 -- the receive leads to the stamp e
-abbrev Leads : List Seen → Seen → Seen → Type 0
+abbrev pub Leads : List Seen → Seen → Seen → Type 0
 Leads front receive e = IsPlainly (front ++ receive ∷ []) e
     ⊎ ((token : Serial) × IsLowered (front ++ receive ∷ []) e token)
 

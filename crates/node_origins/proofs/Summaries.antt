@@ -1,13 +1,16 @@
 -- A result that stands for a set of origins, and another one, are joined by cases.
-use Rattle.std.proofs.Common.{◌≡◌, ◌≢◌, ◌⊎◌, ◌==◌, cond, true, false, inl, inr, refl, sym, ◌∙◌, ap}
+use Rattle.std.proofs.Common.{◌≡◌, ◌≢◌, ℕ, ◌⊎◌, ◌==◌, List, cond, true, false, inl, inr, refl, sym, ◌∙◌, ap}
 use Rattle.std.proofs.lemmas.Bool.{eqb-false, eqb-true, false≢true}
-use Rattle.node_machine.specs.Origins.{TokenOrigin}
+use Rattle.node_machine.specs.declared.types.Seen.{Seen}
+use Rattle.node_machine.specs.Readings.{is_receipt}
+use Rattle.node_machine.specs.Origins.{Can, TokenOrigin}
 use Rattle.node_machine.specs.Origins.{Follows as FollowsEvent, Home as AtHome}
 use Rattle.node_origins.specs.declared.origin.EventOrigins.{EventOrigins}
 use Rattle.node_origins.specs.declared.origin.EventOrigins.TheVariants as origins
 use Rattle.node_origins.specs.declared.origin.StampOrigin.{StampOrigin}
 use Rattle.node_origins.specs.declared.origin.StampOrigin.TheVariants as stamp_origin
-use Rattle.node_origins.specs.Summary.{either_origins, HasNoOrigin, IsSummary, origin_eq, origin_of}
+use Rattle.node_origins.specs.Summary.{either_origins, HasNoOrigin, IsEntry, IsSummary}
+use Rattle.node_origins.specs.Summary.{origin_eq, origin_of}
 
 -- ORIGINS
 
@@ -40,7 +43,7 @@ module _ (P Q : TokenOrigin → Type 0) (to : (h : TokenOrigin) → P h → Q h)
     (from : (h : TokenOrigin) → Q h → P h) where
   -- a result stands for each set with these members
   pub same_summary : (o : EventOrigins) → IsSummary P o → IsSummary Q o
-  same_summary origins.Receive is = λ h there. is h (from h there)
+  same_summary origins.Receive is = absurd is
   same_summary origins.Unknown is = λ h there. is h (from h there)
   same_summary (origins.One a) is = (to (origin_of a) is.0, λ h there. is.1 h (from h there))
   same_summary (origins.Several a b) is =
@@ -75,13 +78,29 @@ module _ (P Q : TokenOrigin → Type 0) where
 
   pub either_summary : (x y : EventOrigins) → IsSummary P x → IsSummary Q y
       → IsSummary Either (either_origins x y)
-  either_summary origins.Receive y first second = only_second first y second
+  either_summary origins.Receive y first second = absurd first
   either_summary origins.Unknown y first second = only_second first y second
-  either_summary (origins.One a) origins.Receive first second =
-      only_first second (origins.One a) first
+  either_summary (origins.One a) origins.Receive first second = absurd second
   either_summary (origins.One a) origins.Unknown first second =
       only_first second (origins.One a) first
   either_summary (origins.One a) (origins.One b) first second = both_ones a b first second
   either_summary (origins.One a) (origins.Several b c) first second =
       (inr second.0, inr second.1, second.2)
   either_summary (origins.Several a b) y first second = (inl first.0, inl first.1, first.2)
+
+-- ENTRIES
+
+module _ (es : List Seen) (i : ℕ) (e : Seen) where
+  pub entry_summary : is_receipt e ≡ false → (o : EventOrigins) → IsEntry es i e o
+      → IsSummary (Can es i) o
+  entry_summary stamp origins.Receive is = absurd (false≢true (sym stamp ∙ is))
+  entry_summary stamp origins.Unknown is = is.1
+  entry_summary stamp (origins.One a) is = is.1
+  entry_summary stamp (origins.Several a b) is = is.1
+
+  pub stamp_entry : is_receipt e ≡ false → (o : EventOrigins) → IsSummary (Can es i) o
+      → IsEntry es i e o
+  stamp_entry stamp origins.Receive is = absurd is
+  stamp_entry stamp origins.Unknown is = (stamp, is)
+  stamp_entry stamp (origins.One a) is = (stamp, is)
+  stamp_entry stamp (origins.Several a b) is = (stamp, is)

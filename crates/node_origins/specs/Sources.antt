@@ -2,6 +2,8 @@
 -- before it, the request of the answer right before it, and home.
 use Rattle.std.specs.Prelude.{◌≡◌, ◌⊎◌, ℕ, ◌<◌, true, false, List}
 use Rattle.node_machine.specs.declared.types.Seen.{Seen}
+use Rattle.node_machine.specs.Counts.{answer_count, serial_count, stamp_count}
+use Rattle.node_machine.specs.Readings.{is_receipt}
 use Rattle.node_machine.specs.Origins.{Can, Follows, Home, IsAnsweredAt, IsAtHome, IsSuccessor}
 use Rattle.node_machine.specs.Origins.{IsTaken, TokenOrigin}
 use Rattle.node_given.specs.declared.way.Way.{Way}
@@ -29,3 +31,19 @@ LeavesReceive (way.Lowered t) e = Unit {0}
 LeavesReceive (way.PutBack t) e = (e.serial.this ≡ 0) ⊎ (e.serial.prev < e.serial.this)
 LeavesReceive way.Receive e = ⊥
 LeavesReceive way.Ungiven e = ⊥
+
+-- the event, right before the stamp, can have brought its token
+pub record Brings (event stamp : Seen) (w : Way) : Type 0 where
+  pub kind : is_receipt event ≡ true
+  pub own : event.answer ≡ false
+  pub label : event.label ≡ stamp.label
+  pub prev : event.serial.this ≡ stamp.serial.prev
+  pub leaves : LeavesReceive w stamp
+
+-- the stamp has the label of the request, and goes on from the answer
+pub record GoesOnFrom (request answer stamp : Seen) : Type 0 where
+  pub kind : is_receipt request ≡ false
+  pub label : request.label ≡ stamp.label
+  pub answers : answer.answer ≡ true
+  pub prev : serial_count (answer_count answer.serial.this) ≡ stamp.serial.prev
+  pub count : stamp.serial.this ≡ stamp_count (answer_count answer.serial.this)

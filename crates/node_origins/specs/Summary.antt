@@ -1,5 +1,5 @@
 -- How the result for an event stands for the set of the origins that are allowed.
-use Rattle.std.specs.Prelude.{◌≡◌, ◌≢◌, ℕ, ◌==◌, Bool, false, List, if◌then◌else◌}
+use Rattle.std.specs.Prelude.{◌≡◌, ◌≢◌, ℕ, ◌==◌, Bool, true, false, List, if◌then◌else◌}
 use Rattle.node_machine.specs.declared.types.Seen.{Seen}
 use Rattle.node_machine.specs.Readings.{is_receipt}
 use Rattle.node_machine.specs.Origins.{Can, TokenOrigin}
@@ -24,9 +24,9 @@ HasOneOrigin Allows h =
 abbrev pub HasBothOrigins : (TokenOrigin → Type 0) → StampOrigin → StampOrigin → Type 0
 HasBothOrigins Allows a b = Allows (origin_of a) × Allows (origin_of b) × (a ≢ b)
 
--- the result stands for the set
+-- the result stands for the set; that for a receive does for none
 abbrev pub IsSummary : (TokenOrigin → Type 0) → EventOrigins → Type 0
-IsSummary Allows origins.Receive = HasNoOrigin Allows
+IsSummary Allows origins.Receive = ⊥
 IsSummary Allows origins.Unknown = HasNoOrigin Allows
 IsSummary Allows (origins.One h) = HasOneOrigin Allows h
 IsSummary Allows (origins.Several a b) = HasBothOrigins Allows a b

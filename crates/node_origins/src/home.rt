@@ -1,7 +1,8 @@
 //! Whether a process can have given a stamp's token its label.
 
-ghost use Rattle.std.specs.Prelude.{◌≡◌, ℕ, slice_get, List, Some, IfOk};
+ghost use Rattle.std.specs.Prelude.{◌≡◌, ◌↔◌, slice_get, List, Some, IfOk, IsTrue};
 ghost use Rattle.node_machine.specs.declared.types.Seen.{Seen as SeenValue};
+ghost use Rattle.node_machine.specs.Origins.{IsAtHome};
 ghost use Rattle.node_given.specs.Walk.{AreFit};
 ghost use Rattle.node_origins.specs.Summary.{IsSummary};
 ghost use Rattle.node_origins.specs.Sources.{FromHome};

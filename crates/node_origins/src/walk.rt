@@ -4,10 +4,9 @@ ghost use Rattle.std.specs.Prelude.{◌≡◌, ◌≢◌, ◌<◌, ◌≤◌, �
 ghost use Rattle.std.specs.Prelude.{length, slice_get, take, List, Some, IfOk, IsTrue};
 ghost use Rattle.st_core.specs.Step.{Outcome};
 ghost use Rattle.st_core.specs.declared.types.Pid.{Pid as PidValue};
-ghost use Rattle.node_machine.specs.Counts.{answer_count, serial_count};
 ghost use Rattle.node_machine.specs.Node.{NodeAct};
 ghost use Rattle.node_machine.specs.Origins.{Can, TokenOrigin, origins_told};
-ghost use Rattle.node_machine.specs.Readings.{is_next, is_receipt};
+ghost use Rattle.node_machine.specs.Readings.{is_receipt};
 ghost use Rattle.node_machine.specs.declared.types.Seen.{Seen as SeenValue};
 ghost use Rattle.node_given.specs.Walk.{AreFit, IsWay};
 ghost use Rattle.node_given.specs.declared.way.Way.{Way as WayValue};
@@ -15,7 +14,8 @@ ghost use Rattle.node_origins.specs.declared.origin.EventOrigins.{EventOrigins a
 ghost use Rattle.node_origins.specs.declared.origin.EventOrigins.TheVariants as allowed;
 ghost use Rattle.node_origins.specs.declared.origin.StampOrigin.{StampOrigin as StampOriginValue};
 ghost use Rattle.node_origins.specs.Runs.{HaveOrigins};
-ghost use Rattle.node_origins.specs.Sources.{FromReceive, FromRequest, LeavesReceive};
+ghost use Rattle.node_origins.specs.Sources.{Brings, FromReceive, FromRequest, GoesOnFrom};
+ghost use Rattle.node_origins.specs.Sources.{LeavesReceive};
 ghost use Rattle.node_origins.specs.Summary.{HasBothOrigins, HasNoOrigin, HasOneOrigin, IsEntry};
 ghost use Rattle.node_origins.specs.Summary.{IsSummary, origin_of};
 ghost use Rattle.node_origins.specs.Tables.{AreFirsts, AreSuccessors};
@@ -29,9 +29,8 @@ use node_machine::Seen;
 use st_core::Kind;
 use std::alloc::{AllocError, Global};
 
-/// Whether the receive right before a stamp, which brought its prev, can have brought its token:
-/// the stamp is given plainly, or a token that was put back before the receive lowered the clock.
-fn receive_gives(way: Way, stamp: Seen) -> bool
+/// Whether the receive right before a stamp, which brought its prev, can have brought its token.
+fn leaves_receive(way: Way, stamp: Seen) -> bool
     ensures { IsTrue result ↔ LeavesReceive way stamp }
 {
     match way {
@@ -39,6 +38,17 @@ fn receive_gives(way: Way, stamp: Seen) -> bool
         Way::PutBack(_) => stamp.serial.this == 0 || stamp.serial.prev < stamp.serial.this,
         Way::Receive | Way::Ungiven => false,
     }
+}
+
+/// Whether this event, right before a stamp, can have brought its token.
+fn brings(event: Seen, stamp: Seen, way: Way) -> bool
+    ensures { IsTrue result ↔ Brings event stamp way }
+{
+    event.kind == Kind::Receive
+        && !event.answer
+        && event.label == stamp.label
+        && event.serial.this == stamp.serial.prev
+        && leaves_receive(way, stamp)
 }
 
 /// The receive right before the stamp at this index, if it can have brought its token.
@@ -52,25 +62,23 @@ fn receive_before(events: &[Seen], index: usize, stamp: Seen, way: Way) -> Event
     if index == 0 {
         return EventOrigins::Unknown;
     }
-    let before = events[index - 1];
-    let takes = before.kind == Kind::Receive && !before.answer;
-    let fits = before.label == stamp.label && before.serial.this == stamp.serial.prev;
-    if takes && fits && receive_gives(way, stamp) {
+    if brings(events[index - 1], stamp, way) {
         EventOrigins::One(StampOrigin::Follows(index - 1))
     } else {
         EventOrigins::Unknown
     }
 }
 
-/// Whether a stamp goes on from the counts that an answer leaves.
-fn goes_on_from(answer: Seen, stamp: Seen) -> bool
+/// Whether a stamp goes on from an answer right before it, which is that to this request.
+fn goes_on_from(request: Seen, answer: Seen, stamp: Seen) -> bool
     requires { answer.serial.this < 2 ^ 60 }
-    ensures { (let clock = answer_count answer.serial.this in
-        result ≡ is_next clock (serial_count clock) stamp) }
+    ensures { IsTrue result ↔ GoesOnFrom request answer stamp }
 {
-    let count = answer.serial.this;
-    stamp.serial.this == count_after(clock_of_answer(count))
-        && stamp.serial.prev == last_of_answer(count)
+    request.kind != Kind::Receive
+        && request.label == stamp.label
+        && answer.answer
+        && stamp.serial.prev == last_of_answer(answer.serial.this)
+        && stamp.serial.this == count_after(clock_of_answer(answer.serial.this))
 }
 
 /// The origins of the request before an answer that is right before the stamp at this index, if the
@@ -92,10 +100,7 @@ fn request_before(
     if index < 2 {
         return EventOrigins::Unknown;
     }
-    let answer = events[index - 1];
-    let request = events[index - 2];
-    let asks = request.kind != Kind::Receive && request.label == stamp.label;
-    if answer.answer && asks && goes_on_from(answer, stamp) {
+    if goes_on_from(events[index - 2], events[index - 1], stamp) {
         found[index - 2]
     } else {
         EventOrigins::Unknown

@@ -1,0 +1,12 @@
+-- The lemmas.
+pub mod Steps
+pub mod Summaries
+pub mod Entries
+pub mod CanSources
+pub mod Receives
+pub mod Befores
+pub mod Homes
+pub mod TokenTables
+pub mod LabelTables
+pub mod SuccessorTables
+pub mod InRuns

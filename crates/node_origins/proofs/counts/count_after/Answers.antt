@@ -1,0 +1,6 @@
+-- The size of a serial divides that of a counter.
+use Rattle.node_origins.proofs.Steps.{count_is}
+use Rattle.node_origins.proofs.counts.count_after.Goals as goal
+
+pub returns : goal.returns
+returns c = count_is c.args.clock
