@@ -4,6 +4,7 @@ use Rattle.std.proofs.Common.{◌≡◌, ℕ, ◌+◌, ◌-◌, ◌<◌, ◌≤�
 use Rattle.std.proofs.Common.{◌++◌, take, Some, refl, arith, sym, ◌∙◌, ap, subst}
 use Rattle.std.specs.List.{AllByRecursion, slice_get}
 use Rattle.std.proofs.lemmas.Option.{same_Some}
+use Rattle.st_core.specs.declared.types.Kind.TheVariants as kind
 use Rattle.node_machine.specs.declared.types.Seen.{Seen}
 use Rattle.node_machine.specs.Readings.{is_receipt}
 use Rattle.node_machine.specs.Origins.{Can, Follows, IsAnsweredAt, TokenOrigin}
@@ -13,11 +14,20 @@ use Rattle.node_given.specs.Walk.{AreFit, IsWay}
 use Rattle.node_origins.specs.declared.origin.EventOrigins.{EventOrigins}
 use Rattle.node_origins.specs.declared.origin.EventOrigins.TheVariants as origins
 use Rattle.node_origins.specs.declared.origin.StampOrigin.TheVariants as stamp_origin
-use Rattle.node_origins.specs.Sources.{Brings, FromReceive, FromRequest, GoesOnFrom}
+use Rattle.node_origins.specs.Sources.{Brings, FromReceive, FromRequest, FollowsAnswer}
 use Rattle.node_origins.specs.Summary.{IsEntry, IsSummary}
 use Rattle.node_origins.proofs.Steps.{fits_at, taken_more}
 use Rattle.node_origins.proofs.Summaries.{entry_summary, same_summary}
 use Rattle.node_origins.proofs.Receives.{Leads, leads_leaves, leads_taken, leaves_leads, taken_leads}
+
+-- where there is no event
+abbrev pub blank : Seen
+blank = record {
+  kind = kind.Send;
+  label = record { 0 = 0 };
+  serial = record { prev = 0; this = 0 };
+  answer = false;
+}
 
 fit_front : (n : ℕ) (es : List Seen) → AreFit es → AreFit (take n es)
 fit_front zero es fit = tt
@@ -68,7 +78,7 @@ module _ (es : List Seen) (i k : ℕ) (e before : Seen) (at_e : slice_get es i �
 module _ (es : List Seen) (i k : ℕ) (e answer request : Seen) (at_e : slice_get es i ≡ Some e)
     (at_answer : slice_get es (suc k) ≡ Some answer) (at : slice_get es k ≡ Some request)
     (next : i ≡ suc (suc k)) where
-  pub request_gives : GoesOnFrom request answer e → (o : EventOrigins) → IsEntry es k request o
+  pub request_gives : FollowsAnswer request answer e → (o : EventOrigins) → IsEntry es k request o
       → IsSummary (FromRequest es i) o
   request_gives goes o entry =
       same_summary (Can es k) (FromRequest es i)
@@ -95,7 +105,7 @@ module _ (es : List Seen) (i k : ℕ) (e answer request : Seen) (at_e : slice_ge
       subst (λ n. Can es n h) once there.2)
       o (entry_summary es k request goes.kind o entry)
 
-  pub none_requests : (GoesOnFrom request answer e → ⊥) → (h : TokenOrigin) → FromRequest es i h
+  pub none_requests : (FollowsAnswer request answer e → ⊥) → (h : TokenOrigin) → FromRequest es i h
       → ⊥
   none_requests never h there =
       let once : there.0 ≡ k = (let behind = there.1.behind in omega arith) in
@@ -105,9 +115,9 @@ module _ (es : List Seen) (i k : ℕ) (e answer request : Seen) (at_e : slice_ge
       (sym r.at ∙ ap (λ n. slice_get es n) once ∙ at) in
       let told = same_Some r.answer answer
       (sym r.answer_at ∙ ap (λ n. slice_get es (suc n)) once ∙ at_answer) in
-      never (subst (λ d. GoesOnFrom request answer d) stamp
-      (subst (λ d. GoesOnFrom request d r.stamp) told
-      (subst (λ d. GoesOnFrom d r.answer r.stamp) event (record {
+      never (subst (λ d. FollowsAnswer request answer d) stamp
+      (subst (λ d. FollowsAnswer request d r.stamp) told
+      (subst (λ d. FollowsAnswer d r.answer r.stamp) event (record {
         kind = r.kind;
         label = r.label;
         answers = r.answers;

@@ -60,3 +60,11 @@ module _ (es : List Seen) (i : ℕ) (e : Seen) where
       let second : d ≡ b = cc in
       subst (λ x. HasBothOrigins (Can es i) x b) first
       (subst (λ x. HasBothOrigins (Can es i) c x) second is.1)
+
+  pub one_parts : (h : StampOrigin) → IsEntry es i e (origins.One h)
+      → (is_receipt e ≡ false) × HasOneOrigin (Can es i) h
+  one_parts h is = is
+
+  pub unknown_parts : IsEntry es i e origins.Unknown
+      → (is_receipt e ≡ false) × HasNoOrigin (Can es i)
+  unknown_parts is = is

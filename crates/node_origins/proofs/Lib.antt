@@ -10,3 +10,4 @@ pub mod TokenTables
 pub mod LabelTables
 pub mod SuccessorTables
 pub mod InRuns
+pub mod Results

@@ -1,7 +1,7 @@
 -- Lemmas on tokens and on the receive before a stamp.
 use Rattle.std.proofs.Common.{◌≡◌, ℕ, ◌+◌, ◌<◌, ◌^◌, ◌%◌, ◌⊎◌, ◌==◌, max, zero, suc, true, false, cond}
 use Rattle.std.proofs.Common.{List, [], ◌∷◌, ◌++◌, length, take, Some, get_or, inl, inr, refl, arith}
-use Rattle.std.proofs.Common.{sym, ◌∙◌, ap, subst, append_assoc, append-nil, Bool}
+use Rattle.std.proofs.Common.{sym, ◌∙◌, ap, subst, append_assoc, append-nil, Bool, Result, Ok, Err, OnOk}
 use Rattle.std.proofs.Math.Nat.{mod-eq_of_lt, mod_self}
 use Rattle.std.proofs.Math.Pow.{mod-mod-pow}
 use Rattle.std.specs.List.{AllByRecursion, slice_get}
@@ -20,6 +20,10 @@ use Rattle.node_machine.proofs.ForCallers.{clock_by_receive, count_once, FitsSer
 use Rattle.node_machine.proofs.ForCallers.{last_by_receive, last_push, takes_parts, tokens_more}
 use Rattle.node_machine.proofs.ForCallers.{tokens_new, tokens_parts}
 use Rattle.node_given.specs.Walk.{AreFit}
+
+pub on_ok : {T E P Q : Type 0} (r : Result T E) → (P → Q) → OnOk r P → OnOk r Q
+on_ok (Ok x) change is = change is
+on_ok (Err e) change is = is
 
 -- LISTS
 

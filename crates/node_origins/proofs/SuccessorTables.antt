@@ -18,15 +18,10 @@ use Rattle.node_origins.specs.declared.origin.EventOrigins.TheVariants as origin
 use Rattle.node_origins.specs.declared.origin.StampOrigin.TheVariants as stamp_origin
 use Rattle.node_origins.specs.declared.successors.Successor.{Successor}
 use Rattle.node_origins.specs.declared.successors.Successors.{Successors}
-use Rattle.node_origins.specs.Sources.{FromPredecessor}
+use Rattle.node_origins.specs.Sources.{FromPredecessor, OfToken}
 use Rattle.node_origins.specs.Summary.{either_origins, IsEntry, IsSummary}
 use Rattle.node_origins.specs.Tables.{AreSuccessors, LeadsTo, origins_in, successor_eq}
 use Rattle.node_origins.proofs.Summaries.{either_summary, entry_summary, same_summary}
-
--- the origin that the token of the event at an index can have
-abbrev OriginAt : List Seen → ℕ → Seen → TokenOrigin → Type 0
-OriginAt es i e h =
-    ((is_receipt e ≡ true) × (h ≡ Follows i)) ⊎ ((is_receipt e ≡ false) × Can es i h)
 
 successor_same : (a b : Successor) → successor_eq a b ≡ true
     → (a.label ≡ b.label) × (a.prev ≡ b.prev) × (a.this ≡ b.this)
@@ -67,6 +62,28 @@ pub none_lead : (es : List Seen) (label prev this : ℕ) (h : TokenOrigin)
     → LeadsTo es 0 label prev this h → ⊥
 none_lead es label prev this h is = let before = is.before in omega arith
 
+module _ (es : List Seen) (i : ℕ) (e : Seen) where
+  -- what comes to the table
+  pub receive_origin : is_receipt e ≡ true
+      → IsSummary (OfToken es i e) (origins.One (stamp_origin.Follows i))
+  receive_origin kind = (
+    inl (kind, refl),
+    λ h there. elim there [
+      | inl by ↦ by.1
+      | inr stamp ↦ absurd (false≢true (sym stamp.0 ∙ kind))
+    ],
+  )
+
+  pub stamp_origin_at : is_receipt e ≡ false → (o : EventOrigins) → IsEntry es i e o
+      → IsSummary (OfToken es i e) o
+  stamp_origin_at stamp o is =
+      same_summary (Can es i) (OfToken es i e) (λ h can. inr (stamp, can))
+      (λ h there. elim there [
+        | inl by ↦ absurd (false≢true (sym stamp ∙ by.0))
+        | inr can ↦ can.1
+      ])
+      o (entry_summary es i e stamp o is)
+
 module _ (es : List Seen) (i : ℕ) (e : Seen) (at : slice_get es i ≡ Some e) where
   leads_later : (label prev this : ℕ) (h : TokenOrigin) → LeadsTo es i label prev this h
       → LeadsTo es (i + 1) label prev this h
@@ -84,7 +101,7 @@ module _ (es : List Seen) (i : ℕ) (e : Seen) (at : slice_get es i ≡ Some e) 
         origin = is.origin;
       }
 
-  leads_now : e.answer ≡ false → (h : TokenOrigin) → OriginAt es i e h
+  leads_now : e.answer ≡ false → (h : TokenOrigin) → OfToken es i e h
       → LeadsTo es (i + 1) e.label.0 e.serial.prev (stamp_count e.serial.this) h
   leads_now own h origin = record {
     index = i;
@@ -103,7 +120,7 @@ module _ (es : List Seen) (i : ℕ) (e : Seen) (at : slice_get es i ≡ Some e) 
     label_is : e.label.0 ≡ label
     prev_is : e.serial.prev ≡ prev
     count : this ≡ stamp_count e.serial.this
-    origin : OriginAt es i e h
+    origin : OfToken es i e h
 
   leads_parts : (label prev this : ℕ) (h : TokenOrigin) → LeadsTo es (i + 1) label prev this h
       → LeadsTo es i label prev this h ⊎ IsNow label prev this h
@@ -130,8 +147,8 @@ module _ (es : List Seen) (i : ℕ) (e : Seen) (at : slice_get es i ≡ Some e) 
               label_is = subst (λ (d : Seen). d.label.0 ≡ label) event is.label_is;
               prev_is = subst (λ (d : Seen). d.serial.prev ≡ prev) event is.prev_is;
               count = subst (λ (d : Seen). this ≡ stamp_count d.serial.this) event is.count;
-              origin = subst (λ (d : Seen). OriginAt es i d h) event
-                  (subst (λ n. OriginAt es n is.event h) same is.origin);
+              origin = subst (λ (d : Seen). OfToken es i d h) event
+                  (subst (λ n. OfToken es n is.event h) same is.origin);
             })
       ]
 
@@ -147,7 +164,7 @@ module _ (es : List Seen) (i : ℕ) (e : Seen) (at : slice_get es i ≡ Some e) 
       ])
       (origins_in t x) (are x)
 
-  module _ (own : e.answer ≡ false) (o : EventOrigins) (is : IsSummary (OriginAt es i e) o)
+  module _ (own : e.answer ≡ false) (o : EventOrigins) (is : IsSummary (OfToken es i e) o)
       (t u : Successors) (are : AreSuccessors es i t) (key : Successor)
       (label : key.label ≡ e.label.0) (prev : key.prev ≡ e.serial.prev)
       (this : key.this ≡ stamp_count e.serial.this)
@@ -158,7 +175,7 @@ module _ (es : List Seen) (i : ℕ) (e : Seen) (at : slice_get es i ≡ Some e) 
     same_key x same =
         let parts = successor_same key x same in
         let Old = LeadsTo es i x.label x.prev x.this in
-        same_summary (λ h. LeadsTo es i x.label x.prev x.this h ⊎ OriginAt es i e h)
+        same_summary (λ h. LeadsTo es i x.label x.prev x.this h ⊎ OfToken es i e h)
         (LeadsTo es (i + 1) x.label x.prev x.this)
         (λ h either. elim either [
           | inl old ↦ leads_later x.label x.prev x.this h old
@@ -173,7 +190,7 @@ module _ (es : List Seen) (i : ℕ) (e : Seen) (at : slice_get es i ≡ Some e) 
           | inr here ↦ inr here.origin
         ])
         (either_origins (origins_in t x) o)
-        (either_summary (LeadsTo es i x.label x.prev x.this) (OriginAt es i e)
+        (either_summary (LeadsTo es i x.label x.prev x.this) (OfToken es i e)
         (origins_in t x) o (are x) is)
 
     other_key : (x : Successor) → successor_eq key x ≡ false
@@ -200,27 +217,6 @@ module _ (es : List Seen) (i : ℕ) (e : Seen) (at : slice_get es i ≡ Some e) 
     successors_more = λ x.
         subst (IsSummary (LeadsTo es (i + 1) x.label x.prev x.this)) (sym (now x))
         (by_key x (successor_eq key x) refl)
-
-  -- what comes to the table
-  pub receive_origin : is_receipt e ≡ true
-      → IsSummary (OriginAt es i e) (origins.One (stamp_origin.Follows i))
-  receive_origin kind = (
-    inl (kind, refl),
-    λ h there. elim there [
-      | inl by ↦ by.1
-      | inr stamp ↦ absurd (false≢true (sym stamp.0 ∙ kind))
-    ],
-  )
-
-  pub stamp_origin_at : is_receipt e ≡ false → (o : EventOrigins) → IsEntry es i e o
-      → IsSummary (OriginAt es i e) o
-  stamp_origin_at stamp o is =
-      same_summary (Can es i) (OriginAt es i e) (λ h can. inr (stamp, can))
-      (λ h there. elim there [
-        | inl by ↦ absurd (false≢true (sym stamp ∙ by.0))
-        | inr can ↦ can.1
-      ])
-      o (entry_summary es i e stamp o is)
 
   -- and what it has for the stamp e
   pub predecessors : (t : Successors) → AreSuccessors es i t → (key : Successor)

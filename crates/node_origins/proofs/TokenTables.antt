@@ -1,23 +1,39 @@
 -- The table of tokens keeps the first number that it is told for each, and numbers never fall: so
 -- it has the least.
 use Rattle.std.proofs.Common.{◌≡◌, ◌≢◌, ℕ, ◌+◌, ◌<◌, ◌≤◌, ◌==◌, ◌⊎◌, zero, suc, cond, Bool, true}
-use Rattle.std.proofs.Common.{false, List, [], ◌∷◌, ◌++◌, length, take, Option, Some, None, inl, inr}
+use Rattle.std.proofs.Common.{false, List, [], ◌∷◌, ◌++◌, length, take, Option, Some, None, is_some, inl, inr}
 use Rattle.std.proofs.Common.{refl, arith, sym, ◌∙◌, ap, subst}
 use Rattle.std.specs.List.{slice_get}
 use Rattle.std.specs.HashMap.{get}
-use Rattle.std.proofs.lemmas.Bool.{and_parts, cases_order, eq-eqb, eqb-true}
+use Rattle.std.proofs.lemmas.Bool.{and_parts, cases_order, eq-eqb, eqb-true, false≢true}
 use Rattle.std.proofs.lemmas.Option.{none-some, same_Some}
+use Rattle.st_core.specs.declared.types.Kind.{Kind}
+use Rattle.st_core.specs.declared.types.Kind.TheVariants as kind
+use Rattle.st_core.specs.Event.{kind_eq}
 use Rattle.st_core.specs.declared.types.Serial.{Serial}
 use Rattle.st_core.proofs.ForCallers.{both_true}
-use Rattle.node_machine.specs.Counts.{stamp_count}
+use Rattle.node_machine.specs.Counts.{answer_count, serial_count, stamp_count}
 use Rattle.node_machine.specs.declared.types.Seen.{Seen}
 use Rattle.node_machine.specs.Premises.{IsAmong}
+use Rattle.node_machine.specs.Readings.{is_receipt}
 use Rattle.node_machine.specs.Given.{fresh, shown, tokens}
 use Rattle.node_machine.proofs.ForCallers.{tokens_new, tokens_parts}
-use Rattle.node_origins.proofs.Steps.{at_below, taken_more}
+use Rattle.node_origins.proofs.Steps.{shown_stamp, shown_taken, taken_more}
 use Rattle.node_origins.specs.declared.first_tokens.FirstTokens.{FirstTokens}
 use Rattle.node_origins.specs.Tables.{AreFirstTokens, HasPredecessor, IsSince, same_serial}
 use Rattle.node_origins.proofs.Homes.{tokens_later}
+
+pub some_of : {A : Type 0} (o : Option A) → is_some o ≡ true → (x : A) × (o ≡ Some x)
+some_of None is = absurd (false≢true is)
+some_of (Some x) is = (x, refl)
+
+pub none_of : {A : Type 0} (o : Option A) → is_some o ≡ false → o ≡ None
+none_of None is = refl
+none_of (Some x) is = absurd (false≢true (sym is))
+
+pub not_receive : (k : Kind) → (k ≡ kind.Send) ⊎ (k ≡ kind.Print) → kind_eq k kind.Receive ≡ false
+not_receive k (inl is) = ap (λ x. kind_eq x kind.Receive) is
+not_receive k (inr is) = ap (λ x. kind_eq x kind.Receive) is
 
 -- PREDECESSORS
 
@@ -232,6 +248,47 @@ module _ (es : List Seen) (i : ℕ) (e : Seen) (at : slice_get es i ≡ Some e) 
       least = least_here;
       new = λ prev this is. absurd is.held;
     }
+
+-- by kind
+swap : (x y z : Serial) → IsAmong (x ∷ y ∷ []) z → IsAmong (y ∷ x ∷ []) z
+swap x y z (inl is) = inr (inl is)
+swap x y z (inr (inl is)) = inl is
+swap x y z (inr (inr is)) = absurd is
+
+turn : (w x y z : Serial) → IsAmong (w ∷ x ∷ y ∷ []) z → IsAmong (y ∷ x ∷ w ∷ []) z
+turn w x y z (inl is) = inr (inr (inl is))
+turn w x y z (inr (inl is)) = inr (inl is)
+turn w x y z (inr (inr (inl is))) = inl is
+turn w x y z (inr (inr (inr is))) = absurd is
+
+module _ (es : List Seen) (i : ℕ) (e : Seen) (at : slice_get es i ≡ Some e) (t : FirstTokens) where
+  pub since_stamp : is_receipt e ≡ false
+      → IsSince es (i + 1) (fresh e.serial.prev ∷ e.serial ∷ []) t → IsSince es (i + 2) [] t
+  since_stamp kind =
+      let same = shown_stamp e kind in
+      since_event es i e at (fresh e.serial.prev ∷ e.serial ∷ []) t
+      (λ x is. subst (λ xs. IsAmong xs x) (sym same) (swap (fresh e.serial.prev) e.serial x is))
+      (λ x is. swap e.serial (fresh e.serial.prev) x (subst (λ xs. IsAmong xs x) same is))
+
+  pub since_receive : is_receipt e ≡ true → e.answer ≡ false
+      → IsSince es (i + 1) (fresh e.serial.this ∷ fresh e.serial.prev ∷ e.serial ∷ []) t
+      → IsSince es (i + 2) [] t
+  since_receive kind own =
+      let same = shown_taken e false kind own in
+      since_event es i e at (fresh e.serial.this ∷ fresh e.serial.prev ∷ e.serial ∷ []) t
+      (λ x is. subst (λ xs. IsAmong xs x) (sym same)
+      (turn (fresh e.serial.this) (fresh e.serial.prev) e.serial x is))
+      (λ x is. turn e.serial (fresh e.serial.prev) (fresh e.serial.this) x
+      (subst (λ xs. IsAmong xs x) same is))
+
+  pub since_answer : is_receipt e ≡ true → e.answer ≡ true
+      → IsSince es (i + 1) (fresh (serial_count (answer_count e.serial.this)) ∷ []) t
+      → IsSince es (i + 2) [] t
+  since_answer kind answer =
+      let same = shown_taken e true kind answer in
+      since_event es i e at (fresh (serial_count (answer_count e.serial.this)) ∷ []) t
+      (λ x is. subst (λ xs. IsAmong xs x) (sym same) is)
+      (λ x is. subst (λ xs. IsAmong xs x) same is)
 
 -- ASKING
 

@@ -13,6 +13,11 @@ abbrev pub FromPredecessor : List Seen → ℕ → TokenOrigin → Type 0
 FromPredecessor es i h = (k : ℕ)
     × ((IsSuccessor true es i k × (h ≡ Follows k)) ⊎ (IsSuccessor false es i k × Can es k h))
 
+-- the origin that the token of the event e at an index can have
+abbrev pub OfToken : List Seen → ℕ → Seen → TokenOrigin → Type 0
+OfToken es i e h =
+    ((is_receipt e ≡ true) × (h ≡ Follows i)) ⊎ ((is_receipt e ≡ false) × Can es i h)
+
 abbrev pub FromReceive : List Seen → ℕ → TokenOrigin → Type 0
 FromReceive es i h = (k : ℕ) × IsTaken es i k × (h ≡ Follows k)
 
@@ -41,7 +46,7 @@ pub record Brings (event stamp : Seen) (w : Way) : Type 0 where
   pub leaves : LeavesReceive w stamp
 
 -- the stamp has the label of the request, and goes on from the answer
-pub record GoesOnFrom (request answer stamp : Seen) : Type 0 where
+pub record FollowsAnswer (request answer stamp : Seen) : Type 0 where
   pub kind : is_receipt request ≡ false
   pub label : request.label ≡ stamp.label
   pub answers : answer.answer ≡ true

@@ -73,8 +73,8 @@ pub record IsSince (es : List Seen) (n : ℕ) (xs : List Serial) (t : FirstToken
 abbrev pub AreFirstTokens : List Seen → FirstTokens → Type 0
 AreFirstTokens es t = IsSince es (length es + 1) [] t
 
-abbrev pub AreFirsts : List Seen → Firsts → Type 0
-AreFirsts es t = AreFirstLabels es t.labels × AreFirstTokens es t.tokens
+abbrev pub AreFirstEvents : List Seen → Firsts → Type 0
+AreFirstEvents es t = AreFirstLabels es t.labels × AreFirstTokens es t.tokens
 
 -- SUCCESSORS
 

@@ -1,6 +1,8 @@
 //! The first event that bears each label.
 
-ghost use Rattle.std.specs.Prelude.{◌≡◌, IfOk};
+ghost use Rattle.std.specs.Prelude.{◌≡◌, [], ◌∷◌, ◌++◌, length, List, IfOk, OnOk};
+ghost use Rattle.node_machine.specs.Readings.{is_receipt};
+ghost use Rattle.node_machine.specs.declared.types.Seen.{Seen as SeenValue};
 ghost use Rattle.node_origins.specs.Tables.{AreFirstLabels, first_in};
 
 use node_machine::Seen;
@@ -17,6 +19,13 @@ pub(crate) struct FirstBearer {
     pub(crate) receives: bool,
 }
 
+/// Whether an event is a receive.
+fn receives(event: Seen) -> bool
+    ensures { result ≡ is_receipt event }
+{
+    event.kind == Kind::Receive
+}
+
 /// The first event that bears each label.
 #[derive(Drop)]
 pub(crate) struct FirstLabels {
@@ -25,18 +34,38 @@ pub(crate) struct FirstLabels {
 }
 
 impl FirstLabels {
+    /// With an event more, which has this index.
+    fn note(&mut self, index: usize, event: Seen) -> Result<(), AllocError>
+        ensures { (es : List SeenValue) → length es ≡ index → AreFirstLabels es self.old
+            → OnOk result (AreFirstLabels (es ++ event ∷ []) self.new) }
+    {
+        if event.answer {
+            return Ok(());
+        }
+        if self.bearers.contains_key(&event.label.0) {
+            return Ok(());
+        }
+        let receives = receives(event);
+        match self
+            .bearers
+            .insert(event.label.0, FirstBearer { index, receives })
+        {
+            Ok(_) => Ok(()),
+            Err(_) => Err(AllocError),
+        }
+    }
+
     /// Those of a process's events.
     pub(crate) fn of(alloc: Global, events: &[Seen]) -> Result<FirstLabels, AllocError>
         ensures { IfOk result (AreFirstLabels events.now) }
     {
-        let mut bearers = HashMap::new(alloc);
-        for (index, event) in events.iter().enumerate() {
-            if !event.answer && !bearers.contains_key(&event.label.0) {
-                let receives = event.kind == Kind::Receive;
-                bearers.insert(event.label.0, FirstBearer { index, receives })?;
-            }
+        let mut labels = FirstLabels {
+            bearers: HashMap::new(alloc),
+        };
+        for (index, &event) in events.iter().enumerate() {
+            labels.note(index, event)?;
         }
-        Ok(FirstLabels { bearers })
+        Ok(labels)
     }
 
     /// The first event that bears this label.

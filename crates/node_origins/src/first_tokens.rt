@@ -2,11 +2,12 @@
 
 ghost use Rattle.std.specs.Prelude.{◌≡◌, ◌+◌, ◌<◌, ◌≤◌, ◌^◌, ◌↔◌, [], ◌∷◌, ℕ, length, slice_get, take};
 ghost use Rattle.std.specs.Prelude.{List, Some, IfOk, IsTrue, OnOk};
+ghost use Rattle.std.specs.HashMap.{get};
 ghost use Rattle.st_core.specs.declared.types.Serial.{Serial as SerialValue};
 ghost use Rattle.node_machine.specs.declared.types.Seen.{Seen as SeenValue};
 ghost use Rattle.node_machine.specs.Given.{tokens};
 ghost use Rattle.node_given.specs.Walk.{AreFit};
-ghost use Rattle.node_origins.specs.Tables.{AreFirstTokens, HasPredecessor, IsSince};
+ghost use Rattle.node_origins.specs.Tables.{AreFirstTokens, HasPredecessor, IsSince, same_serial};
 
 use crate::counts::{count_after, last_of_answer};
 use node_machine::Seen;
@@ -49,7 +50,8 @@ impl FirstTokens {
 
     /// With those that an event shows.
     fn note_event(&mut self, index: usize, event: Seen) -> Result<(), AllocError>
-        requires { event.serial.this < 2 ^ 60 }
+        requires fit { event.serial.this < 2 ^ 60 }
+        requires room { index + 1 < 2 ^ 64 }
         ensures { (es : List SeenValue) → slice_get es index ≡ Some event
             → IsSince es (index + 1) [] self.old
             → OnOk result (IsSince es (index + 2) [] self.new) }
@@ -85,15 +87,21 @@ impl FirstTokens {
         Ok(tokens)
     }
 
-    /// Whether the process had a token that the stamp succeeds after so many of its events.
+    /// The number of the first event that shows a token that a stamp of this serial succeeds.
+    fn number(&self, stamp: Serial) -> Option<usize>
+        ensures { result ≡ get same_serial self.now.since (stamp.prev, stamp.this) }
+    {
+        self.since.get(&(stamp.prev, stamp.this)).copied()
+    }
+
+    /// Whether the process had a token that the stamp succeeds after this many of its events.
     pub(crate) fn has(&self, stamp: Seen, events: usize) -> bool
         ensures { (es : List SeenValue) → AreFirstTokens es self.now → events ≤ length es
             → IsTrue result
             ↔ HasPredecessor (tokens (take events es)) stamp.serial.prev stamp.serial.this }
     {
-        let Serial { prev, this } = stamp.serial;
-        match self.since.get(&(prev, this)) {
-            Some(&number) => number <= events,
+        match self.number(stamp.serial) {
+            Some(number) => number <= events,
             None => false,
         }
     }

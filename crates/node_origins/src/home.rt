@@ -6,7 +6,7 @@ ghost use Rattle.node_machine.specs.Origins.{IsAtHome};
 ghost use Rattle.node_given.specs.Walk.{AreFit};
 ghost use Rattle.node_origins.specs.Summary.{IsSummary};
 ghost use Rattle.node_origins.specs.Sources.{FromHome};
-ghost use Rattle.node_origins.specs.Tables.{AreFirsts};
+ghost use Rattle.node_origins.specs.Tables.{AreFirstEvents};
 
 use crate::first_labels::FirstLabels;
 use crate::first_tokens::FirstTokens;
@@ -25,7 +25,7 @@ impl Firsts {
     /// Those of a process's events.
     pub(crate) fn of(alloc: Global, events: &[Seen]) -> Result<Firsts, AllocError>
         requires { AreFit events.now }
-        ensures { IfOk result (AreFirsts events.now) }
+        ensures { IfOk result (AreFirstEvents events.now) }
     {
         Ok(Firsts {
             labels: FirstLabels::of(alloc, events)?,
@@ -35,7 +35,7 @@ impl Firsts {
 
     /// Whether the stamp at this index can have the origin home.
     fn allow_home(&self, index: usize, stamp: Seen) -> bool
-        ensures { (es : List SeenValue) → AreFirsts es self.now → slice_get es index ≡ Some stamp
+        ensures { (es : List SeenValue) → AreFirstEvents es self.now → slice_get es index ≡ Some stamp
             → IsTrue result ↔ IsAtHome es index }
     {
         match self.labels.get(stamp.label) {
@@ -48,7 +48,7 @@ impl Firsts {
 
     /// The origin home, if the events allow it for the stamp at this index.
     pub(crate) fn home(&self, index: usize, stamp: Seen) -> EventOrigins
-        ensures { (es : List SeenValue) → AreFirsts es self.now → slice_get es index ≡ Some stamp
+        ensures { (es : List SeenValue) → AreFirstEvents es self.now → slice_get es index ≡ Some stamp
             → IsSummary (FromHome es index) result }
     {
         if self.allow_home(index, stamp) {

@@ -4,7 +4,7 @@ ghost use Rattle.std.specs.Prelude.{◌≡◌, ℕ, ◌+◌, slice_get, List, So
 ghost use Rattle.node_machine.specs.declared.types.Seen.{Seen as SeenValue};
 ghost use Rattle.node_origins.specs.declared.successors.Successor.{Successor as SuccessorValue};
 ghost use Rattle.node_origins.specs.Summary.{either_origins, IsEntry, IsSummary};
-ghost use Rattle.node_origins.specs.Sources.{FromPredecessor};
+ghost use Rattle.node_origins.specs.Sources.{FromPredecessor, OfToken};
 ghost use Rattle.node_origins.specs.Tables.{AreSuccessors, origins_in, successor_eq};
 
 use crate::counts::count_after;
@@ -23,6 +23,17 @@ pub(crate) struct Successor {
     pub(crate) prev: u64,
     /// The second number.
     pub(crate) this: u64,
+}
+
+/// The origins of the token that an event shows. A stamp has these.
+fn token_origins(index: usize, event: Seen, origins: EventOrigins) -> EventOrigins
+    ensures { (es : List SeenValue) → IsEntry es index event origins
+        → IsSummary (OfToken es index event) result }
+{
+    match event.kind {
+        Kind::Receive => EventOrigins::One(StampOrigin::Follows(index)),
+        Kind::Send | Kind::Print => origins,
+    }
 }
 
 /// What the origins of tokens allow of their successors.
@@ -84,11 +95,7 @@ impl Successors {
             prev: event.serial.prev,
             this: count_after(event.serial.this),
         };
-        let own = match event.kind {
-            Kind::Receive => EventOrigins::One(StampOrigin::Follows(index)),
-            Kind::Send | Kind::Print => origins,
-        };
-        self.add(successor, own)
+        self.add(successor, token_origins(index, event, origins))
     }
 
     /// The origins of the tokens that a stamp may succeed.

@@ -14,11 +14,11 @@ ghost use Rattle.node_origins.specs.declared.origin.EventOrigins.{EventOrigins a
 ghost use Rattle.node_origins.specs.declared.origin.EventOrigins.TheVariants as allowed;
 ghost use Rattle.node_origins.specs.declared.origin.StampOrigin.{StampOrigin as StampOriginValue};
 ghost use Rattle.node_origins.specs.Runs.{HaveOrigins};
-ghost use Rattle.node_origins.specs.Sources.{Brings, FromReceive, FromRequest, GoesOnFrom};
+ghost use Rattle.node_origins.specs.Sources.{Brings, FromReceive, FromRequest, FollowsAnswer};
 ghost use Rattle.node_origins.specs.Sources.{LeavesReceive};
 ghost use Rattle.node_origins.specs.Summary.{HasBothOrigins, HasNoOrigin, HasOneOrigin, IsEntry};
 ghost use Rattle.node_origins.specs.Summary.{IsSummary, origin_of};
-ghost use Rattle.node_origins.specs.Tables.{AreFirsts, AreSuccessors};
+ghost use Rattle.node_origins.specs.Tables.{AreFirstEvents, AreSuccessors};
 
 use crate::counts::{clock_of_answer, count_after, last_of_answer};
 use crate::home::Firsts;
@@ -72,7 +72,7 @@ fn receive_before(events: &[Seen], index: usize, stamp: Seen, way: Way) -> Event
 /// Whether a stamp goes on from an answer right before it, which is that to this request.
 fn goes_on_from(request: Seen, answer: Seen, stamp: Seen) -> bool
     requires { answer.serial.this < 2 ^ 60 }
-    ensures { IsTrue result ↔ GoesOnFrom request answer stamp }
+    ensures { IsTrue result ↔ FollowsAnswer request answer stamp }
 {
     request.kind != Kind::Receive
         && request.label == stamp.label
@@ -125,15 +125,46 @@ fn stamp_origins(
     requires entries { (k : ℕ) (e : SeenValue) (o : EventOriginsValue)
         → slice_get events.now k ≡ Some e → slice_get found.now k ≡ Some o
         → IsEntry events.now k e o }
-    requires firsts { AreFirsts events.now firsts.now }
+    requires firsts { AreFirstEvents events.now firsts.now }
     requires successors { AreSuccessors events.now index successors.now }
     ensures { IsSummary (Can events.now index) result }
 {
-    successors
-        .origins_of(stamp)
-        .or(receive_before(events, index, stamp, way))
-        .or(request_before(events, found, index, stamp))
-        .or(firsts.home(index, stamp))
+    let succeeded = successors.origins_of(stamp);
+    let received = receive_before(events, index, stamp, way);
+    let requested = request_before(events, found, index, stamp);
+    let home = firsts.home(index, stamp);
+    let tokens = succeeded.or(received);
+    let others = requested.or(home);
+    tokens.or(others)
+}
+
+/// The entry of the event at this index.
+fn event_origins(
+    events: &[Seen],
+    found: &[EventOrigins],
+    firsts: &Firsts,
+    successors: &Successors,
+    index: usize,
+    event: Seen,
+    way: Way,
+) -> EventOrigins
+    requires fit { AreFit events.now }
+    requires at { slice_get events.now index ≡ Some event }
+    requires given { IsWay (take index events.now) event way }
+    requires all { index ≤ length found.now }
+    requires entries { (k : ℕ) (e : SeenValue) (o : EventOriginsValue)
+        → slice_get events.now k ≡ Some e → slice_get found.now k ≡ Some o
+        → IsEntry events.now k e o }
+    requires firsts { AreFirstEvents events.now firsts.now }
+    requires successors { AreSuccessors events.now index successors.now }
+    ensures { IsEntry events.now index event result }
+{
+    match event.kind {
+        Kind::Receive => EventOrigins::Receive,
+        Kind::Send | Kind::Print => {
+            stamp_origins(events, found, firsts, successors, index, event, way)
+        }
+    }
 }
 
 /// Finds what the events of one process, in order, allow as the origin of the token of each of its
@@ -170,20 +201,8 @@ pub fn origins(alloc: Global, events: &[Seen]) -> Result<Vec<EventOrigins>, Allo
     let mut successors = Successors::new(alloc);
     let mut found = Vec::with_capacity(alloc, events.len())?;
     for (index, &event) in events.iter().enumerate() {
-        let origins = match event.kind {
-            Kind::Receive => EventOrigins::Receive,
-            Kind::Send | Kind::Print => {
-                stamp_origins(
-                    events,
-                    &found,
-                    &firsts,
-                    &successors,
-                    index,
-                    event,
-                    ways[index],
-                )
-            }
-        };
+        let way = ways[index];
+        let origins = event_origins(events, &found, &firsts, &successors, index, event, way);
         successors.note(index, event, origins)?;
         found.push(origins)?;
     }

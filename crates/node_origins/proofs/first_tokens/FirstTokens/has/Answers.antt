@@ -10,8 +10,8 @@ returns-in-Some c = λ es are within.
     let prev = c.args.stamp.serial.prev in
     let this = c.args.stamp.serial.this in
     let n = c.args.events in
-    let m = c.in-Some.number.now in
-    let is = sym c.in-Some.ensures.value in (
+    let m = c.in-Some.number in
+    let is = sym c.in-Some.ensures in (
       λ yes. since_held es t are prev this n within m is (leb-true m n yes),
       λ there. le-leb m n (since_least es t are prev this n within m is there),
     )
@@ -20,5 +20,5 @@ pub returns-in-None : goal.returns-in-None
 returns-in-None c = λ es are within. (
   λ yes. absurd (false≢true yes),
   λ there. absurd (since_none es c.args.self.now are c.args.stamp.serial.prev
-      c.args.stamp.serial.this c.args.events within (sym c.in-None.ensures.value) there),
+      c.args.stamp.serial.this c.args.events within (sym c.in-None.ensures) there),
 )
