@@ -1,13 +1,13 @@
 -- The receive, or the answer, right before a stamp is at one index: so there is one origin by a
 -- receive at most, and by an answer those of its request.
-use Rattle.std.proofs.Common.{◌≡◌, ℕ, ◌+◌, ◌-◌, ◌<◌, ◌≤◌, ◌^◌, zero, suc, true, false, List, [], ◌∷◌}
+use Rattle.std.proofs.Common.{◌≡◌, ℕ, ◌+◌, zero, suc, false, List, [], ◌∷◌}
 use Rattle.std.proofs.Common.{◌++◌, take, Some, refl, arith, sym, ◌∙◌, ap, subst}
-use Rattle.std.specs.List.{AllByRecursion, slice_get}
+use Rattle.std.specs.List.{slice_get}
 use Rattle.std.proofs.lemmas.Option.{same_Some}
 use Rattle.st_core.specs.declared.types.Kind.TheVariants as kind
 use Rattle.node_machine.specs.declared.types.Seen.{Seen}
 use Rattle.node_machine.specs.Readings.{is_receipt}
-use Rattle.node_machine.specs.Origins.{Can, Follows, IsAnsweredAt, TokenOrigin}
+use Rattle.node_machine.specs.Origins.{Can, Follows, TokenOrigin}
 use Rattle.node_machine.proofs.ForCallers.{takes_true}
 use Rattle.node_given.specs.declared.way.Way.{Way}
 use Rattle.node_given.specs.Walk.{AreFit, IsWay}
@@ -18,7 +18,8 @@ use Rattle.node_origins.specs.Sources.{Brings, FromReceive, FromRequest, Follows
 use Rattle.node_origins.specs.Summary.{IsEntry, IsSummary}
 use Rattle.node_origins.proofs.Steps.{fits_at, taken_more}
 use Rattle.node_origins.proofs.Summaries.{entry_summary, same_summary}
-use Rattle.node_origins.proofs.Receives.{Leads, leads_leaves, leads_taken, leaves_leads, taken_leads}
+use Rattle.node_origins.proofs.Receives.{Leads, leads_leaves, leads_taken, leaves_leads}
+use Rattle.node_origins.proofs.Receives.{taken_leads}
 
 -- where there is no event
 abbrev pub blank : Seen

@@ -1,16 +1,15 @@
 -- What an event's entry says, whichever it is.
-use Rattle.std.proofs.Common.{◌≡◌, ◌↔◌, ℕ, ◌<◌, true, false, List, Option, Some, length, refl, sym}
+use Rattle.std.proofs.Common.{◌≡◌, ◌↔◌, ℕ, true, false, List, refl, sym}
 use Rattle.std.proofs.Common.{◌∙◌, ap, subst}
-use Rattle.std.specs.List.{slice_get}
 use Rattle.std.proofs.lemmas.Bool.{false≢true}
-use Rattle.std.proofs.lemmas.Option.{same_Some}
 use Rattle.node_machine.specs.declared.types.Seen.{Seen}
 use Rattle.node_machine.specs.Readings.{is_receipt}
 use Rattle.node_machine.specs.Origins.{Can}
 use Rattle.node_origins.specs.declared.origin.EventOrigins.{EventOrigins}
 use Rattle.node_origins.specs.declared.origin.EventOrigins.TheVariants as origins
 use Rattle.node_origins.specs.declared.origin.StampOrigin.{StampOrigin}
-use Rattle.node_origins.specs.Summary.{HasBothOrigins, HasNoOrigin, HasOneOrigin, IsEntry, origin_of}
+use Rattle.node_origins.specs.Summary.{HasBothOrigins, HasNoOrigin, HasOneOrigin, IsEntry}
+use Rattle.node_origins.specs.Summary.{origin_of}
 use Rattle.node_origins.proofs.Summaries.{origin_once}
 
 module _ (es : List Seen) (i : ℕ) (e : Seen) where

@@ -1,7 +1,7 @@
--- A process can have given a stamp's token its label exactly if the first event that bears the label
--- is no receive, and the label was new right before the stamp, or a token that the stamp succeeds
--- was held before that first event.
-use Rattle.std.proofs.Common.{◌≡◌, ℕ, ◌<◌, ◌≤◌, ◌⊎◌, zero, suc, true, false, List, [], ◌∷◌, ◌++◌}
+-- A process can have given a stamp's token its label exactly if the first event that bears it is no
+-- receive, and the label was new right before the stamp, or a token that the stamp succeeds was held
+-- before that first event.
+use Rattle.std.proofs.Common.{◌≡◌, ℕ, ◌≤◌, ◌⊎◌, zero, suc, false, List, [], ◌∷◌, ◌++◌}
 use Rattle.std.proofs.Common.{length, take, drop, Some, inl, inr, refl, arith, sym, ◌∙◌, ap, subst}
 use Rattle.std.specs.List.{slice_get}
 use Rattle.std.proofs.lemmas.List.{take-append-drop}
@@ -13,7 +13,7 @@ use Rattle.node_machine.specs.declared.types.Seen.{Seen}
 use Rattle.node_machine.specs.Premises.{IsAmong}
 use Rattle.node_machine.specs.Readings.{is_receipt}
 use Rattle.node_machine.specs.Given.{shown, tokens}
-use Rattle.node_machine.specs.Origins.{Bears, IsAtHome, IsOwnLabel, StampsFirst}
+use Rattle.node_machine.specs.Origins.{Bears, IsAtHome, StampsFirst}
 use Rattle.node_machine.proofs.ForCallers.{among_back, among_front, among_parts}
 use Rattle.node_origins.proofs.Steps.{at_below, zero_held}
 use Rattle.node_origins.specs.declared.first_labels.FirstBearer.{FirstBearer}

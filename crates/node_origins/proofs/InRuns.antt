@@ -1,6 +1,8 @@
 -- In runs: each event has an origin told, which is one that the events allow.
-use Rattle.std.proofs.Common.{◌≡◌, ℕ, ◌+◌, ◌<◌, Bool, true, false, List, [], ◌∷◌, ◌++◌, length, Some}
-use Rattle.std.proofs.Common.{Option, None, option_map, option_to_list, get_or, refl, arith, sym, ◌∙◌}
+use Rattle.std.proofs.Common.{◌≡◌, ℕ, ◌+◌, ◌<◌, Bool, true, false, List, [], ◌∷◌, ◌++◌, length}
+use Rattle.std.proofs.Common.{Some}
+use Rattle.std.proofs.Common.{Option, None, option_map, option_to_list, get_or, refl, arith, sym}
+use Rattle.std.proofs.Common.{◌∙◌}
 use Rattle.std.proofs.Common.{ap, subst, cond}
 use Rattle.std.specs.List.{slice_get}
 use Rattle.std.proofs.lemmas.Bool.{false≢true}
@@ -16,7 +18,8 @@ use Rattle.node_machine.specs.declared.types.Seen.{Seen}
 use Rattle.node_machine.specs.Node.{node_actor, NodeAct, seen_by, seen_stream}
 use Rattle.node_machine.specs.Premises.{told_by}
 use Rattle.node_machine.specs.Readings.{is_receipt}
-use Rattle.node_machine.specs.Origins.{Can, Held, held_in, Home, OriginsAre, origins_told, TokenOrigin}
+use Rattle.node_machine.specs.Origins.{Can, Held, held_in, Home, OriginsAre, origins_told}
+use Rattle.node_machine.specs.Origins.{TokenOrigin}
 use Rattle.node_machine.proofs.ForCallers.{origins_can}
 use Rattle.node_origins.proofs.Steps.{at_get_or}
 use Rattle.node_origins.specs.Runs.{HaveOrigins}

@@ -2,8 +2,9 @@
 -- after it, or if a token put back right before the receive leads there. What gives the stamp tells
 -- that: a token that was put back right before the stamp, with a count that isn't below the
 -- receive's, was held before the receive, since that brought another one.
-use Rattle.std.proofs.Common.{◌≡◌, ℕ, ◌+◌, ◌<◌, ◌≤◌, ◌^◌, ◌⊎◌, max, suc, true, false, List, [], ◌∷◌}
-use Rattle.std.proofs.Common.{◌++◌, take, Some, inl, inr, refl, arith, sym, ◌∙◌, ap, subst, append-nil}
+use Rattle.std.proofs.Common.{◌≡◌, ℕ, ◌<◌, ◌≤◌, ◌^◌, ◌⊎◌, max, suc, true, false, List, [], ◌∷◌}
+use Rattle.std.proofs.Common.{◌++◌, take, Some, inl, inr, refl, arith, sym, ◌∙◌, ap, subst}
+use Rattle.std.proofs.Common.{append-nil}
 use Rattle.std.specs.List.{slice_get}
 use Rattle.std.proofs.lemmas.Bool.{cases_order, false≢true}
 use Rattle.std.proofs.lemmas.Option.{same_Some}
@@ -17,7 +18,7 @@ use Rattle.node_machine.specs.Readings.{readings, taking}
 use Rattle.node_machine.specs.Given.{fresh, IsPutBack, IsStraight, takes, tokens}
 use Rattle.node_machine.specs.Ways.{IsLowered, IsPlainly}
 use Rattle.node_machine.specs.Origins.{IsTaken}
-use Rattle.node_machine.proofs.ForCallers.{all_of, clock_by_receive, count_once, last_by_receive}
+use Rattle.node_machine.proofs.ForCallers.{all_of, clock_by_receive, last_by_receive}
 use Rattle.node_machine.proofs.ForCallers.{last_push, take_reads, takes_true}
 use Rattle.node_machine.proofs.ForCallers.{took_reads, ways_give}
 use Rattle.node_given.specs.declared.way.Way.{Way}

@@ -1,6 +1,6 @@
 -- What the list of all entries says of one event.
-use Rattle.std.proofs.Common.{◌≡◌, ◌↔◌, ℕ, ◌<◌, ◌≤◌, true, false, List, Option, Some, None, length}
-use Rattle.std.proofs.Common.{get_or, refl, arith, sym, ◌∙◌, ap, subst}
+use Rattle.std.proofs.Common.{◌≡◌, ◌↔◌, ℕ, ◌<◌, ◌≤◌, true, false, List, Some, length}
+use Rattle.std.proofs.Common.{get_or, refl, arith, sym, ◌∙◌, ap}
 use Rattle.std.specs.List.{slice_get}
 use Rattle.std.proofs.lemmas.Option.{same_Some}
 use Rattle.st_core.specs.declared.types.Pid.{Pid}
@@ -13,7 +13,8 @@ use Rattle.node_origins.specs.declared.origin.EventOrigins.{EventOrigins}
 use Rattle.node_origins.specs.declared.origin.EventOrigins.TheVariants as origins
 use Rattle.node_origins.specs.declared.origin.StampOrigin.{StampOrigin}
 use Rattle.node_origins.specs.Runs.{HaveOrigins}
-use Rattle.node_origins.specs.Summary.{HasBothOrigins, HasNoOrigin, HasOneOrigin, IsEntry, origin_of}
+use Rattle.node_origins.specs.Summary.{HasBothOrigins, HasNoOrigin, HasOneOrigin, IsEntry}
+use Rattle.node_origins.specs.Summary.{origin_of}
 use Rattle.node_origins.proofs.Befores.{blank}
 use Rattle.node_origins.proofs.Entries.{entry_one, entry_receive, entry_several, entry_unknown}
 use Rattle.node_origins.proofs.Entries.{one_parts, unknown_parts}

@@ -1,7 +1,10 @@
 -- Lemmas on tokens and on the receive before a stamp.
-use Rattle.std.proofs.Common.{◌≡◌, ℕ, ◌+◌, ◌<◌, ◌^◌, ◌%◌, ◌⊎◌, ◌==◌, max, zero, suc, true, false, cond}
-use Rattle.std.proofs.Common.{List, [], ◌∷◌, ◌++◌, length, take, Some, get_or, inl, inr, refl, arith}
-use Rattle.std.proofs.Common.{sym, ◌∙◌, ap, subst, append_assoc, append-nil, Bool, Result, Ok, Err, OnOk}
+use Rattle.std.proofs.Common.{◌≡◌, ℕ, ◌+◌, ◌<◌, ◌^◌, ◌%◌, ◌⊎◌, ◌==◌, max, zero, suc, true, false}
+use Rattle.std.proofs.Common.{cond}
+use Rattle.std.proofs.Common.{List, [], ◌∷◌, ◌++◌, length, take, Some, get_or, inl, inr, refl}
+use Rattle.std.proofs.Common.{arith}
+use Rattle.std.proofs.Common.{sym, ◌∙◌, ap, subst, append_assoc, append-nil, Bool, Result, Ok, Err}
+use Rattle.std.proofs.Common.{OnOk}
 use Rattle.std.proofs.Math.Nat.{mod-eq_of_lt, mod_self}
 use Rattle.std.proofs.Math.Pow.{mod-mod-pow}
 use Rattle.std.specs.List.{AllByRecursion, slice_get}
@@ -16,7 +19,7 @@ use Rattle.node_machine.specs.Readings.{clock_behind, clock_by, is_next, is_rece
 use Rattle.node_machine.specs.Given.{fresh, IsPutBack, shown, takes, tokens}
 use Rattle.node_machine.specs.Ways.{IsLowered}
 use Rattle.node_machine.proofs.ForCallers.{all_append, all_of, among_back, among_parts}
-use Rattle.node_machine.proofs.ForCallers.{clock_by_receive, count_once, FitsSerial}
+use Rattle.node_machine.proofs.ForCallers.{clock_by_receive, count_once}
 use Rattle.node_machine.proofs.ForCallers.{last_by_receive, last_push, takes_parts, tokens_more}
 use Rattle.node_machine.proofs.ForCallers.{tokens_new, tokens_parts}
 use Rattle.node_given.specs.Walk.{AreFit}

@@ -1,6 +1,6 @@
 -- The table of successors with one event more: only the token that the event shows comes to what it
 -- has, and that is under the stamp that succeeds the token.
-use Rattle.std.proofs.Common.{◌≡◌, ℕ, ◌+◌, ◌<◌, ◌==◌, ◌⊎◌, suc, cond, Bool, true, false, List, Some}
+use Rattle.std.proofs.Common.{◌≡◌, ℕ, ◌+◌, ◌==◌, ◌⊎◌, cond, Bool, true, false, List, Some}
 use Rattle.std.proofs.Common.{inl, inr, refl, arith, sym, ◌∙◌, ap, subst}
 use Rattle.std.specs.List.{slice_get}
 use Rattle.std.specs.HashMap.{get}
@@ -12,7 +12,7 @@ use Rattle.st_core.proofs.ForCallers.{both_true}
 use Rattle.node_machine.specs.Counts.{stamp_count}
 use Rattle.node_machine.specs.declared.types.Seen.{Seen}
 use Rattle.node_machine.specs.Readings.{is_receipt}
-use Rattle.node_machine.specs.Origins.{Can, Follows, TokenOrigin}
+use Rattle.node_machine.specs.Origins.{Can, TokenOrigin}
 use Rattle.node_origins.specs.declared.origin.EventOrigins.{EventOrigins}
 use Rattle.node_origins.specs.declared.origin.EventOrigins.TheVariants as origins
 use Rattle.node_origins.specs.declared.origin.StampOrigin.TheVariants as stamp_origin
@@ -45,7 +45,8 @@ pub added : (t u : Successors) (key : Successor) (all o : EventOrigins)
     → ((q : Successor) → get successor_eq u.origins q
     ≡ cond (successor_eq key q) (Some all) (get successor_eq t.origins q))
     → all ≡ either_origins (origins_in t key) o → (q : Successor)
-    → origins_in u q ≡ cond (successor_eq key q) (either_origins (origins_in t q) o) (origins_in t q)
+    → origins_in u q ≡ cond (successor_eq key q) (either_origins (origins_in t q) o)
+    (origins_in t q)
 added t u key all o now is q =
     ap (λ x. unwrap_or x origins.Unknown) (now q)
     ∙ (elim (successor_eq key q) as (λ b. successor_eq key q ≡ b

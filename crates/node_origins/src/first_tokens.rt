@@ -1,6 +1,7 @@
 //! Since when a process has had a token.
 
-ghost use Rattle.std.specs.Prelude.{◌≡◌, ◌+◌, ◌<◌, ◌≤◌, ◌^◌, ◌↔◌, [], ◌∷◌, ℕ, length, slice_get, take};
+ghost use Rattle.std.specs.Prelude.{◌≡◌, ◌+◌, ◌<◌, ◌≤◌, ◌^◌, ◌↔◌, [], ◌∷◌, ℕ, length, slice_get};
+ghost use Rattle.std.specs.Prelude.{take};
 ghost use Rattle.std.specs.Prelude.{List, Some, IfOk, IsTrue, OnOk};
 ghost use Rattle.std.specs.HashMap.{get};
 ghost use Rattle.st_core.specs.declared.types.Serial.{Serial as SerialValue};

@@ -35,8 +35,8 @@ impl Firsts {
 
     /// Whether the stamp at this index can have the origin home.
     fn allow_home(&self, index: usize, stamp: Seen) -> bool
-        ensures { (es : List SeenValue) → AreFirstEvents es self.now → slice_get es index ≡ Some stamp
-            → IsTrue result ↔ IsAtHome es index }
+        ensures { (es : List SeenValue) → AreFirstEvents es self.now
+            → slice_get es index ≡ Some stamp → IsTrue result ↔ IsAtHome es index }
     {
         match self.labels.get(stamp.label) {
             None => true,
@@ -48,8 +48,8 @@ impl Firsts {
 
     /// The origin home, if the events allow it for the stamp at this index.
     pub(crate) fn home(&self, index: usize, stamp: Seen) -> EventOrigins
-        ensures { (es : List SeenValue) → AreFirstEvents es self.now → slice_get es index ≡ Some stamp
-            → IsSummary (FromHome es index) result }
+        ensures { (es : List SeenValue) → AreFirstEvents es self.now
+            → slice_get es index ≡ Some stamp → IsSummary (FromHome es index) result }
     {
         if self.allow_home(index, stamp) {
             EventOrigins::One(StampOrigin::Home)

@@ -10,7 +10,7 @@ ghost use Rattle.node_machine.specs.Readings.{is_receipt};
 ghost use Rattle.node_machine.specs.declared.types.Seen.{Seen as SeenValue};
 ghost use Rattle.node_given.specs.Walk.{AreFit, IsWay};
 ghost use Rattle.node_given.specs.declared.way.Way.{Way as WayValue};
-ghost use Rattle.node_origins.specs.declared.origin.EventOrigins.{EventOrigins as EventOriginsValue};
+ghost use Rattle.node_origins.specs.declared.origin.EventOrigins.{EventOrigins as Entry};
 ghost use Rattle.node_origins.specs.declared.origin.EventOrigins.TheVariants as allowed;
 ghost use Rattle.node_origins.specs.declared.origin.StampOrigin.{StampOrigin as StampOriginValue};
 ghost use Rattle.node_origins.specs.Runs.{HaveOrigins};
@@ -92,7 +92,7 @@ fn request_before(
     requires fit { AreFit events.now }
     requires at { slice_get events.now index ≡ Some stamp }
     requires all { index ≤ length found.now }
-    requires entries { (k : ℕ) (e : SeenValue) (o : EventOriginsValue)
+    requires entries { (k : ℕ) (e : SeenValue) (o : Entry)
         → slice_get events.now k ≡ Some e → slice_get found.now k ≡ Some o
         → IsEntry events.now k e o }
     ensures { IsSummary (FromRequest events.now index) result }
@@ -122,7 +122,7 @@ fn stamp_origins(
     requires stamps { is_receipt stamp ≡ false }
     requires given { IsWay (take index events.now) stamp way }
     requires all { index ≤ length found.now }
-    requires entries { (k : ℕ) (e : SeenValue) (o : EventOriginsValue)
+    requires entries { (k : ℕ) (e : SeenValue) (o : Entry)
         → slice_get events.now k ≡ Some e → slice_get found.now k ≡ Some o
         → IsEntry events.now k e o }
     requires firsts { AreFirstEvents events.now firsts.now }
@@ -152,7 +152,7 @@ fn event_origins(
     requires at { slice_get events.now index ≡ Some event }
     requires given { IsWay (take index events.now) event way }
     requires all { index ≤ length found.now }
-    requires entries { (k : ℕ) (e : SeenValue) (o : EventOriginsValue)
+    requires entries { (k : ℕ) (e : SeenValue) (o : Entry)
         → slice_get events.now k ≡ Some e → slice_get found.now k ≡ Some o
         → IsEntry events.now k e o }
     requires firsts { AreFirstEvents events.now firsts.now }

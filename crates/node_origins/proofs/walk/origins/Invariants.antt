@@ -1,5 +1,5 @@
 -- So far each event has its entry, and the table has the tokens that they show.
-use Rattle.std.proofs.Common.{◌≡◌, ℕ, Some, length, take}
+use Rattle.std.proofs.Common.{◌≡◌, ℕ, Some, length}
 use Rattle.std.specs.List.{slice_get}
 use Rattle.node_machine.specs.declared.types.Seen.{Seen}
 use Rattle.node_origins.specs.declared.origin.EventOrigins.{EventOrigins}

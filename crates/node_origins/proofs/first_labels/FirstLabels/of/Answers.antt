@@ -1,5 +1,5 @@
 -- One event more comes to the table.
-use Rattle.std.proofs.Common.{◌≡◌, ◌≤◌, ◌∷◌, [], ◌++◌, get_or, length, take, arith, sym, subst}
+use Rattle.std.proofs.Common.{◌≤◌, get_or, length, take, arith, sym, subst}
 use Rattle.node_origins.specs.Tables.{AreFirstLabels}
 use Rattle.node_origins.proofs.Befores.{blank}
 use Rattle.node_origins.proofs.Homes.{length_taken}

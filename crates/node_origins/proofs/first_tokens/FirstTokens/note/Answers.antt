@@ -1,5 +1,5 @@
 -- The table keeps the number that it has.
-use Rattle.std.proofs.Common.{◌≡◌, cond, Some, sym, ◌∙◌, ap}
+use Rattle.std.proofs.Common.{cond, Some, sym, ◌∙◌, ap}
 use Rattle.std.specs.HashMap.{get}
 use Rattle.node_origins.specs.Tables.{same_serial}
 use Rattle.node_origins.proofs.TokenTables.{none_of, since_more, since_same, some_of}

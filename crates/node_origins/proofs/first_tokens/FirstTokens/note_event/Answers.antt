@@ -1,5 +1,5 @@
 -- An event's tokens come to the table one after the other.
-use Rattle.std.proofs.Common.{◌≡◌, ◌+◌, [], ◌∷◌, arith, ap, subst}
+use Rattle.std.proofs.Common.{◌+◌, [], ◌∷◌, ap, subst}
 use Rattle.st_core.specs.declared.types.Kind.{Kind}
 use Rattle.st_core.specs.declared.types.Kind.TheVariants as kind
 use Rattle.st_core.specs.Event.{kind_eq}

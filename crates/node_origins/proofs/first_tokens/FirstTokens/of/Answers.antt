@@ -1,5 +1,5 @@
 -- The table begins with the token that can be made before all events.
-use Rattle.std.proofs.Common.{◌≡◌, ◌+◌, [], get_or, arith, subst}
+use Rattle.std.proofs.Common.{◌≡◌, ◌+◌, [], arith, subst}
 use Rattle.node_origins.specs.Tables.{IsSince}
 use Rattle.node_origins.proofs.Befores.{blank}
 use Rattle.node_origins.proofs.Steps.{at_get_or}

@@ -1,5 +1,5 @@
 -- Whether a stamp is at home follows from the first event that bears its label.
-use Rattle.std.proofs.Common.{◌≡◌, ◌≤◌, length, not, inl, inr, refl, arith, sym, ◌∙◌, ap, subst}
+use Rattle.std.proofs.Common.{◌≤◌, length, not, inl, inr, refl, arith, sym, ◌∙◌, ap, subst}
 use Rattle.st_core.proofs.ForCallers.{not_true}
 use Rattle.std.proofs.lemmas.Bool.{false≢true, le-leb}
 use Rattle.node_origins.specs.Tables.{IsFirstBearer}
@@ -20,7 +20,8 @@ returns-then-index-first c = λ es are at.
     let e = c.args.stamp in
     let first = c.in-Some.first in
     let is = subst (IsFirstBearer es e.label) (sym c.in-Some.ensures) (are.0 e.label) in (
-      λ _. home_new es c.args.index e at first is (not_true first.receives c.if-not-first.true) c.if-index-first.true,
+      λ _. home_new es c.args.index e at first is (not_true first.receives c.if-not-first.true)
+          c.if-index-first.true,
       λ _. le-leb c.args.index first.index c.if-index-first.true,
     )
 
@@ -34,7 +35,8 @@ returns-else-index-first c = λ es are at.
     let other = c.if-index-first.false in
     let less : first.index ≤ c.args.index = omega arith in
     let has = c.has.ensures es are.1 within in (
-      λ yes. home_saved es c.args.index e at first is (not_true first.receives c.if-not-first.true) less (has.0 yes),
+      λ yes. home_saved es c.args.index e at first is
+          (not_true first.receives c.if-not-first.true) less (has.0 yes),
       λ home. elim (home_back es c.args.index e at first is home).1 [
         | inl most ↦ absurd (omega arith)
         | inr saved ↦ has.1 saved

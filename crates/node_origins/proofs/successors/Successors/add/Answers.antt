@@ -1,5 +1,5 @@
 -- Only what is under the stamp changes.
-use Rattle.std.proofs.Common.{sym, ◌∙◌, ap}
+use Rattle.std.proofs.Common.{◌∙◌, ap}
 use Rattle.node_origins.specs.declared.origin.EventOrigins.{EventOrigins}
 use Rattle.node_origins.specs.Summary.{either_origins}
 use Rattle.node_origins.proofs.SuccessorTables.{added}
