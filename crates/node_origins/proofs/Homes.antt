@@ -1,6 +1,6 @@
 -- A process can have given a stamp's token its label exactly if the first event that bears it is no
--- receive, and the label was new right before the stamp, or a token that the stamp succeeds was held
--- before that first event.
+-- receive, and either the label was new right before the stamp, or a token that the stamp succeeds
+-- was held before that first event.
 use Rattle.std.proofs.Common.{◌≡◌, ℕ, ◌≤◌, ◌⊎◌, zero, suc, false, List, [], ◌∷◌, ◌++◌}
 use Rattle.std.proofs.Common.{length, take, drop, Some, inl, inr, refl, arith, sym, ◌∙◌, ap, subst}
 use Rattle.std.specs.List.{slice_get}

@@ -28,7 +28,7 @@ abbrev pub FromHome : List Seen → ℕ → TokenOrigin → Type 0
 FromHome es i h = IsAtHome es i × (h ≡ Home)
 
 -- The receive right before a stamp, which brought its prev, can have brought its token, by what
--- gives the stamp. If a token was put back right before the stamp, it can as well have been put back
+-- gives the stamp. If a token was put back right before the stamp, that can as well have happened
 -- before the receive, unless the receive lifted the clock above the token's count
 abbrev pub LeavesReceive : Way → Seen → Type 0
 LeavesReceive way.Plain e = Unit {0}
