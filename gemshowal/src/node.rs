@@ -8,10 +8,11 @@
 use crate::{Event, Kind, OutOfMemory, Pid, ReadError, Trace};
 use node_given::Way;
 use node_machine::Seen;
+use node_origins::EventOrigins;
 use node_streams::MessageContent;
 use st_library::alloc::Global;
 use st_text::ReadFault;
-use std::collections::{HashMap, HashSet};
+use std::collections::{HashMap, HashSet, VecDeque};
 use std::ops::Range;
 
 /// The first line of the text of such a trace.
@@ -92,9 +93,7 @@ impl NodeTrace {
         let streams = self.trace.streams();
         let judgement = node_streams::judge(Global, streams)?;
         let ways = |(pid, events): (Pid, &[Event])| {
-            let seen = events.iter().zip(0..).map(|(event, at)| self.seen((pid, at), event));
-            let ways = node_given::given(Global, &seen.collect::<Vec<_>>())?;
-            Ok((pid, ways.as_slice().to_vec()))
+            Ok((pid, node_given::given(Global, &self.seen(pid, events))?.as_slice().to_vec()))
         };
         Ok(NodeFinding {
             unsent: judgement.unsent.as_slice().to_vec(),
@@ -103,24 +102,30 @@ impl NodeTrace {
         })
     }
 
-    /// Returns the sends of messages of which no reported receive is left: alike messages are
-    /// received in order.
-    pub fn unreceived(&self) -> Vec<(Pid, u64)> {
-        let mut received: HashMap<MessageContent, u64> = HashMap::new();
-        for event in self.events(Kind::Receive).map(|(_, event)| event) {
-            *received.entry(MessageContent::of(event)).or_default() += 1;
+    /// Finds what the token of each event of a process may have come from.
+    pub fn origins(&self, pid: Pid) -> Result<Vec<EventOrigins>, OutOfMemory> {
+        let seen = self.seen(pid, self.trace.streams().events(pid));
+        Ok(node_origins::origins(Global, &seen)?.as_slice().to_vec())
+    }
+
+    /// Returns the send and the receive of each message of which both were reported: alike messages
+    /// are received in order.
+    pub fn pairs(&self) -> Vec<((Pid, u64), (Pid, u64))> {
+        let mut sends: HashMap<MessageContent, VecDeque<(Pid, u64)>> = HashMap::new();
+        for (place, event) in self.events(Kind::Send) {
+            sends.entry(MessageContent::of(event)).or_default().push_back(place);
         }
-        let mut is_left = |event: &Event| match received.get_mut(&MessageContent::of(event)) {
-            Some(left) if *left > 0 => {
-                *left -= 1;
-                false
-            }
-            _ => true,
-        };
-        self.events(Kind::Send)
-            .filter(|(_, event)| is_left(event))
-            .map(|(place, _)| place)
-            .collect()
+        let receives = self.events(Kind::Receive);
+        let pair =
+            |(place, event)| Some((sends.get_mut(&MessageContent::of(event))?.pop_front()?, place));
+        receives.filter_map(pair).collect()
+    }
+
+    /// Returns the sends of messages of which no reported receive is left.
+    pub fn unreceived(&self) -> Vec<(Pid, u64)> {
+        let received: HashSet<_> = self.pairs().into_iter().map(|(send, _)| send).collect();
+        let sends = self.events(Kind::Send).map(|(place, _)| place);
+        sends.filter(|place| !received.contains(place)).collect()
     }
 
     /// Returns the events of a kind, by process.
@@ -128,13 +133,14 @@ impl NodeTrace {
         self.trace.events().filter(move |(_, event)| event.kind == kind)
     }
 
-    fn seen(&self, place: (Pid, u64), event: &Event) -> Seen {
-        Seen {
+    fn seen(&self, pid: Pid, events: &[Event]) -> Vec<Seen> {
+        let seen = |(event, at): (&Event, u64)| Seen {
             kind: event.kind,
             label: event.label,
             serial: event.serial,
-            answer: event.kind == Kind::Receive && self.is_answer(place),
-        }
+            answer: event.kind == Kind::Receive && self.is_answer((pid, at)),
+        };
+        events.iter().zip(0..).map(seen).collect()
     }
 }
 

@@ -1,5 +1,5 @@
-"""The `audit` of traces whose counters have wrapped, by the laws of a standard node: sentences about traces worked out by hand,
-and random runs of a node, judged by a slow model (`tests/models/slow_node.py`)."""
+"""The `audit` and `why` of traces whose counters have wrapped, by the laws of a standard node: sentences about traces worked
+out by hand, and random runs of a node, judged by a slow model (`tests/models/slow_node.py`)."""
 
 import json
 import random
@@ -60,10 +60,10 @@ SAID = (
     ("a send that wasn't reported", trace([ANSWER], [BORN], []), 0,
      ["fits if something wasn't reported: 2 receives have no reported send\n", "  <0.30.0>#0: the send of value 8 by <0.31.0> wasn't reported\n"]),
     ("a message that is received twice", spawn([], [BORN]), 1,
-     ["doesn't fit: messages were received more often than they were sent: <0.31.0>#2\n"]),
+     ["doesn't fit: messages were received more often than they were sent: <0.31.0>#2\nthis holds if each send of a token was reported\n"]),
     ("messages of which each is sent after the other came", trace([line("'receive'", 0, 1, CHILD, PARENT), line("send", 1, 2)],
                                                                   [line("'receive'", 1, 2), line("send", 0, 1, CHILD, PARENT)], []), 1,
-     ["doesn't fit: in no order of the events does each receive come after its send, because of <0.30.0>#0, <0.31.0>#0\n"]),
+     ["doesn't fit: in no order of the events does each receive come after its send, because of <0.30.0>#0, <0.31.0>#0\nthis holds if each send"]),
     ("no events", trace([], [], []), 1, ["nothing to audit: the trace has no events\n"]),
 )
 FAULTS = (("a count with a plus", b"{0,1}", b"{0,+1}", b"line 3 "), ("a count of minus 0", b"{0,1}", b"{-0,1}", b"line 3 "),
@@ -102,3 +102,52 @@ def random_runs(program):
         wrong = [f"{key}: {found} for {wanted}" for key, wanted in named.items()
                  if (found := [(it["pid"], it["index"]) for it in told.get(key, [])]) != [(f"<0.{pid}.0>", i) for pid, i in wanted]]
         yield Check(f"audit of the wrapped run {seed}", "\n".join(wrong) or None)
+
+
+# The words after `why`, the text, and what is said.
+ALL = " (2, 3, 4)"
+ON = spawn([line("print", 47, 48)], [], [])
+TOLD = (
+    ("the answer of a spawn", (PARENT, "1"), ON,
+     ["<0.30.0>#1 received value 8 from <0.31.0>, label 1\n", "because <0.31.0>#1 sent value 8 to <0.30.0> (1)\n",
+      f"because <0.31.0>#0 received value 7 from <0.30.0>{ALL}\n", "because <0.30.0>#0 sent value 7 to <0.31.0> (1)\n",
+      f"<0.30.0>#0 begins this chain{ALL}\n", "this holds in each run of a standard node"]),
+    ("a print after the answer, whose token isn't that of the child", (PARENT, "2"), ON,
+     ["<0.30.0>#2 printed value 7, label 1\n", f"<0.30.0>#2 begins this chain{ALL}\n"]),
+    ("a send that wasn't reported", (CHILD, "0"), trace([], [BORN], []),
+     ["<0.31.0>#0 received value 7 from <0.30.0>, label 1\n", "nobody reported the send that <0.31.0>#0 follows (1)\n"]),
+    ("a print that no token gives", (OTHER, "0"), spawn([], [], [line("print", 1, 3, OTHER)]),
+     ["nothing that <0.32.0> had gives <0.32.0>#0 its token; gemshowal audit says what may explain it\n"]),
+    ("the effects of a request", (PARENT, "0", "--effects"), ON,
+     ["0 <0.30.0>#0 sent value 7 to <0.31.0>\n", "1  <0.31.0>#0 received value 7 from <0.30.0> (1)\n",
+      f"2   <0.31.0>#1 sent value 8 to <0.30.0>{ALL}\n", "3    <0.30.0>#1 received value 8 from <0.31.0> (1)\n"]),
+)
+
+
+def causes(program):
+    for what, (pid, *words), text, wanted in TOLD:
+        got = program.run(("why", "-", pid, *words), text)
+        said, at = got.output.decode(), 0
+        for sentence in wanted:
+            at = said.find(sentence, max(at, 0))
+        is_right = at >= 0 and got.status == 0
+        yield Check(f"why of a wrapped trace: {what}", None if is_right else f"wanted {wanted}\ngot {got.status} {said}{got.complaint}")
+
+
+def true_causes(program):
+    """Whatever is said without a hedge has to be the origin that the stamp had."""
+    facts = asked = 0
+    for seed in range(RUNS):
+        rng = random.Random(1000 + seed)
+        streams, origins = slow_node.origins_of(rng, rng.randint(5, 200))
+        for (pid, i), origin in rng.sample(sorted(origins.items(), key=lambda it: it[0]), min(6, len(origins))):
+            got = program.run(("why", "--json", "-", f"<0.{pid}.0>", str(i)), slow_node.text(streams).encode())
+            told = json.loads(got.output)["events"][0]
+            said = {"after": told["after"], "begins": None, "other_label": None}.get(told["cause"], "open")
+            is_fact = told["grade"] == "premises" and said != "open"
+            wanted = None if origin is None else f"<0.{pid}.0>#{origin}"
+            asked, facts = asked + 1, facts + is_fact
+            is_right = told["cause"] != "unknown" and (not is_fact or said == wanted)
+            if not is_right:
+                yield Check(f"why of the wrapped run {seed}", f"{told['event']}: {told['cause']} {told['after']}, and it was {wanted}")
+    yield Check("why of wrapped runs says three in four causes without a hedge", None if 4 * facts >= 3 * asked else f"{facts} of {asked}")

@@ -2,13 +2,15 @@
 
 A counter has 64 bits. A serial shows the lowest 60 of them, here as the number from 0 to 2^60 - 1 with those bits."""
 
+import itertools
 from collections import Counter, defaultdict, deque, namedtuple
 
 COUNTER, SERIAL = 2**64, 2**60
 
 # kind: send, receive, answer or print; an answer is the receive by which `spawn` gets its reply.
 Event = namedtuple("Event", "kind label prev this sender to value")
-Token = namedtuple("Token", "label prev this")
+# Its origin is the index of the receive by which its process got it, or `None` if the process made it.
+Token = namedtuple("Token", "label prev this origin")
 
 
 def is_receive(event):
@@ -126,14 +128,20 @@ class Process:
     def __init__(self):
         self.clock = self.last = 0
         self.token, self.queue, self.saved, self.events = None, deque(), [], []
+        # The origin of each stamp's token, by index.
+        self.origins = {}
 
 
 class Node:
     """A run of random acts, whose tokens have all flags."""
 
-    def __init__(self, rng):
+    def __init__(self, rng, has_own_labels=False):
         self.rng, self.processes, self.value = rng, {}, 0
+        self.labels = itertools.count() if has_own_labels else None
         self.born()
+
+    def label(self):
+        return next(self.labels) if self.labels else self.rng.randrange(3)
 
     def born(self):
         process = self.processes[30 + len(self.processes)] = Process()
@@ -143,9 +151,10 @@ class Node:
         self.processes[pid].events.append(Event(kind, token.label, token.prev, token.this, sender, to, value))
 
     def stamp(self, process):
-        process.token = Token(process.token.label, process.last, (process.clock + 1) % SERIAL)
+        process.token = process.token._replace(prev=process.last, this=(process.clock + 1) % SERIAL)
         process.clock = (process.clock + 1) % COUNTER
         process.saved.append(process.token)
+        process.origins[len(process.events)] = process.token.origin
 
     def send(self, pid, to):
         process = self.processes[pid]
@@ -164,6 +173,7 @@ class Node:
     def receive(self, pid):
         process = self.processes[pid]
         sender, token, value = process.queue.popleft()
+        token = token._replace(origin=len(process.events))
         process.token, process.clock, process.last = token, max(process.clock, token.this), token.this
         process.saved.append(token)
         self.report(pid, "receive", token, sender, pid, value)
@@ -199,7 +209,7 @@ class Node:
             if saved:
                 self.put_back(pid, rng.choice(saved))
         elif not process.token:
-            process.token = Token(rng.randrange(3), process.last, 0)
+            process.token = Token(self.label(), process.last, 0, None)
         elif chance < 0.6:
             process.token = None
         elif chance < 0.7:
@@ -208,18 +218,30 @@ class Node:
             self.send(pid, rng.choice(list(self.processes)))
 
 
-def streams_of(rng, acts, hands_over, lossy):
-    """The streams of a run; of a lossy one, some events are left out, doubled or exchanged."""
-    node = Node(rng)
+def run(node, acts, hands_over):
+    rng = node.rng
     if rng.random() < 0.5:
         first = min(node.processes)
-        node.processes[first].token = Token(0, 0, 0)
+        node.processes[first].token = Token(node.label(), 0, 0, None)
         for _ in range(WRAPS):
             for _ in range(rng.randrange(9)):
                 node.print(first)
             node.spawn(first)
     for _ in range(acts):
         node.act(rng.choice(list(node.processes)), hands_over)
+    return node
+
+
+def origins_of(rng, acts):
+    """The streams of a run in which each token that is made has a label of its own, and the origin of each stamp."""
+    node = run(Node(rng, has_own_labels=True), acts, hands_over=False)
+    streams = {pid: process.events for pid, process in node.processes.items()}
+    return streams, {(pid, i): origin for pid, process in node.processes.items() for i, origin in process.origins.items()}
+
+
+def streams_of(rng, acts, hands_over, lossy):
+    """The streams of a run; of a lossy one, some events are left out, doubled or exchanged."""
+    node = run(Node(rng), acts, hands_over)
     streams = {pid: process.events for pid, process in node.processes.items()}
     for _ in range(rng.randint(1, 3) if lossy else 0):
         events = rng.choice([it for it in streams.values() if it] or [[]])

@@ -34,6 +34,7 @@ mod times;
 mod view;
 mod why;
 mod words;
+mod wrapped_why;
 
 use crate::args::{Args, Command};
 use crate::failure::{Failure, Status, PIPE};

@@ -6,6 +6,7 @@ use crate::object::{kind_word, object, Number};
 use crate::output::Output;
 use crate::view::View;
 use crate::words;
+use crate::wrapped_why;
 use crate::{Failure, Status, Task};
 use gemshowal::{Item, Kind, LineNumbers, Pid, Premises, Text};
 use serde::ser::{SerializeMap, Serializer};
@@ -18,6 +19,9 @@ const INDENT: usize = 16;
 const BLANKS: &str = "                 ";
 
 pub(crate) fn run(args: &Why, task: Task<'_>) -> Result<Status, Failure> {
+    if task.input.is_wrapped()? {
+        return wrapped_why::run(args, task);
+    }
     let Task { json, input, out, notes } = task;
     let (trace, names) = input.read(notes)?;
     let place = names.find_event(&trace, &args.event)?;

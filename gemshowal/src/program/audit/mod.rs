@@ -11,6 +11,7 @@ mod unexplained;
 mod wrapped;
 
 pub(crate) use outcome::{Outcome, Said};
+pub(crate) use wrapped::headline_of_node;
 
 use crate::args::Audit;
 use crate::input::Input;

@@ -15,6 +15,9 @@ use serde::Serialize;
 use std::collections::{HashMap, HashSet};
 use std::io::{self, Write};
 
+/// The premise of what no run has: an unreported send can stand for an alike one.
+const FINAL: &str = "this holds if each send of a token was reported";
+
 /// The part of the answer that isn't proved.
 const NOT_PROVED: &str =
     "This answer is not proved: gemshowal is a plain build of proved sources, \
@@ -33,6 +36,15 @@ pub(super) fn run(args: &Audit, task: Task<'_>) -> Result<Status, Failure> {
         judged.write(out)?;
     }
     Ok(if judged.said().fits() { Status::Yes } else { Status::No })
+}
+
+/// Returns the first line of the audit, and whether it says that no run of the node has the trace.
+pub(crate) fn headline_of_node(
+    trace: &NodeTrace,
+    names: &Names,
+) -> Result<(String, bool), Failure> {
+    let judged = Judged::of(trace, names)?;
+    Ok((judged.headline(), judged.said() == Said::Never))
 }
 
 #[derive(Clone, Copy, Debug)]
@@ -180,6 +192,9 @@ impl<'a> Judged<'a> {
 
     fn write(&self, out: &mut Output) -> Result<(), Failure> {
         writeln!(out, "{}", self.headline())?;
+        if self.said() == Said::Never {
+            writeln!(out, "{FINAL}")?;
+        }
         self.write_unexplained(out)?;
         write_all(out, &self.put_backs, |put_back| self.sentence(put_back))?;
         write_losses(self.names.losses(), out)?;
