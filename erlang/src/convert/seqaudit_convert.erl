@@ -128,8 +128,11 @@ own(File) ->
     end.
 
 -spec parts(seqaudit_build:build()) -> {#{atom() => part()}, map()}.
-parts(#build{actors = Actors, others = Others} = Build) ->
-    {Packed, Resolved} = seqaudit_resolve:resolve(Build),
+parts(#build{actors = Actors, others = Others} = Whole) ->
+    {Packed, Resolved} = seqaudit_resolve:resolve(Whole),
+    %% Lets go of the records from before: each is 43 bytes.
+    Build = Whole#build{packed = <<>>},
+    true = garbage_collect(),
     Listed = {seqaudit_numbers:listed(Actors), seqaudit_numbers:listed(Others)},
     Used = used(Packed, Listed),
     Numbers = seqaudit_processes:number(Used),
