@@ -47,6 +47,7 @@ here() ->
      {"exit", fun exit_takes_the_token/0},
      {"link", fun linked_end_gives_its_token/0},
      {"link-plain", fun plain_linked_end_takes_the_token/0},
+     {"link-nobody", fun link_to_nobody_may_take_the_token/0},
      {"spawn-here", fun spawn_here_is_four_events/0},
      {"spawn-counts", fun spawn_here_sets_the_counts/0},
      {"spawn-request", fun spawn_request_is_answered_as_any/0},
@@ -158,6 +159,22 @@ exit_takes_the_token() ->
 plain_linked_end_takes_the_token() ->
     Plain = spawn(fun() -> receive after infinity -> ok end end),
     taken(fun() -> link(Plain), exit(Plain, kill) end).
+
+%% The EXIT message of a link to a process that is gone leaves the token up to OTP 27, and takes it
+%% away from OTP 29 on. (OTP 28 wasn't measured.)
+link_to_nobody_may_take_the_token() ->
+    Ended = ended(),
+    {_, {Before, After}, []} = around(fun() ->
+                                          process_flag(trap_exit, true),
+                                          link(Ended),
+                                          receive {'EXIT', Ended, noproc} -> ok end
+                                      end),
+    {7, 1, _, _, _} = Before,
+    case release() of
+        Early when Early =< 27 -> Before = After;
+        Late when Late >= 29 -> [] = After;
+        _ -> not_measured
+    end.
 
 %% A linked process that ends with a token sends it with its EXIT message, and both are events.
 linked_end_gives_its_token() ->
