@@ -3,6 +3,7 @@
 use super::part::Parts;
 use super::selection::Selection;
 use crate::pieces::{Entry, Reported};
+use crate::view::Place;
 use crate::Failure;
 use gemshowal::{Event, Kind, MessageContent, Pid, Text};
 use std::collections::{BTreeMap, HashMap, HashSet};
@@ -31,7 +32,7 @@ pub(super) struct Kept {
     /// How many receives have a send, and sends a receive, that isn't kept.
     open: [u64; 2],
     /// The places that were asked for, each with the event's index in what is kept.
-    places: Vec<(Pid, u64, u64)>,
+    places: BTreeMap<Place, u64>,
 }
 
 impl Ends {
@@ -103,7 +104,7 @@ impl Kept {
 
     fn add_place(&mut self, reported: &Reported<'_>, before: u64) {
         let now = self.processes.get(&reported.pid).map_or(0, |own| own.count);
-        self.places.push((reported.pid, before + reported.index, now));
+        self.places.insert((reported.pid, before + reported.index), now);
     }
 
     /// Counts the chosen ends of a message that this event, which isn't kept, is the other end of.
@@ -137,7 +138,7 @@ impl Kept {
     /// Returns the places that were asked for, each with the event's index in what is kept and its
     /// line there.
     pub(super) fn places(&self) -> impl Iterator<Item = (Pid, u64, u64, u64)> + '_ {
-        self.places.iter().map(|&(pid, index, now)| {
+        self.places.iter().map(|(&(pid, index), &now)| {
             // The header and the process lines up to this one come before the event, too.
             let lines: u64 = self.processes.range(..pid).map(|(_, own)| 1 + own.count).sum();
             (pid, index, now, lines + now + 3)
