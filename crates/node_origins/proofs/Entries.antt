@@ -1,4 +1,4 @@
--- What an event's entry says, whichever it is.
+-- An event's entry stands for what is allowed of it, whichever entry it is.
 use Rattle.std.proofs.Common.{◌≡◌, ◌↔◌, ℕ, true, false, List, refl, sym}
 use Rattle.std.proofs.Common.{◌∙◌, ap, subst}
 use Rattle.std.proofs.lemmas.Bool.{false≢true}

@@ -1,4 +1,4 @@
--- What the list of all entries says of one event.
+-- The list of all entries has that of each event at its index.
 use Rattle.std.proofs.Common.{◌≡◌, ◌↔◌, ℕ, ◌<◌, ◌≤◌, true, false, List, Some, length}
 use Rattle.std.proofs.Common.{get_or, refl, arith, sym, ◌∙◌, ap}
 use Rattle.std.specs.List.{slice_get}

@@ -1,4 +1,4 @@
--- What the tables keep: the first event that bears each label, since when a process has had each
+-- The tables of the walk: the first event that bears each label, since when a process has had each
 -- token, and the origins of the tokens that a stamp may succeed.
 use Rattle.std.specs.Prelude.{◌≡◌, ◌⊎◌, ℕ, ◌+◌, ◌<◌, ◌≤◌, ◌==◌, ◌&&◌, nat_eq, Bool, true, false}
 use Rattle.std.specs.Prelude.{List, [], length, take, slice_get, Option, Some, None}

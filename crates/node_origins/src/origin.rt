@@ -3,7 +3,7 @@
 ghost use Rattle.std.specs.Prelude.{◌≡◌};
 ghost use Rattle.node_origins.specs.Summary.{either_origins};
 
-/// What the token of a stamp came from.
+/// The origin of a stamp's token.
 #[derive(Clone, Copy, Debug, PartialEq, Eq)]
 pub enum StampOrigin {
     /// Its process made it, or set its label.
@@ -12,7 +12,7 @@ pub enum StampOrigin {
     Follows(usize),
 }
 
-/// What the events of a process allow as the origin of one of them.
+/// The origins of an event that the events of its process allow.
 #[derive(Clone, Copy, Debug, PartialEq, Eq)]
 pub enum EventOrigins {
     /// It is a receive, and not asked.
@@ -26,7 +26,7 @@ pub enum EventOrigins {
 }
 
 impl EventOrigins {
-    /// What one of two sets of origins has.
+    /// The origins that one of two sets has.
     pub(crate) fn or(self, other: EventOrigins) -> EventOrigins
         ensures { result ≡ either_origins self other }
     {

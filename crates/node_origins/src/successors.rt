@@ -1,4 +1,4 @@
-//! What is allowed of a stamp, by the tokens that it may succeed.
+//! The origins that are allowed of a stamp by the tokens that it may succeed.
 
 ghost use Rattle.std.specs.Prelude.{◌≡◌, ℕ, ◌+◌, slice_get, List, Some, OnOk, if◌then◌else◌};
 ghost use Rattle.node_machine.specs.declared.types.Seen.{Seen as SeenValue};
@@ -36,7 +36,7 @@ fn token_origins(index: usize, event: Seen, origins: EventOrigins) -> EventOrigi
     }
 }
 
-/// What the origins of tokens allow of their successors.
+/// The origins of the tokens so far, by the stamps that may succeed them.
 #[derive(Drop)]
 pub(crate) struct Successors {
     /// The origins of the tokens that a stamp may succeed, by the stamp.

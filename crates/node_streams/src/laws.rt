@@ -1,4 +1,4 @@
-//! What holds of the streams of a standard node in all its runs, as contracts of functions that do
+//! The laws of the streams of a standard node in all its runs, as contracts of functions that do
 //! nothing: each clause is a theorem over the definitions of `specs/`, and a proof that calls the
 //! function may use it.
 
