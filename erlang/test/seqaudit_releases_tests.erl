@@ -89,7 +89,7 @@ pair(Command, Application, {Release, {Node, _}}) ->
      || Word <- [<<"period 1: ">>, <<"period 2: ">>, <<" events ">>]],
     nomatch = binary:match(Watched, <<"no events came">>).
 
-%% What the command says up to its second period, for which a busy machine needs a while.
+%% Waits until the command has told of its second period, for which a busy machine needs a while.
 watched(Command, Watch, Said) ->
     shell(Command, [Watch, " >", Said, " 2>&1 & command=$!; seconds=0; until grep -q 'period 2: ' ", Said,
                     " || [ $seconds = ", integer_to_list(?BEGUN_S), " ]; do sleep 1; seconds=$((seconds + 1)); done; "

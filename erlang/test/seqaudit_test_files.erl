@@ -56,7 +56,7 @@ write(Name, Collections) ->
     ok = seqaudit_events:close(Device),
     Name ++ ".events".
 
-%% What is written of them, in files of their own: a test that takes too long may still write.
+%% Converts them into files of their own: a test that takes too long may still write.
 convert(Collections) ->
     Name = seqaudit_audits:file("converted_" ++ os:getpid() ++ integer_to_list(erlang:unique_integer([positive]))),
     {ok, #{files := Files} = Summary} = seqaudit_convert:from_files([write(Name, Collections)], Name),

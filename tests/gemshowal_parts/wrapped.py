@@ -32,7 +32,7 @@ def spawn(parent=(), child=(), other=()):
     return trace([*SPAWN[0], *parent], [*SPAWN[1], *child], list(other))
 
 
-# What it is, the text, the status, and the sentences in their order.
+# A trace in words, its text, the status, and the sentences in their order.
 SAID = (
     ("a spawn, whose answer multiplies the counter by 16", spawn([line("print", 47, 48)]), 0,
      ["fits: 5 events of 3 processes; nothing is known to be missing\n", "This answer is not proved"]),

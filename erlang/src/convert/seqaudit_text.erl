@@ -1,8 +1,8 @@
 %% @doc Reads events from text, as `io:format("~p~n", [Event])' printed them, one term after the
 %% other, each ended by a newline or a full stop.
 %%
-%% What a log puts in front of `{seq_trace,' on its line is passed over, and so are lines that have
-%% no event; they are counted. An event that can't be read is a fault, unless the text ends in it. A
+%% Passes over words of a log in front of `{seq_trace,' on its line, and over lines that have no
+%% event, which it counts. An event that can't be read is a fault, unless the text ends in it. A
 %% comment says where the events after it were collected, and which node the first number of a pid
 %% means there:
 %% ```

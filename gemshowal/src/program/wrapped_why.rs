@@ -282,7 +282,7 @@ fn cause_of_stamp(
     }
 }
 
-/// What is said of an event.
+/// The causes or the effects of an event, as they are said.
 struct Told<'a> {
     causes: &'a Causes<'a>,
     /// The first line of the audit.

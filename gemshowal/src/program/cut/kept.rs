@@ -1,4 +1,4 @@
-//! What is written: the lines of the chosen events, and how many messages lose an end.
+//! The lines of the chosen events, which are written, and how many messages lose an end.
 
 use super::part::Parts;
 use super::selection::Selection;

@@ -1,4 +1,4 @@
-//! What there is to choose from: the processes, the labels, and the events on lines that are named.
+//! The survey of a trace: its processes, its labels, and the events on lines that are named.
 
 use super::part::{Line, Parts};
 use super::selection::NamedEvents;

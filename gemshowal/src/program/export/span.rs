@@ -13,7 +13,7 @@ use crate::Failure;
 use gemshowal::{Event, Hop, Kind, Label, Partner};
 use std::collections::BTreeMap;
 
-/// What a span is, by the number that `opentelemetry/proto/trace/v1` has for such a kind.
+/// The kinds of spans, by the number that `opentelemetry/proto/trace/v1` has for such a kind.
 #[derive(Clone, Copy, Debug, PartialEq, Eq)]
 pub(super) enum About {
     /// The events of a label, of which this one is the first: internal.

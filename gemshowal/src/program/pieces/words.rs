@@ -23,7 +23,7 @@ pub(crate) struct Verdict {
     /// The parts of the trace, in order: files, NAME of NAME.seqtrace, or - for standard input
     #[arg(value_name = "NAME", default_value = "-")]
     pub(super) files: Vec<PathBuf>,
-    /// What sort may take of memory
+    /// The most memory that sort may take
     #[arg(long, value_name = "SIZE", default_value = "1G")]
     pub(super) memory: OsString,
 }
