@@ -6,8 +6,8 @@ use crate::tree::count_live;
 use std::alloc::{AllocError, Global};
 use std::marker::Model;
 
-/// The most slots that there are ever. More than these, of a byte each, are no allocation.
-const MOST_SLOTS: usize = 1 << 58;
+/// The most slots that there are ever, so that no number of them overflows as it is rounded up.
+const MOST_SLOTS: usize = usize::MAX / BLOCK;
 
 /// A fixed number of slots, each live or dead.
 ///
