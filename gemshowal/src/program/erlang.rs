@@ -3,7 +3,7 @@
 use crate::output;
 use std::env;
 use std::ffi::OsString;
-use std::os::unix::process::CommandExt;
+use std::io;
 use std::path::PathBuf;
 use std::process::Command;
 
@@ -26,9 +26,20 @@ pub(crate) fn hand_over(word: &str, words: impl Iterator<Item = OsString>) -> u8
     if let (None, Ok(own)) = (env::var_os(ASKED), env::current_exe()) {
         command.env(ASKED, own);
     }
-    let reason = command.arg(word).args(words).exec();
+    let reason = replace_by(command.arg(word).args(words));
     output::complain(format_args!("error: {} can't be run: {reason}\n", program.display()));
     4
+}
+
+/// Runs a command in place of this program, and returns why it can't be run.
+#[cfg(unix)]
+fn replace_by(command: &mut Command) -> io::Error {
+    std::os::unix::process::CommandExt::exec(command)
+}
+
+#[cfg(not(unix))]
+fn replace_by(_: &mut Command) -> io::Error {
+    io::ErrorKind::Unsupported.into()
 }
 
 /// Finds the program of this name next to the running one, else the first on the path.

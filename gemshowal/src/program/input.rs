@@ -1,14 +1,14 @@
 //! An input: standard input, a file, or the file of a trace's name, packed by gzip or not.
 
 use crate::names::{self, Messages, Names};
-use crate::output::Notes;
+use crate::output::{own_file, Notes};
 use crate::{lint, Failure};
 use flate2::read::MultiGzDecoder;
 use gemshowal::{NodeTrace, ReadError, Trace, WRAPPED};
-use std::fs::{self, File, OpenOptions};
+use std::fs::{self, File};
 use std::io::{self, BufReader, Cursor, ErrorKind, Read, Seek, Write};
-use std::os::unix::fs::OpenOptionsExt;
 use std::path::{Path, PathBuf};
+use std::sync::Arc;
 use std::{env, process};
 
 /// The first bytes of a packed file.
@@ -19,7 +19,7 @@ pub(crate) struct Input {
     /// The file, or `-`.
     path: PathBuf,
     /// The file, to be read once more; none for standard input.
-    file: Option<File>,
+    file: Option<Arc<File>>,
     reader: Box<dyn Read>,
 }
 
@@ -34,12 +34,11 @@ impl Input {
             return Ok(Input { name, path, file: None, reader });
         }
         let name = path.to_string_lossy().into_owned();
-        let opened = File::open(&path).and_then(|file| Ok((file.try_clone()?, file)));
-        let (again, file) =
-            opened.map_err(|reason| Failure::Unopened(on_one_line(&name).into(), reason))?;
-        let reader = unpacked(Box::new(file));
+        let file = File::open(&path).map(Arc::new);
+        let file = file.map_err(|reason| Failure::Unopened(on_one_line(&name).into(), reason))?;
+        let reader = unpacked(Box::new(Arc::clone(&file)));
         let reader = reader.map_err(|reason| Failure::Unread(on_one_line(&name).into(), reason))?;
-        Ok(Input { name, path, file: Some(again), reader })
+        Ok(Input { name, path, file: Some(file), reader })
     }
 
     #[cfg(test)]
@@ -285,8 +284,7 @@ fn poured(file: Option<File>, bytes: &[u8]) -> io::Result<File> {
 
 fn nameless() -> io::Result<File> {
     let path = env::temp_dir().join(format!("gemshowal-{}", process::id()));
-    let file =
-        OpenOptions::new().read(true).write(true).create_new(true).mode(0o600).open(&path)?;
+    let file = own_file().read(true).create_new(true).open(&path)?;
     fs::remove_file(&path)?;
     Ok(file)
 }

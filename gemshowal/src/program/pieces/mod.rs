@@ -20,9 +20,7 @@ pub(crate) use self::words::Pieces;
 use self::words::Scatter;
 use crate::input::Input;
 use crate::{output, Failure, Status};
-use std::fs::File;
 use std::io::{self, BufRead, BufReader, BufWriter, Read, Write};
-use std::os::fd::AsFd;
 use std::path::{Path, PathBuf};
 
 /// The bytes that are read at once.
@@ -84,16 +82,6 @@ fn parts(files: &[PathBuf], first: u16) -> Result<impl Iterator<Item = (&PathBuf
     Ok(files.iter().zip(first..=u16::MAX))
 }
 
-/// Returns standard output, written in large pieces, or nowhere.
-fn standard_output(is_quiet: bool) -> io::Result<BufWriter<File>> {
-    let file = if is_quiet {
-        File::create("/dev/null")?
-    } else {
-        File::from(io::stdout().as_fd().try_clone_to_owned()?)
-    };
-    Ok(BufWriter::with_capacity(BUFFER, file))
-}
-
 /// Runs one of the commands, and returns the status.
 pub(crate) fn run(pieces: &Pieces, is_quiet: bool) -> u8 {
     run_command(pieces, is_quiet).map_or_else(
@@ -106,7 +94,8 @@ pub(crate) fn run(pieces: &Pieces, is_quiet: bool) -> u8 {
 }
 
 fn run_command(pieces: &Pieces, is_quiet: bool) -> Result<Status, Failure> {
-    let mut out = standard_output(is_quiet)?;
+    let device = if is_quiet { Box::new(io::sink()) } else { output::standard_output()? };
+    let mut out = BufWriter::with_capacity(BUFFER, device);
     let status = match pieces {
         Pieces::Scatter(args) => scatter_files(args, &mut out)?,
         Pieces::Judge(args) => {
