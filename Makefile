@@ -12,7 +12,7 @@ CODE := crates.txt .ci/quick .ci/quick-clang $(filter %.rt,$(SOURCES))
 # The tests' judges assert: Python must not leave assertions out.
 unexport PYTHONOPTIMIZE
 
-.PHONY: help quick try program demo install uninstall test gate wrong-bodies layout layers clauses planned plan docs tables test-kit test-program test-erlang test-conformance test-rust test-readme test-coq rust dist bench hostile clean distclean
+.PHONY: help quick try program demo install uninstall test gate wrong-bodies layout layers clauses planned plan docs tables test-kit test-program test-erlang test-conformance test-rust test-readme test-coq rust try-page dist bench hostile clean distclean
 .DELETE_ON_ERROR:
 
 help:
@@ -48,6 +48,10 @@ demo: bin/seqaudit bin/seqtool ## runs the proved programs on examples/ and comp
 # The sources without their contracts, as cargo builds them: rust/README.md.
 rust: ## writes the programs as plain Rust, not proved, and builds them in bin/rust/ (2 to 3 minutes; needs cargo and Python)
 	@rust/build bin/rust
+
+# The page isn't kept: docs/DECISIONS.md says why.
+try-page: ## writes docs/try.html, a page in which gemshowal runs in a browser (2 to 4 minutes; needs cargo, and Rust's library for wasm32-wasip1)
+	@rust/browser/build docs/try.html
 
 dist: ## packs the same with docs, man pages and erlang/ as bin/gemshowal-VERSION.tar.gz (at once; needs cargo)
 	@rust/dist
