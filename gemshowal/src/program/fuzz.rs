@@ -3,16 +3,16 @@
 //!
 //! `GEMSHOWAL_FUZZ` says how many texts, and `GEMSHOWAL_SEED` which: `cargo test --release fuzz`.
 
-use crate::args::{Args, Command};
-use crate::input::Input;
-use crate::names::FILES;
+use crate::args::Args;
 use crate::output::{Notes, Output};
-use crate::{diff, report, run_on, Status, Task};
+use crate::{run_on_path, Status};
 use clap::Parser;
 use gemshowal::{Paired, Partner, Text, Trace};
-use std::env;
-use std::fs;
-use std::path::Path;
+use std::cell::RefCell;
+use std::io::{self, Write};
+use std::path::{Path, PathBuf};
+use std::rc::Rc;
+use std::{env, fs, process};
 
 /// The number of texts that are tried if nothing else is asked for.
 const TEXTS: u64 = 2_000;
@@ -25,15 +25,16 @@ const PIECES: &[u8] = b"<1.2.0>|<0.7|<70000.1.0>|<03.1.0>|#Pid<|'receive',|recei
     |value\t3\t|label\t|'Elixir.|#{'__struct__' => '|<<\"|\\|\xc3\xb6|{'$gen_call',{<0.81.0>,#Ref<0.1.2>},\
     |begin -1\n|message <0.81.0> 0 <0.85.0> 0 -9223372036854775808\n|#Ref<0.1.2>,|lost\t";
 
-/// The command lines that are tried on each text, with bars between them.
+/// The command lines that are tried on each text, with bars between them. The name of the text comes
+/// behind them, or in place of IT; ALL is the text that it was made of.
 const COMMANDS: &str = "audit|audit --json|audit --each-label|audit --each-label --json|\
     audit --label 17|audit --process 0.30.0 --json|check|check --json|complete|complete --json|\
-    complete --as streams|complete --as acts|cut --label 17|cut --lines 2-5|cut --around 4|\
+    complete --as streams|complete --as acts|cut --label 17|cut --lines 2-5|cut IT --around 4|\
     cut --from 0|explain|explain --json|lint|lint --json --most 50|lint --fix|list|\
     list --json --counts 1-|stats|stats --json|\
     export --as mermaid|export --as dot|export --as perfetto|export --as shiviz|export --as otlp|\
-    why NAME 3|why NAME 4 --effects --json|chart|chart --label 1000000|diff NAME NAME --json|page|times|\
-    times --json|why NAME shop#2|list --label {order,7}";
+    why IT 3|why IT 4 --effects --json|chart|chart --label 1000000|diff IT ALL --json|page|times|\
+    times --json|why IT shop#2|list --label {order,7}";
 
 /// Numbers that look like chance (xorshift).
 pub(crate) struct Chance(pub(crate) u64);
@@ -105,17 +106,21 @@ impl Example {
         Example { text, beside }
     }
 
-    /// Lets the commands find these files, most of them with mistakes.
-    fn put_beside(&self, chance: &mut Chance) {
-        FILES.with_borrow_mut(|files| {
-            for (extension, text) in &self.beside {
-                let mut text = text.clone();
-                for _ in 0..chance.below(3) {
-                    text = chance.with_mistake(&text);
-                }
-                files.insert(Path::new("it").with_extension(extension), text);
+    /// Writes a text that may have mistakes, with the files beside it and without.
+    fn write(&self, chance: &mut Chance, folder: &Path) {
+        let mut put = |extension: &str, text: &[u8], most: usize| {
+            let mut text = text.to_vec();
+            for _ in 0..chance.below(most) {
+                text = chance.with_mistake(&text);
             }
-        });
+            fs::write(folder.join("it").with_extension(extension), text).unwrap();
+        };
+        put("seqtrace", &self.text, 6);
+        for (extension, text) in &self.beside {
+            put(extension, text, 3);
+        }
+        fs::copy(folder.join("it.seqtrace"), folder.join("it.txt")).unwrap();
+        fs::write(folder.join("all.txt"), &self.text).unwrap();
     }
 }
 
@@ -144,26 +149,44 @@ fn examples() -> Vec<Example> {
     paths.iter().filter(|path| is_trace(path)).map(|path| Example::of(path)).collect()
 }
 
-/// Returns the first word of a command line, and the command.
-fn command(words: &'static str) -> (&'static str, Args) {
-    let args = Args::try_parse_from(["gemshowal"].into_iter().chain(words.split(' '))).unwrap();
-    (words.split(' ').next().unwrap(), args)
+/// The bytes that a command writes.
+#[derive(Clone, Default)]
+struct Written(Rc<RefCell<Vec<u8>>>);
+
+impl Write for Written {
+    fn write(&mut self, bytes: &[u8]) -> io::Result<usize> {
+        self.0.borrow_mut().write(bytes)
+    }
+
+    fn flush(&mut self) -> io::Result<()> {
+        Ok(())
+    }
 }
 
-/// Does a command on a text, and a comparison with the one that it was made of, and returns whether
-/// the status is a yes. An object is whole, whatever the result.
-fn run((word, args): &(&str, Args), name: &str, text: &[u8], whole: &[u8]) -> bool {
-    let (mut input, mut notes) = (Input::of_bytes(text, name), Notes::default());
-    let mut out = Output::to_nowhere(word);
-    let task = Task { json: args.json, input: &mut input, out: &mut out, notes: &mut notes };
-    let ended = match &args.command {
-        Command::Diff(_) => diff::run(task, Input::of_bytes(whole, name)),
-        command => run_on(command, task),
-    };
-    let ended = ended.or_else(|failure| report(failure, args.json, &mut out));
-    out.finish().unwrap();
+/// Reads a command line about the text of this file.
+fn command(words: &str, folder: &Path, it: &str) -> Args {
+    let mut words: Vec<PathBuf> =
+        ["gemshowal"].into_iter().chain(words.split(' ')).map(PathBuf::from).collect();
+    if !words.contains(&"IT".into()) {
+        words.push("IT".into());
+    }
+    for word in &mut words {
+        match word.to_str() {
+            Some("IT") => *word = folder.join(it),
+            Some("ALL") => *word = folder.join("all.txt"),
+            _ => {}
+        }
+    }
+    Args::try_parse_from(words).unwrap()
+}
+
+/// Does a command, and returns whether the status is a yes. An object is whole, whatever the result.
+fn run(word: &str, args: &Args) -> bool {
+    let written = Written::default();
+    let mut out = Output::new(Box::new(written.clone()), word, false);
+    let ended = run_on_path(args, &args.command.files()[0], &mut out, &mut Notes::default());
     if args.json {
-        let object: serde_json::Value = serde_json::from_slice(out.taken()).unwrap();
+        let object: serde_json::Value = serde_json::from_slice(&written.0.borrow()).unwrap();
         assert_eq!(object["command"], *word);
     }
     matches!(ended, Ok(Status::Yes))
@@ -175,23 +198,24 @@ fn number(variable: &str) -> Option<u64> {
 
 #[test]
 fn fuzz_no_command_panics_on_a_malformed_text() {
-    let commands: Vec<_> = COMMANDS.split('|').map(command).collect();
-    let mut yes = vec![0; commands.len()];
+    let folder = env::temp_dir().join(format!("gemshowal-fuzz-{}", process::id()));
+    fs::create_dir_all(&folder).unwrap();
+    let commands =
+        |it| COMMANDS.split('|').map(|words| command(words, &folder, it)).collect::<Vec<_>>();
+    let (named, bare) = (commands("it"), commands("it.txt"));
+    let mut yes = vec![0; named.len()];
     let examples = examples();
     let mut chance = Chance(number("GEMSHOWAL_SEED").unwrap_or(20_261_130));
     for _ in 0..number("GEMSHOWAL_FUZZ").unwrap_or(TEXTS) {
         let example = &examples[chance.below(examples.len())];
-        let mut text = example.text.clone();
-        for _ in 0..chance.below(6) {
-            text = chance.with_mistake(&text);
-        }
+        example.write(&mut chance, &folder);
         let is_named = !example.beside.is_empty() && chance.below(4) > 0;
-        example.put_beside(&mut chance);
-        let name = if is_named { "it.seqtrace" } else { "-" };
-        for (command, yes) in commands.iter().zip(&mut yes) {
-            *yes += u64::from(run(command, name, &text, &example.text));
+        let commands = if is_named { &named } else { &bare };
+        for ((args, words), yes) in commands.iter().zip(COMMANDS.split('|')).zip(&mut yes) {
+            *yes += u64::from(run(words.split(' ').next().unwrap(), args));
         }
     }
+    fs::remove_dir_all(&folder).unwrap();
     let unfit: Vec<_> = COMMANDS.split('|').zip(yes).filter(|(_, yes)| *yes == 0).collect();
     assert!(unfit.is_empty(), "no text is one that these take: {unfit:?}");
 }

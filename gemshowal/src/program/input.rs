@@ -41,16 +41,6 @@ impl Input {
         Ok(Input { name, path, file: Some(file), reader })
     }
 
-    #[cfg(test)]
-    pub(crate) fn of_bytes(bytes: &[u8], path: &str) -> Input {
-        Input {
-            name: path.into(),
-            path: path.into(),
-            file: None,
-            reader: Box::new(Cursor::new(bytes.to_vec())),
-        }
-    }
-
     /// Returns the name in messages, whole: also with a line break in it.
     pub(crate) fn name(&self) -> &str {
         &self.name

@@ -126,7 +126,8 @@ fn report(failure: Failure, is_json: bool, out: &mut Output) -> Result<Status, F
 fn run(word: &str, args: &Args) -> Result<u8, Failure> {
     let mut status = 0;
     let files = args.command.files();
-    let mut out = Output::new(word, files.len() > 1 && !args.json, args.quiet)?;
+    let has_headings = files.len() > 1 && !args.json;
+    let mut out = Output::new(output::device(args.quiet)?, word, has_headings);
     for path in files {
         let mut notes = Notes::default();
         let ended = run_on_path(args, path, &mut out, &mut notes);

@@ -8,7 +8,6 @@ use super::Names;
 use std::borrow::Cow;
 use std::collections::{BTreeSet, HashMap};
 use std::fmt::Write;
-#[cfg(not(test))]
 use std::fs::{read, File};
 use std::io::{self, BufRead, BufReader, ErrorKind};
 use std::path::{Path, PathBuf};
@@ -29,36 +28,13 @@ pub(crate) enum Fault {
     Unlike { file: PathBuf, label: u32 },
 }
 
-#[cfg(test)]
-thread_local! {
-    /// The files that tests have in place of the system's.
-    pub(crate) static FILES: std::cell::RefCell<HashMap<PathBuf, Vec<u8>>> = Default::default();
-}
-
-#[cfg(test)]
-fn read(file: &Path) -> io::Result<Vec<u8>> {
-    let found = FILES.with_borrow(|files| files.get(file).cloned());
-    found.ok_or_else(|| ErrorKind::NotFound.into())
-}
-
-/// Opens a file to be read line by line.
-#[cfg(not(test))]
-fn opened(file: &Path) -> io::Result<impl BufRead> {
-    File::open(file).map(BufReader::new)
-}
-
-#[cfg(test)]
-fn opened(file: &Path) -> io::Result<impl BufRead> {
-    read(file).map(|bytes| BufReader::new(io::Cursor::new(bytes)))
-}
-
 /// Opens a file, if it is there, to hand on the lines after the header, without their ends.
 pub(super) fn open_lines(
     file: &Path,
     header: &'static str,
 ) -> Result<Option<impl Iterator<Item = Result<(usize, String), Fault>>>, Fault> {
-    let opened = match opened(file) {
-        Ok(opened) => opened,
+    let opened = match File::open(file) {
+        Ok(opened) => BufReader::new(opened),
         Err(reason) if reason.kind() == ErrorKind::NotFound => return Ok(None),
         Err(reason) => return Err(Fault::Unread { file: file.into(), reason }),
     };

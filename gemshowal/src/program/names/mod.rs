@@ -13,8 +13,6 @@ mod terms;
 mod times;
 mod which;
 
-#[cfg(test)]
-pub(crate) use files::FILES;
 pub(crate) use files::{Fault, Messages};
 pub(crate) use line::Line;
 pub(crate) use times::{Time, Times, TimesFile};

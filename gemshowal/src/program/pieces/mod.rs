@@ -94,8 +94,7 @@ pub(crate) fn run(pieces: &Pieces, is_quiet: bool) -> u8 {
 }
 
 fn run_command(pieces: &Pieces, is_quiet: bool) -> Result<Status, Failure> {
-    let device = if is_quiet { Box::new(io::sink()) } else { output::standard_output()? };
-    let mut out = BufWriter::with_capacity(BUFFER, device);
+    let mut out = BufWriter::with_capacity(BUFFER, output::device(is_quiet)?);
     let status = match pieces {
         Pieces::Scatter(args) => scatter_files(args, &mut out)?,
         Pieces::Judge(args) => {
