@@ -1,7 +1,7 @@
 //! `gather`: the verdict on the trace, from the lines of `judge`.
 
 use super::record::{Counts, Place, Rest};
-use super::{Lines, Next};
+use super::walk_sorted;
 use crate::reason::Against;
 use crate::view::count;
 use crate::{Failure, Status};
@@ -37,23 +37,9 @@ pub(super) fn gather(
     input: impl BufRead,
     out: &mut impl Write,
 ) -> Result<Status, Failure> {
-    let mut lines = Lines::new(input);
-    let mut before = Vec::new();
     let mut gathered = Gathered::default();
-    loop {
-        let number = lines.number() + 1;
-        let torn = || Failure::Torn(format!("{name}: line {number} is none of judge's, sorted"));
-        match lines.next().map_err(|reason| Failure::Unread(name.to_owned(), reason))? {
-            Next::End => return gathered.verdict(name, out),
-            Next::Torn => return Err(torn()),
-            Next::Line(line) if line < &before[..] => return Err(torn()),
-            Next::Line(line) => {
-                gathered.take(Rest(line)).ok_or_else(torn)?;
-                before.clear();
-                before.extend_from_slice(line);
-            }
-        }
-    }
+    walk_sorted(name, input, "judge", |line, _| Ok(gathered.take(Rest(line))))?;
+    gathered.verdict(name, out)
 }
 
 impl Gathered {

@@ -2,7 +2,7 @@
 
 use super::record::{Counts, Line, Place, Rest, COUNTS};
 use super::text::read_event;
-use super::{Lines, Next};
+use super::walk_sorted;
 use crate::reason::Against;
 use crate::Failure;
 use gemshowal::{Event, Kind, Pid, PlacedReason, Receipt, Text};
@@ -32,38 +32,23 @@ pub(super) fn judge(
     out: &mut impl Write,
     mut progress: impl FnMut(u64),
 ) -> Result<(), Failure> {
-    let mut lines = Lines::new(input);
-    let mut before = Vec::new();
     let mut totals = Totals::default();
     let mut piece: Option<Piece> = None;
-    loop {
-        let number = lines.number() + 1;
-        let torn = || Failure::Torn(format!("{name}: line {number} is none of scatter's, sorted"));
-        let line = match lines.next().map_err(|reason| Failure::Unread(name.to_owned(), reason))? {
-            Next::Line(line) => line,
-            Next::Torn => return Err(torn()),
-            Next::End => break,
-        };
-        if line < &before[..] {
-            return Err(torn());
-        }
+    walk_sorted(name, input, "scatter", |line, before| {
         if let Some(counts) = line.strip_prefix(COUNTS) {
-            let counts = Counts::read(Rest(counts)).ok_or_else(torn)?;
-            counts.append_to(Line::default().starting(b"3S")).write(out)?;
-            continue;
+            let Some(counts) = Counts::read(Rest(counts)) else { return Ok(None) };
+            let line = counts.append_to(Line::default().starting(b"3S")).write(out);
+            return Ok(line.map(Some)?);
         }
         let mut rest = Rest(line);
-        let pid = rest.pid().ok_or_else(torn)?;
+        let Some(pid) = rest.pid() else { return Ok(None) };
         if piece.as_ref().is_some_and(|piece| piece.pid != pid) {
             finish(piece.take(), &mut totals, out)?;
             progress(totals.lines.events());
         }
-        let is_repeated = line == &before[..];
-        let kind = piece.get_or_insert_with(|| Piece::new(pid)).take(rest, is_repeated);
-        totals.lines.count(kind.ok_or_else(torn)?);
-        before.clear();
-        before.extend_from_slice(line);
-    }
+        let kind = piece.get_or_insert_with(|| Piece::new(pid)).take(rest, line == before);
+        Ok(kind.map(|kind| totals.lines.count(kind)))
+    })?;
     finish(piece, &mut totals, out)?;
     totals.write(out)?;
     Ok(out.flush()?)

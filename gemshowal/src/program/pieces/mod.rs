@@ -69,6 +69,31 @@ impl<R: BufRead> Lines<R> {
     }
 }
 
+/// Hands on the lines of a sorted text, each with the one before it. The function returns `Ok(None)`
+/// for a line that isn't one of this filter's.
+fn walk_sorted(
+    name: &str,
+    input: impl BufRead,
+    filter: &str,
+    mut each: impl FnMut(&[u8], &[u8]) -> Result<Option<()>, Failure>,
+) -> Result<(), Failure> {
+    let mut lines = Lines::new(input);
+    let mut before = Vec::new();
+    loop {
+        let number = lines.number() + 1;
+        let torn = || Failure::Torn(format!("{name}: line {number} is none of {filter}'s, sorted"));
+        match lines.next().map_err(|reason| Failure::Unread(name.to_owned(), reason))? {
+            Next::Line(line) if line >= &before[..] => {
+                each(line, &before)?.ok_or_else(torn)?;
+                before.clear();
+                before.extend_from_slice(line);
+            }
+            Next::Line(_) | Next::Torn => return Err(torn()),
+            Next::End => return Ok(()),
+        }
+    }
+}
+
 fn open(file: &Path) -> Result<(String, impl BufRead), Failure> {
     let mut input = Input::open(file)?;
     Ok((input.line_name().to_owned(), BufReader::with_capacity(BUFFER, input.take())))
