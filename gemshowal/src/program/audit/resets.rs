@@ -6,19 +6,11 @@
 //! part in which it was sent. The longest beginnings of this kind are taken, one part after
 //! the other.
 
-use gemshowal::{Event, Kind, Pid, Trace};
+use gemshowal::{Event, Kind, MessageContent, Pid, Trace};
 use std::collections::{HashMap, HashSet};
 
 /// The number of parts after which the total is estimated.
 const ENOUGH: usize = 8;
-
-/// The fields that a send and its receive have in common.
-type Message = (Pid, Option<Pid>, u64, u64, u32, u64);
-
-fn message(event: &Event) -> Message {
-    let (prev, this) = (event.serial.prev, event.serial.this);
-    (event.from, event.to, prev, this, event.label.0, event.value)
-}
 
 /// For each process, the indices at which its events in the part begin and end.
 pub(super) type Part = HashMap<Pid, (usize, usize)>;
@@ -77,8 +69,8 @@ struct Run<'a> {
     stamps: HashMap<(Pid, u64), Event>,
     received: HashSet<(Pid, u64)>,
     /// The number of messages of each kind that are sent and not yet received.
-    sends: HashMap<Message, u64>,
-    waiting: HashMap<Message, Vec<Pid>>,
+    sends: HashMap<MessageContent, u64>,
+    waiting: HashMap<MessageContent, Vec<Pid>>,
 }
 
 impl<'a> Run<'a> {
@@ -87,7 +79,7 @@ impl<'a> Run<'a> {
         for (pid, events) in trace.processes() {
             let left = events.iter().skip(begins[&pid]);
             for event in left.filter(|event| event.kind == Kind::Send) {
-                *sends.entry(message(event)).or_default() += 1;
+                *sends.entry(MessageContent::of(event)).or_default() += 1;
             }
         }
         Run {
@@ -105,9 +97,10 @@ impl<'a> Run<'a> {
     fn go_on(&mut self, pid: Pid, going: &mut Vec<Pid>) {
         let end = self.ends[&pid];
         let Some(event) = self.trace.streams().events(pid).get(end) else { return };
-        match self.next(pid, event) {
+        let content = MessageContent::of(event);
+        match self.next(pid, event, content) {
             Next::Ends => return,
-            Next::Waits => return self.waiting.entry(message(event)).or_default().push(pid),
+            Next::Waits => return self.waiting.entry(content).or_default().push(pid),
             Next::Taken => {}
         }
         self.ends.insert(pid, end + 1);
@@ -121,12 +114,12 @@ impl<'a> Run<'a> {
         }
         self.stamps.insert((pid, this), *event);
         if event.kind == Kind::Send {
-            *self.sends.entry(message(event)).or_default() -= 1;
-            going.extend(self.waiting.remove(&message(event)).into_iter().flatten());
+            *self.sends.entry(content).or_default() -= 1;
+            going.extend(self.waiting.remove(&content).into_iter().flatten());
         }
     }
 
-    fn next(&self, pid: Pid, event: &Event) -> Next {
+    fn next(&self, pid: Pid, event: &Event, content: MessageContent) -> Next {
         let this = event.serial.this;
         if event.kind != Kind::Receive {
             let is_late = this <= self.clocks.get(&pid).copied().unwrap_or(0);
@@ -135,11 +128,11 @@ impl<'a> Run<'a> {
         }
         match self.stamps.get(&(event.from, this)) {
             _ if self.received.contains(&(event.from, this)) => Next::Ends,
-            Some(stamp) if stamp.kind == Kind::Send && message(stamp) == message(event) => {
+            Some(stamp) if stamp.kind == Kind::Send && MessageContent::of(stamp) == content => {
                 Next::Taken
             }
             Some(_) => Next::Ends,
-            None if self.sends.get(&message(event)).is_some_and(|left| *left > 0) => Next::Waits,
+            None if self.sends.get(&content).is_some_and(|left| *left > 0) => Next::Waits,
             None => Next::Taken,
         }
     }
@@ -220,12 +213,12 @@ impl<'a> Keeper<'a> {
     /// Finds the sends whose messages are received after the part, unless a later send may be
     /// theirs.
     fn received_behind(&self) -> Vec<(Pid, usize)> {
-        let mut wanted: HashMap<Message, i64> = HashMap::new();
+        let mut wanted: HashMap<MessageContent, i64> = HashMap::new();
         for (pid, events) in self.trace.processes() {
             for event in events.iter().skip(self.ends[&pid]) {
                 match event.kind {
-                    Kind::Receive => *wanted.entry(message(event)).or_default() += 1,
-                    Kind::Send => *wanted.entry(message(event)).or_default() -= 1,
+                    Kind::Receive => *wanted.entry(MessageContent::of(event)).or_default() += 1,
+                    Kind::Send => *wanted.entry(MessageContent::of(event)).or_default() -= 1,
                     Kind::Print => {}
                 }
             }
@@ -235,7 +228,7 @@ impl<'a> Keeper<'a> {
             let own = events.iter().enumerate().take(self.ends[&pid]).skip(self.begins[&pid]);
             for (place, event) in own.rev().filter(|(_, event)| event.kind == Kind::Send) {
                 let is_received = self.received.contains_key(&(pid, event.serial.this));
-                match wanted.get_mut(&message(event)) {
+                match wanted.get_mut(&MessageContent::of(event)) {
                     Some(left) if *left > 0 && !is_received => {
                         *left -= 1;
                         found.push((pid, place));
