@@ -22,8 +22,7 @@ fn note(view: &View<'_>, pid: Pid, events: &[Event], requests: &mut HashMap<Plac
     let mut behind: Option<(usize, u64)> = None;
     for (at, event) in events.iter().enumerate() {
         if event.kind == Kind::Receive {
-            let answered = event.serial.this.checked_mul(16).and_then(|it| it.checked_add(15));
-            behind = request(view, events, at).zip(answered);
+            behind = request(view, events, at).zip(counter_behind(event.serial.this));
             continue;
         }
         behind = behind.filter(|&(request, prev)| {
@@ -35,6 +34,12 @@ fn note(view: &View<'_>, pid: Pid, events: &[Event], requests: &mut HashMap<Plac
             requests.insert((pid, at as u64), first);
         }
     }
+}
+
+/// Returns the counter of a process behind the answer of a spawn with this count: OTP moves it to 16
+/// times the count, and 15.
+pub(crate) fn counter_behind(answer: u64) -> Option<u64> {
+    answer.checked_mul(16)?.checked_add(15)
 }
 
 /// Returns the request of the spawn that this receive answers, if it does: the event right before.

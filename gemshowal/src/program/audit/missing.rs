@@ -2,6 +2,7 @@
 //! them.
 
 use crate::names::Names;
+use crate::spawns::counter_behind;
 use crate::view::{Place, Shown};
 use gemshowal::{Event, Hop, Hops, Kind, OutOfMemory, Paired, Partner, Pid};
 use std::collections::{BTreeSet, HashMap, HashSet};
@@ -179,7 +180,7 @@ impl Finder<'_> {
             return None;
         }
         let prev = event.serial.prev;
-        if newest.is_some_and(|count| is_behind_spawn(prev, count)) {
+        if newest.is_some_and(|count| counter_behind(count) == Some(prev)) {
             return None;
         }
         let send = self.unreceived_send(place.0, prev, event.label.0);
@@ -248,12 +249,6 @@ impl Finder<'_> {
     }
 }
 
-/// Returns whether a prev comes right after the answer of a spawn with this count: OTP moves the
-/// counters of the process that asked for it to 16 times the count, and 15.
-pub(super) fn is_behind_spawn(prev: u64, count: u64) -> bool {
-    count.checked_mul(16).and_then(|count| count.checked_add(15)) == Some(prev)
-}
-
 #[derive(Clone, Debug, Default)]
 pub(super) struct Counter {
     clock: u64,
@@ -298,8 +293,9 @@ impl Counter {
             self.clock = self.clock.max(prev);
         }
         let stood = this.saturating_sub(1);
-        let is_spawn =
-            |&(count, value): &(u64, u64)| is_behind_spawn(stood, count) && names.is_spawned(value);
+        let is_spawn = |&(count, value): &(u64, u64)| {
+            counter_behind(count) == Some(stood) && names.is_spawned(value)
+        };
         if stood > self.clock {
             if self.received.iter().any(is_spawn) {
                 self.spawns += 1;
