@@ -200,13 +200,8 @@ fn mixed(number: u64) -> u64 {
 
 /// Returns the service of a process: its registered name, or its node.
 fn service(scene: &Scene<'_>, pid: Pid) -> String {
-    let about = scene.names.about(pid).unwrap_or_default();
-    let word = |before: &str| {
-        let rest = about.split_once(before)?.1;
-        Some(rest.split([',', ' ']).next().unwrap_or(rest).to_owned())
-    };
-    let node = || word(" of node ").or_else(|| Some(format!("node {}", pid.node())));
-    word(", registered as ").or_else(node).unwrap_or_default()
+    let registered = scene.names.word_about(pid, ", registered as ");
+    registered.map_or_else(|| scene.node(pid), str::to_owned)
 }
 
 fn follows(scene: &Scene<'_>, (pid, _): Place, hop: Hop) -> String {

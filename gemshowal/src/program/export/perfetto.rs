@@ -108,9 +108,7 @@ impl Writer<'_> {
     }
 
     fn put_node(&self, line: &mut Line<'_>, pid: Pid) {
-        let node = self.scene.names.about(pid).and_then(|about| about.split_once(" of node "));
-        let name = node.and_then(|(_, rest)| rest.split([',', ' ']).next());
-        let name = name.map_or_else(|| format!("node {}", pid.node()), str::to_owned);
+        let name = self.scene.node(pid);
         line.text("{\"ph\":\"M\",\"name\":\"process_name\",\"pid\":").number(process(pid));
         line.text(",\"args\":{\"name\":").string(&name).text("}}");
     }

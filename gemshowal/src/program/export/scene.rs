@@ -114,6 +114,12 @@ impl<'a> Scene<'a> {
         self.names.has_terms()
     }
 
+    /// Returns the name of a process's node, or its number if that isn't known.
+    pub(super) fn node(&self, pid: Pid) -> String {
+        let name = self.names.word_about(pid, " of node ");
+        name.map_or_else(|| format!("node {}", pid.node()), str::to_owned)
+    }
+
     pub(super) fn name(&self, place: Place) -> String {
         self.names.event(place)
     }

@@ -110,6 +110,11 @@ impl Names {
         self.terms.processes.get(&pid).map(|process| &*process.about)
     }
 
+    /// Returns the word behind these ones in what is known of a process.
+    pub(crate) fn word_about(&self, pid: Pid, before: &str) -> Option<&str> {
+        self.about(pid)?.split_once(before)?.1.split([',', ' ']).next()
+    }
+
     pub(crate) fn label(&self, label: Label) -> Cow<'_, str> {
         named(self.terms.label(label), || label.0.to_string())
     }
