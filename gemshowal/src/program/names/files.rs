@@ -8,7 +8,7 @@ use super::Names;
 use std::borrow::Cow;
 use std::collections::{BTreeSet, HashMap};
 use std::fmt::Write;
-use std::fs::{read, File};
+use std::fs::File;
 use std::io::{self, BufRead, BufReader, ErrorKind};
 use std::path::{Path, PathBuf};
 use thiserror::Error;
@@ -39,12 +39,10 @@ pub(super) fn open_lines(
         Err(reason) => return Err(Fault::Unread { file: file.into(), reason }),
     };
     let path = file.to_owned();
-    let mut lines = opened.lines().zip(1..).map(move |(line, number)| match line {
-        Ok(line) => Ok((number, line)),
-        Err(reason) if reason.kind() == ErrorKind::InvalidData => {
-            Err(Fault::Wrong { file: path.clone(), line: number, wanted: "text in UTF-8" })
-        }
-        Err(reason) => Err(Fault::Unread { file: path.clone(), reason }),
+    let mut lines = opened.split(b'\n').zip(1..).map(move |(line, number)| {
+        let line = line.map_err(|reason| Fault::Unread { file: path.clone(), reason })?;
+        let wrong = |_| Fault::Wrong { file: path.clone(), line: number, wanted: "text in UTF-8" };
+        Ok((number, String::from_utf8(line).map_err(wrong)?))
     });
     match lines.next().transpose()? {
         Some((_, first)) if first == header => Ok(Some(lines)),
@@ -52,48 +50,20 @@ pub(super) fn open_lines(
     }
 }
 
-pub(super) struct Beside {
-    pub(super) file: PathBuf,
-    pub(super) text: String,
-}
-
-impl Beside {
-    /// Reads the file of this path, if it is there.
-    pub(super) fn read(file: PathBuf) -> Result<Option<Beside>, Fault> {
-        let bytes = match read(&file) {
-            Ok(bytes) => bytes,
-            Err(reason) if reason.kind() == ErrorKind::NotFound => return Ok(None),
-            Err(reason) => return Err(Fault::Unread { file, reason }),
-        };
-        match String::from_utf8(bytes) {
-            Ok(text) => Ok(Some(Beside { file, text })),
-            Err(error) => {
-                let valid = &error.as_bytes()[..error.utf8_error().valid_up_to()];
-                let line = 1 + valid.iter().filter(|&&byte| byte == b'\n').count();
-                Err(Fault::Wrong { file, line, wanted: "text in UTF-8" })
-            }
-        }
+/// Takes each line of a file after the header, if the file is there, and returns whether it is. The
+/// function returns `None` if a line isn't what is wanted.
+pub(super) fn take(
+    file: &Path,
+    header: &'static str,
+    wanted: &'static str,
+    mut take: impl FnMut(&str) -> Option<()>,
+) -> Result<bool, Fault> {
+    let Some(lines) = open_lines(file, header)? else { return Ok(false) };
+    for line in lines {
+        let (line, text) = line?;
+        take(&text).ok_or_else(|| Fault::Wrong { file: file.into(), line, wanted })?;
     }
-
-    pub(super) fn fault(&self, line: usize, wanted: &'static str) -> Fault {
-        Fault::Wrong { file: self.file.clone(), line, wanted }
-    }
-
-    /// Takes each line after the first one, which has to be this header. The function returns
-    /// `None` if a line isn't what is wanted.
-    pub(super) fn take(
-        &self,
-        header: &'static str,
-        wanted: &'static str,
-        mut take: impl FnMut(&str) -> Option<()>,
-    ) -> Result<(), Fault> {
-        let mut lines = self.text.split_terminator('\n').zip(1..);
-        if lines.next().is_none_or(|(first, _)| first != header) {
-            return Err(self.fault(1, header));
-        }
-        let wrong = lines.find(|(line, _)| take(line).is_none());
-        wrong.map_or(Ok(()), |(_, line)| Err(self.fault(line, wanted)))
-    }
+    Ok(true)
 }
 
 pub(super) fn number(text: &str) -> Option<u64> {
@@ -141,11 +111,11 @@ const LOSSES: [&str; 13] = [
 ];
 
 /// Returns the losses of the conversion by `NAME.facts`, of which a line is the kind of the fact, a
-/// tab and a sentence.
-pub(super) fn losses(facts: &Beside) -> Result<Vec<String>, Fault> {
+/// tab and a sentence; none if there is no file.
+pub(super) fn losses(facts: &Path) -> Result<Vec<String>, Fault> {
     let mut losses = Vec::new();
     let is_of_kind = |byte: u8| byte.is_ascii_lowercase() || byte == b'_';
-    facts.take("seqaudit facts 1", "an entry of NAME.facts", |line| {
+    take(facts, "seqaudit facts 1", "an entry of NAME.facts", |line| {
         let (kind, sentence) = line.split_once('\t')?;
         losses.extend(LOSSES.contains(&kind).then(|| escaped(sentence).into_owned()));
         (!kind.is_empty() && kind.bytes().all(is_of_kind)).then_some(())
@@ -162,9 +132,8 @@ impl Messages {
     /// Reads the texts next to this trace for which `is_wanted` is true; none if there is no file.
     pub(crate) fn beside(trace: &Path, is_wanted: impl Fn(u64) -> bool) -> Result<Messages, Fault> {
         let mut messages = HashMap::new();
-        let file = super::beside(trace, "messages").map_or(Ok(None), Beside::read)?;
-        let Some(file) = file else { return Ok(Messages(messages)) };
-        file.take("seqaudit messages 1", "an entry of NAME.messages", |line| {
+        let Some(file) = super::beside(trace, "messages") else { return Ok(Messages(messages)) };
+        take(&file, "seqaudit messages 1", "an entry of NAME.messages", |line| {
             let (value, term) = line.strip_prefix("value\t")?.split_once('\t')?;
             let value = number(value)?;
             messages.extend(is_wanted(value).then(|| (value, escaped(term).into_owned())));

@@ -19,7 +19,6 @@ pub(crate) use times::{Time, Times, TimesFile};
 pub(crate) use which::NotFound;
 
 use crate::output::Notes;
-use files::Beside;
 use gemshowal::{Label, Pid, Text, Trace};
 use std::borrow::Cow;
 use std::path::{Path, PathBuf};
@@ -64,9 +63,9 @@ impl Names {
     /// Reads the files next to this file of a trace.
     pub(crate) fn beside(file: &Path, trace: &Trace, notes: &mut Notes) -> Result<Names, Fault> {
         let mut names = Names::without_times(file, notes)?;
-        let times = beside(file, "times").map_or(Ok(None), Beside::read)?;
-        if let Some(times) = times {
-            names.times = Times::parse(&times)?.of_trace(trace, &times.file, notes);
+        let Some(file) = beside(file, "times") else { return Ok(names) };
+        if let Some(times) = Times::read(&file)? {
+            names.times = times.of_trace(trace, &file, notes);
         }
         Ok(names)
     }
@@ -74,18 +73,15 @@ impl Names {
     /// Reads these files but for that of times.
     pub(crate) fn without_times(file: &Path, notes: &mut Notes) -> Result<Names, Fault> {
         let Some(file) = beside(file, "terms") else { return Ok(Names::default()) };
-        let next = |extension| Beside::read(file.with_extension(extension));
         let mut names = Names::default();
-        match next("terms")? {
-            Some(terms) => names.terms = Terms::parse(&terms)?,
+        match Terms::read(&file)? {
+            Some(terms) => names.terms = terms,
             None => notes.say(format_args!(
                 "note: there is no {}, so numbers are shown in place of names",
                 file.display()
             )),
         }
-        if let Some(facts) = next("facts")? {
-            names.losses = files::losses(&facts)?;
-        }
+        names.losses = files::losses(&file.with_extension("facts"))?;
         Ok(names)
     }
 

@@ -3,9 +3,10 @@
 //! NAME` for a further number of a node that has more than one.
 
 use super::elixir;
-use super::files::{escaped, number, Beside, Fault};
+use super::files::{escaped, number, take, Fault};
 use gemshowal::{Label, Pid};
 use std::collections::{HashMap, HashSet};
+use std::path::Path;
 
 #[derive(Debug)]
 pub(super) struct Process {
@@ -24,12 +25,19 @@ pub(super) struct Terms {
     pub(super) are_elixir: bool,
 }
 
+const HEADER: &str = "seqaudit terms 1";
+const WANTED: &str = "an entry of NAME.terms that no line before it has";
+
 impl Terms {
-    pub(super) fn parse(file: &Beside) -> Result<Terms, Fault> {
-        let mut terms = Terms { are_elixir: elixir::is_elixir(&file.text), ..Terms::default() };
-        let wanted = "an entry of NAME.terms that no line before it has";
-        file.take("seqaudit terms 1", wanted, |line| terms.add(line))?;
-        Ok(terms)
+    /// Reads a file, if it is there: twice, since the last line may be the first one of Elixir.
+    pub(super) fn read(file: &Path) -> Result<Option<Terms>, Fault> {
+        let mut terms = Terms::default();
+        take(file, HEADER, WANTED, |line| {
+            terms.are_elixir |= elixir::is_elixir(line);
+            Some(())
+        })?;
+        let is_there = take(file, HEADER, WANTED, |line| terms.add(line))?;
+        Ok(is_there.then_some(terms))
     }
 
     /// Adds the entry of a line; returns `None` if it isn't one, or a line before it said

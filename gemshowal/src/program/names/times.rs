@@ -7,7 +7,7 @@
 //!
 //! A message between two nodes may seem to take less than no time, as far as their clocks differ.
 
-use super::files::{number, open_lines, Beside, Fault};
+use super::files::{number, open_lines, take, Fault};
 use crate::output::Notes;
 use crate::view::Place;
 use gemshowal::{Event, Kind, Trace};
@@ -101,16 +101,20 @@ impl TimesFile {
 }
 
 impl Times {
-    pub(super) fn parse(file: &Beside) -> Result<Times, Fault> {
+    /// Reads a file, if it is there.
+    pub(super) fn read(file: &Path) -> Result<Option<Times>, Fault> {
         let mut times = None;
-        file.take(HEADER, WANTED, |line| match &mut times {
+        let is_there = take(file, HEADER, WANTED, |line| match &mut times {
             Some(times) => Times::add(times, Entry::read(line)?).then_some(()),
             None => {
                 times = Some(Times { begin: begin(line)?, ..Times::default() });
                 Some(())
             }
         })?;
-        times.ok_or_else(|| file.fault(2, WANTED))
+        if is_there && times.is_none() {
+            return Err(wrong(file, 2));
+        }
+        Ok(times)
     }
 
     /// Adds an entry, and returns whether its subject had no time yet.
