@@ -19,7 +19,7 @@ use crate::output::Output;
 use crate::times::summary;
 use crate::view::{Kept, View};
 use crate::{Failure, Status, Task};
-use gemshowal::{CertificateError, CompleteError, Event, OutOfMemory, Trace};
+use gemshowal::{CertificateError, CompleteError, MessageContent, OutOfMemory, Trace};
 use missing::Missing;
 use others::Comparison;
 use report::Part;
@@ -79,9 +79,7 @@ fn has_copies(view: &View<'_>) -> bool {
     view.trace.processes().any(|(pid, events)| {
         let mut seen = HashSet::new();
         !events.iter().zip(0..).all(|(event, index)| {
-            let Event { kind, label, serial, from, to, value } = *event;
-            let (kind, serial) = (kind as u8, (serial.prev, serial.this));
-            seen.insert((kind, label.0, serial, from, to, value, time(pid, index)))
+            seen.insert((event.kind as u8, MessageContent::of(event), time(pid, index)))
         })
     })
 }

@@ -9,7 +9,7 @@ use std::io::{self, Write};
 
 /// The greatest number of events, processes or messages of a kind that are listed; the rest are
 /// counted.
-pub(super) const LISTED: usize = 20;
+const LISTED: usize = 20;
 /// The other explanation of an event that a message without a reported receive explains.
 const ANEW: &str = "begun anew with a counter left from an earlier trace";
 
@@ -413,7 +413,7 @@ pub(super) fn write_all<T>(
     }
 }
 
-fn listed<T>(things: &[T], say: impl Fn(&T) -> String, more: &str) -> String {
+pub(super) fn listed<T>(things: &[T], say: impl Fn(&T) -> String, more: &str) -> String {
     let mut said: Vec<String> = things.iter().take(LISTED).map(say).collect();
     if let Some(rest) = things.len().checked_sub(LISTED).filter(|rest| *rest > 0) {
         said.push(format!("and {} {more}", grouped(rest as u64)));

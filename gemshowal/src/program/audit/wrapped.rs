@@ -1,7 +1,7 @@
 //! The audit of a trace whose counters have wrapped, by the laws of a standard node: they ask
 //! nothing of the order of counts.
 
-use super::sentences::{write_all, write_losses, LISTED};
+use super::sentences::{listed, write_all, write_losses};
 use super::unexplained::{serial_text, Explainer};
 use crate::args::Audit;
 use crate::names::Names;
@@ -235,12 +235,7 @@ impl<'a> Judged<'a> {
     }
 
     fn listed(&self, places: &[Place]) -> String {
-        let named = places.iter().take(LISTED).map(|&place| self.names.event(place));
-        let more = match places.len().saturating_sub(LISTED) {
-            0 => String::new(),
-            more => format!(" and {} more", grouped(more as u64)),
-        };
-        named.collect::<Vec<_>>().join(", ") + &more
+        listed(places, |&place| self.names.event(place), "more")
     }
 
     fn object(&self) -> Object<'_> {
