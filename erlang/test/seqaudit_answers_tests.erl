@@ -1,4 +1,5 @@
-%% Programs run on real nodes, and what gemshowal says of their traces is what is kept in `expected'.
+%% Programs run on real nodes, and what gemshowal says of their traces is what is kept in
+%% `expected'.
 %%
 %% Pids and references, which differ from run to run, are numbered by their first places. With the
 %% variable EXPECT set to a folder, the texts are written there instead of compared.
@@ -15,7 +16,9 @@ second_trace_test_() ->
     said("second", fun(Name) ->
         with_shop(fun() ->
             as(customer, fun() ->
-                seqaudit_trace:with_trace(before, fun() -> [order(apple, 1) || _ <- lists:seq(1, 5_000)] end),
+                seqaudit_trace:with_trace(before,
+                                          fun() -> [order(apple, 1)
+                                                    || _ <- lists:seq(1, 5_000)] end),
                 ok = seqaudit_trace:start(#{name => Name}),
                 seqaudit_trace:with_trace({order, 5_001}, fun() -> order(apple, 3) end)
             end)
@@ -30,7 +33,8 @@ workers_test_() ->
         true = register(boss, Boss),
         ok = seqaudit_trace:start(#{name => Name}),
         as(customer, fun() ->
-            seqaudit_trace:with_trace(job, fun() -> Boss ! {do, self()}, receive {sum, 55} -> ok end end)
+            seqaudit_trace:with_trace(job, fun() -> Boss ! {do, self()},
+                                      receive {sum, 55} -> ok end end)
         end),
         stopped()
     end, [["audit"], ["why", "boss#12"], ["chart", "--label", "job"]]).
@@ -48,14 +52,15 @@ supervisor_test_() ->
         ok = seqaudit_trace:start(#{name => Name}),
         as(owner, fun() ->
             {ok, _} = seqaudit_trace:with_trace(boot, fun() ->
-                                                    supervisor:start_link({local, tree}, ?MODULE, [])
-                                                end)
+                supervisor:start_link({local, tree}, ?MODULE, [])
+            end)
         end),
         stopped()
     end, [["audit"], ["why", "owner#2"]]).
 
 init([]) ->
-    {ok, {#{}, [#{id => N, start => {gen_server, start_link, [seqaudit_test_server, fun(X) -> X end, []]}}
+    {ok, {#{}, [#{id => N,
+                  start => {gen_server, start_link, [seqaudit_test_server, fun(X) -> X end, []]}}
                 || N <- lists:seq(1, 5)]}}.
 
 %% One flag alone, on five processes that write to each other.
@@ -93,12 +98,14 @@ crossing(Count, Seed, Names, Open) ->
     Next = (Seed * 75 + 74) rem 65_537,
     From = lists:nth(1 + Next rem 5, Names),
     To = lists:nth(1 + (Next + 1 + Next div 5 rem 4) rem 5, Names),
-    Sent = [{From, {send, To, {note, Count}}} | [{From, {print, {wrote, Count}}} || Count rem 5 =:= 0]],
+    Sent = [{From, {send, To, {note, Count}}} | [{From, {print, {wrote, Count}}}
+                                                 || Count rem 5 =:= 0]],
     {Taken, Left} = case {Next div 20 rem 3, Open ++ [{To, {note, Count}}]} of
                         {0, All} -> {[], All};
                         {_, [Oldest | Rest]} -> {[Oldest], Rest}
                     end,
-    Sent ++ [{One, {wait, Message}} || {One, Message} <- Taken] ++ crossing(Count - 1, Next, Names, Left).
+    Sent ++ [{One, {wait, Message}} || {One, Message} <- Taken]
+        ++ crossing(Count - 1, Next, Names, Left).
 
 play(ann, Steps) ->
     receive
@@ -142,7 +149,8 @@ early_stop_test_() ->
         stopped()
     end, [["audit"], ["chart", "--label", "ask"]]).
 
-%% A node that is lost in the middle: what it had reported is on its disk, which is lost too or isn't.
+%% A node that is lost in the middle: what it had reported is on its disk, which is lost too or
+%% isn't.
 lost_node_test_() ->
     [said(Case, fun(Name) ->
          seqaudit_test_nodes:with_second(Case, fun(There) -> lost_node(There, Name, SharedDisk) end)
@@ -217,7 +225,8 @@ stopped() ->
     Monitors = [begin Pid ! leave, monitor(process, Pid) end || Pid <- staying()],
     [receive {'DOWN', Monitor, process, _, _} -> ok end || Monitor <- Monitors],
     erase(staying),
-    [gen_server:stop(Server) || Server <- case erase(servers) of undefined -> []; Servers -> Servers end],
+    [gen_server:stop(Server)
+     || Server <- case erase(servers) of undefined -> []; Servers -> Servers end],
     ok.
 
 said(Case, Trace, Commands) ->
@@ -227,7 +236,9 @@ said(Case, Trace, Commands) ->
         Traced = Trace(Name),
         Traced =:= skipped orelse seqaudit_audits:with_gemshowal(Case, fun(_) ->
             Said = [[$$, $\s,
-                     lists:join(" ", ["gemshowal", hd(Words), Case | [quoted(Word) || Word <- tl(Words)]]),
+                     lists:join(" ",
+                                ["gemshowal", hd(Words),
+                                 Case | [quoted(Word) || Word <- tl(Words)]]),
                      $\n, command(Words, Name)] || Words <- Commands],
             compare(Case, normal(unicode:characters_to_binary(Said)))
         end)
@@ -247,10 +258,12 @@ command([Command | Words], Name) ->
 normal(Text) ->
     Numbered = lists:foldl(fun({Pattern, Word}, Done) -> number(Pattern, Word, Done) end, Text,
                            [{"<[0-9]+\\.[0-9]+\\.[0-9]+>", "<~b>"}, {"#Ref<[0-9.]+>", "#Ref<~b>"},
-                            {"seqaudit_[ab]_[0-9]+@localhost", "node~b"}, {"/\\S*/seqaudit_[0-9a-f]+", "FOLDER~b"}]),
+                            {"seqaudit_[ab]_[0-9]+@localhost", "node~b"},
+                            {"/\\S*/seqaudit_[0-9a-f]+", "FOLDER~b"}]),
     lists:foldl(fun({Pattern, With}, Done) -> re:replace(Done, Pattern, With,
                                                          [global, multiline, {return, binary}]) end,
-                Numbered, [{"[a-z_]+:[a-z_]+/[0-9]+ (?=<[0-9])", ""}, {"(?<=\\S)  +", "  "}, {"^ {3,}(?=\\S)", "  "},
+                Numbered, [{"[a-z_]+:[a-z_]+/[0-9]+ (?=<[0-9])", ""}, {"(?<=\\S)  +", "  "},
+                           {"^ {3,}(?=\\S)", "  "},
                            {"/\\S*/test/out/", ""},
                            %% Where a term is cut short depends on the pids in it.
                            {"\\S*\\.\\.\\.", "..."}, {"#Fun<[^>\\n]*>", "#Fun<>"}]).
@@ -267,13 +280,14 @@ number(Pattern, Word, Text) ->
                                             end
                                     end, [], Found),
             lists:foldl(fun({N, One}, Done) ->
-                                binary:replace(Done, One, unicode:characters_to_binary(io_lib:format(Word, [N])),
-                                               [global])
+                                Numbered = unicode:characters_to_binary(io_lib:format(Word, [N])),
+                                binary:replace(Done, One, Numbered, [global])
                         end, Text, lists:enumerate(Different))
     end.
 
 compare(Case, Said) ->
-    Kept = filename:join([filename:dirname(filename:dirname(seqaudit_audits:file("x"))), "expected", Case ++ ".txt"]),
+    Kept = filename:join([filename:dirname(filename:dirname(seqaudit_audits:file("x"))), "expected",
+                          Case ++ ".txt"]),
     case os:getenv("EXPECT") of
         false ->
             {ok, Expected} = file:read_file(Kept),

@@ -58,13 +58,15 @@ audit(Name) ->
     end.
 
 run(Program, Command, Input) ->
-    seqaudit_test_shell:execute("/bin/sh", ["-c", "exec \"$0\" \"$1\" <\"$2\"", Program, Command, Input],
+    seqaudit_test_shell:execute("/bin/sh",
+                                ["-c", "exec \"$0\" \"$1\" <\"$2\"", Program, Command, Input],
                                 []).
 
 programs() ->
     [File || {ok, File} <- [find("seqaudit")]] ++ model().
 
-%% The model as a program, if there is a Python to run it, and the repository around the application.
+%% The model as a program, if there is a Python to run it, and the repository around the
+%% application.
 model() ->
     Model = filename:join([tests(), "models", "slow_seqaudit.py"]),
     [Model || os:find_executable("python3") =/= false, filelib:is_regular(Model)].

@@ -4,8 +4,8 @@
 -export([pause_test_/0, end_in_pause_test_/0, killed_in_pause_test_/0, taken_in_pause_test_/0,
          small_load_test/0, unwatched_test_/0, notes_test/0]).
 
-%% Messages that are larger than each of the wrapped files: for each of them the port makes a new file, which takes it
-%% longer by far than to print one.
+%% Messages that are larger than each of the wrapped files: for each of them the port makes a new
+%% file, which takes it longer by far than to print one.
 -define(BYTES, 65_536).
 -define(FLOOD, 20_000).
 
@@ -35,13 +35,16 @@ no_note(Part, Notes) ->
     [] = [Note || Note <- Notes, string:find(Note, Part) =/= nomatch],
     ok.
 
-%% The tracer is on again, what comes then is collected, and the audit doesn't say that nothing is missing.
+%% The tracer is on again, what comes then is collected, and the audit doesn't say that nothing is
+%% missing.
 pause_test_() ->
     flooded("pause", fun(There, File, Port) ->
-        seqaudit_test_nodes:until(fun() -> erpc:call(There, seq_trace, get_system_tracer, []) =:= Port end),
+        seqaudit_test_nodes:until(fun() ->
+            erpc:call(There, seq_trace, get_system_tracer, []) =:= Port end),
         ok = erpc:call(There, seqaudit_test_server, print, [1, behind]),
         {ok, #{notes := Notes}} = seqaudit_trace:stop(),
-        ok = one_note("events came faster than they could be written, so the tracer was off ", Notes),
+        ok = one_note("events came faster than they could be written, so the tracer was off ",
+                      Notes),
         ok = no_note("took the collector's place", Notes),
         false = erpc:call(There, seq_trace, get_system_tracer, []),
         {ok, [#{events := Events}]} = seqaudit_test_files:read(File ++ ".events"),
@@ -67,7 +70,8 @@ end_in_pause_test_() ->
 
 %% No process is left that looked at the port.
 unwatched(There) ->
-    seqaudit_test_nodes:until(fun() -> [] =:= erpc:call(There, seqaudit_test_server, running, [seqaudit_watch]) end).
+    seqaudit_test_nodes:until(fun() ->
+        [] =:= erpc:call(There, seqaudit_test_server, running, [seqaudit_watch]) end).
 
 killed_in_pause_test_() ->
     flooded("killed_in_pause", fun(There, _, Port) ->
@@ -78,7 +82,8 @@ killed_in_pause_test_() ->
                                                         end, false)
         end),
         exit(erpc:call(There, erlang, whereis, [seqaudit_collector]), kill),
-        seqaudit_test_nodes:until(fun() -> erpc:call(There, erlang, port_info, [Port]) =:= undefined end),
+        seqaudit_test_nodes:until(fun() ->
+            erpc:call(There, erlang, port_info, [Port]) =:= undefined end),
         receive after 300 -> ok end,
         false = erpc:call(There, seq_trace, get_system_tracer, []),
         unwatched(There),
@@ -116,11 +121,13 @@ small_load() ->
 
 %% If nobody watches the port any more, or it was behind too often, the collecting ends.
 unwatched_test_() ->
-    [{timeout, 60, fun() -> seqaudit_test_nodes:on_port("unwatched", fun() -> watch_ends(Why, End) end) end}
+    [{timeout, 60,
+      fun() -> seqaudit_test_nodes:on_port("unwatched", fun() -> watch_ends(Why, End) end) end}
      || {Why, End} <- [{"the process that bounds the memory of the trace port ended (killed)",
                              fun(_, Watch) -> exit(Watch, kill) end},
                             {"events came faster than they could be written, 1000 times",
-                             fun(To, Watch) -> To ! {seqaudit_watch, Watch, {fell_behind, 1_000}} end}]].
+                             fun(To, Watch) ->
+                                 To ! {seqaudit_watch, Watch, {fell_behind, 1_000}} end}]].
 
 watch_ends(Why, End) ->
     ok = seqaudit_trace:start(#{name => seqaudit_audits:file("unwatched")}),
@@ -138,15 +145,20 @@ watch_ends(Why, End) ->
 notes_test() ->
     At = 1_000 * (calendar:datetime_to_gregorian_seconds({{2026, 11, 25}, {18, 50, 1}})
                   - calendar:datetime_to_gregorian_seconds({{1970, 1, 1}, {0, 0, 0}})) + 20,
-    ["a@h: events came faster than they could be written, so the tracer was off 12 times, for 3,400 ms in all, and "
-     "what happened meanwhile is lost (it can't be counted): at 2026-11-25 18:50:01.020 UTC for 70 ms, from 2026-11-25 "
-     "18:50:02.020 UTC to the end, and 10 times more"] = notes({12, 3_400, [{At, 70}, {At + 1_000, open}]}),
+    ["a@h: events came faster than they could be written, so the tracer was off 12 times, for "
+     "3,400 ms in all, and "
+     "what happened meanwhile is lost (it can't be counted): at 2026-11-25 18:50:01.020 UTC for 70 "
+     "ms, from 2026-11-25 "
+     "18:50:02.020 UTC to the end, and 10 times more"] = notes({12, 3_400,
+                                                                [{At, 70}, {At + 1_000, open}]}),
     ["a@h: events came faster" ++ _] = notes({1, 0, []}),
-    [[] = notes(Wrong) || Wrong <- [{0, 0, []}, {1, -1, []}, {1, 1, [{1, 1} | x]}, {x, 1, []}, {1, 1}, x,
-                                    {1, 1, lists:duplicate(1_000, {At, 1})}]],
+    [[] = notes(Wrong)
+     || Wrong <- [{0, 0, []}, {1, -1, []}, {1, 1, [{1, 1} | x]}, {x, 1, []}, {1, 1}, x,
+                  {1, 1, lists:duplicate(1_000, {At, 1})}]],
     ["a@h: " ++ _] = notes({1, 1, [{-1, 1}, {1, x}, {At * 1_000, 1}, x]}).
 
 notes(Pauses) ->
     Event = {seq_trace, 1, {print, {0, 1}, self(), [], x}},
-    #{notes := Notes} = seqaudit_test_files:convert([#{node => 'a@h', events => [Event], pauses => Pauses}]),
+    #{notes := Notes} =
+        seqaudit_test_files:convert([#{node => 'a@h', events => [Event], pauses => Pauses}]),
     [Note || Note <- Notes, string:prefix(Note, "a@h") =/= nomatch].

@@ -2,12 +2,10 @@
 -module(seqaudit_convert_tests).
 
 -export([captures_test_/0, equal_terms_test/0, numbers_test/0, parties_test/0, aliases_test/0,
-         reset_aliases_test/0, ambiguous_aliases_test/0,
-         repeated_names_test/0,
-         callers_test/0, spawned_test/0, counts_test/0, many_processes_test_/0,
-         lost_test/0, hostile_test_/0, hostile_trace_test_/0, hostile_process_test_/0,
-         text_test/0, text_faults_test/0, external_test/0, trace_file_test/0,
-         damaged_event_test/0]).
+         reset_aliases_test/0, ambiguous_aliases_test/0, repeated_names_test/0, callers_test/0,
+         spawned_test/0, counts_test/0, many_processes_test_/0, lost_test/0, hostile_test_/0,
+         hostile_trace_test_/0, hostile_process_test_/0, text_test/0, text_faults_test/0,
+         external_test/0, trace_file_test/0, damaged_event_test/0]).
 
 %% The verdicts on traces of real programs that were captured on a node.
 captures_test_() ->
@@ -20,9 +18,11 @@ captures_test_() ->
                          {"exclude_idiom_after_receive", <<" uncaused\n">>}]].
 
 capture(Name, Said) ->
-    Folder = filename:join([filename:dirname(filename:dirname(seqaudit_audits:file("x"))), "captures"]),
+    Folder = filename:join([filename:dirname(filename:dirname(seqaudit_audits:file("x"))),
+                            "captures"]),
     File = seqaudit_audits:file(Name),
-    {ok, #{dropped := 0}} = seqaudit_convert:from_files([filename:join(Folder, Name ++ ".txt")], File),
+    {ok, #{dropped := 0}} =
+        seqaudit_convert:from_files([filename:join(Folder, Name ++ ".txt")], File),
     case Said of
         fits ->
             seqaudit_audits:fits(File);
@@ -48,7 +48,8 @@ numbers_test() ->
     Pids = [Party('a@h', N, S) || {N, S} <- [{80, 0}, {80, 3}, {65_535, 0}, {70_000, 0}, {81, 2}]],
     Other = Party('b@h', 80, 0),
     Numbers = seqaudit_processes:number([Other | Pids]),
-    [{0, 80}, {0, 65_534}, {0, 65_535}, {0, 65_533}, {0, 81}] = [maps:get(Pid, Numbers) || Pid <- Pids],
+    [{0, 80}, {0, 65_534}, {0, 65_535}, {0, 65_533}, {0, 81}] =
+        [maps:get(Pid, Numbers) || Pid <- Pids],
     {1, 80} = maps:get(Other, Numbers),
     #{} = seqaudit_processes:number([]).
 
@@ -62,8 +63,10 @@ parties_test() ->
                  {seq_trace, 0, {send, {0, 3}, self(), {srv, node()}, x}},
                  {seq_trace, 0, {send, {0, 4}, self(), srv, x}},
                  {seq_trace, 0, {'receive', {1, 9}, Port, self(), {Port, data}}}]),
-    [_, _, _, _] = [Line || <<"process ", _/binary>> = Line <- binary:split(Text, <<"\n">>, [global])],
-    true = lists:any(fun(Note) -> has(Note, "3 sends to an alias or a name that nothing") end, Notes),
+    [_, _, _, _] =
+        [Line || <<"process ", _/binary>> = Line <- binary:split(Text, <<"\n">>, [global])],
+    true = lists:any(fun(Note) -> has(Note, "3 sends to an alias or a name that nothing") end,
+                     Notes),
     {match, _} = re:run(Terms, "^process\t<0.65535.0>\t[^\t]*\tport #Port<", [multiline]).
 
 %% The receive says best who has an alias, then the request.
@@ -91,11 +94,14 @@ reset_aliases_test() ->
     [R1, R2] = [make_ref(), make_ref()],
     First = Reply(one, A, R1, ok) ++ Reply(two, B, R2, ok),
     ["<0.31.0>", "<0.32.0>"] = receivers(send, convert(First)),
-    ["<0.32.0>", "<0.31.0>"] = receivers(send, convert(Reply(two, B, R2, ok) ++ Reply(one, A, R1, ok))),
+    ["<0.32.0>", "<0.31.0>"] =
+        receivers(send, convert(Reply(two, B, R2, ok) ++ Reply(one, A, R1, ok))),
     %% Two events of one label: the message tells them apart.
-    ["<0.31.0>", "<0.32.0>"] = receivers(send, convert(Reply(one, A, R1, ok) ++ Reply(one, B, R2, ok))),
+    ["<0.31.0>", "<0.32.0>"] =
+        receivers(send, convert(Reply(one, A, R1, ok) ++ Reply(one, B, R2, ok))),
     %% Two events of one message: the label tells them apart.
-    ["<0.31.0>", "<0.32.0>"] = receivers(send, convert(Reply(one, A, R1, ok) ++ Reply(two, B, R1, ok))).
+    ["<0.31.0>", "<0.32.0>"] =
+        receivers(send, convert(Reply(one, A, R1, ok) ++ Reply(two, B, R1, ok))).
 
 %% If two receives or two requests fit, nobody is named.
 ambiguous_aliases_test() ->
@@ -108,7 +114,8 @@ ambiguous_aliases_test() ->
     true = noted("1 send to an alias or a name that two receives or requests fit", Two),
     ["<0.31.0>"] = receivers(send, convert([Send, Received(A), Received(A)])),
     Asks = fun(Owner) ->
-                   {seq_trace, 1, {'receive', {0, 1}, Owner, S, {'$gen_call', {Owner, [alias | R]}, x}}}
+                   {seq_trace, 1,
+                    {'receive', {0, 1}, Owner, S, {'$gen_call', {Owner, [alias | R]}, x}}}
            end,
     ["<0.65535.0>"] = receivers(send, convert([Asks(A), Asks(B), Send])),
     ["<0.32.0>"] = receivers(send, convert([Asks(B), Asks(B), Send])),
@@ -117,12 +124,14 @@ ambiguous_aliases_test() ->
                                  || Label <- [term, 1_000_000, other, 1_000_001]]),
     [_, _, _, _] = [found || Line <- ["label\t1000000\t1000000", "label\t1000001\t1000001",
                                       "label\t1000002\tterm", "label\t1000003\tother"],
-                             binary:match(iolist_to_binary(Terms), list_to_binary(Line)) =/= nomatch].
+                             binary:match(iolist_to_binary(Terms),
+                                          list_to_binary(Line)) =/= nomatch].
 
 %% The receivers of the sends, or of other events, in the order of the bundle.
 receivers(Kind, #{seqtrace := Text}) ->
-    {match, Found} = re:run(Text, ["\\{", atom_to_list(Kind), ",\\{[0-9,]*\\},<[0-9.]*>,(<[0-9.]*>)"],
-                            [global, {capture, [1], list}]),
+    {match, Found} =
+        re:run(Text, ["\\{", atom_to_list(Kind), ",\\{[0-9,]*\\},<[0-9.]*>,(<[0-9.]*>)"],
+               [global, {capture, [1], list}]),
     [To || [To] <- Found].
 
 noted(Part, #{notes := Notes}) ->
@@ -147,42 +156,52 @@ callers_test() ->
     end),
     seqaudit_test_nodes:until(fun() -> is_map_key(caller, seqaudit_spool:about(Task)) end),
     #{terms := Terms} =
-        seqaudit_test_files:convert([#{node => node(), processes => #{Task => seqaudit_spool:about(Task)},
+        seqaudit_test_files:convert([#{node => node(),
+                                       processes => #{Task => seqaudit_spool:about(Task)},
                                     events => [{seq_trace, 1, {print, {0, 1}, Task, [], x}}]}]),
     exit(Task, kill),
-    {match, [Number, Number, Number]} = re:run(Terms, "\ttask of (<[0-9.]*>) (<[0-9.]*>)\t.*, for (<[0-9.]*>)\n",
-                                               [{capture, all_but_first, list}]).
+    {match, [Number, Number, Number]} =
+        re:run(Terms, "\ttask of (<[0-9.]*>) (<[0-9.]*>)\t.*, for (<[0-9.]*>)\n",
+               [{capture, all_but_first, list}]).
 
-%% A process that lived too short a time to be asked is called by the request that spawned it: a server by its module,
-%% a task by the process that it works for.
+%% A process that lived too short a time to be asked is called by the request that spawned it: a
+%% server by its module, a task by the process that it works for.
 spawned_test() ->
     [Parent, Server, Named, Task, Plain, Fun] = [pid('a@h', N, 0) || N <- [80, 81, 82, 83, 84, 85]],
-    Proc = fun(Module, Function, Arguments) -> {{proc_lib, init_p, 5}, [shop, [], Module, Function, Arguments]} end,
+    Proc = fun(Module, Function, Arguments) ->
+        {{proc_lib, init_p, 5}, [shop, [], Module, Function, Arguments]} end,
     Spawn = fun({Child, {Call, Arguments}}) ->
-                    Request = {spawn_request, make_ref(), Parent, Parent, Call, [link], spawn_reply, Arguments},
+                    Request = {spawn_request, make_ref(), Parent, Parent, Call, [link], spawn_reply,
+                               Arguments},
                     Count = 2 * element(2, hd(ets:lookup(counts, Child))),
-                    [{seq_trace, 1, {Kind, {Count, Count + 1}, Parent, Child, Request}} || Kind <- [send, 'receive']]
+                    [{seq_trace, 1, {Kind, {Count, Count + 1}, Parent, Child, Request}}
+                     || Kind <- [send, 'receive']]
             end,
     Spawned = [{Server, Proc(gen, init_it, [gen_server, Parent, self, stock, [], []])},
-               {Named, Proc(gen, init_it, [gen_statem, Parent, Parent, {local, till}, desk, [], []])},
+               {Named, Proc(gen, init_it,
+                            [gen_statem, Parent, Parent, {local, till}, desk, [], []])},
                {Task, Proc('Elixir.Task.Supervised', reply, [{'a@h', shop, Parent}, nomonitor])},
-               {Plain, {{post, parcel, 2}, [a, b]}}, {Fun, {{erlang, apply, 2}, [fun() -> ok end, []]}}],
+               {Plain, {{post, parcel, 2}, [a, b]}},
+               {Fun, {{erlang, apply, 2}, [fun() -> ok end, []]}}],
     counts = ets:new(counts, [named_table]),
     true = ets:insert(counts, [{Child, K} || {K, {Child, _}} <- lists:enumerate(0, Spawned)]),
     #{terms := Terms} =
-        seqaudit_test_files:convert([#{node => 'a@h', processes => #{Parent => #{name => shop}, Task => #{}},
+        seqaudit_test_files:convert([#{node => 'a@h',
+                                       processes => #{Parent => #{name => shop}, Task => #{}},
                                     events => lists:append([Spawn(Each) || Each <- Spawned])}]),
     true = ets:delete(counts),
     Lines = binary:split(iolist_to_binary(Terms), <<"\n">>, [global]),
     [[<<"<0.80.0>">>, <<"shop">>], [<<"<0.81.0>">>, <<"stock:init/1 <0.81.0>">>],
      [<<"<0.82.0>">>, <<"desk:init/1 <0.82.0>">>], [<<"<0.83.0>">>, <<"task of shop <0.83.0>">>],
      [<<"<0.84.0>">>, <<"post:parcel/2 <0.84.0>">>], [<<"<0.85.0>">>, <<"<0.85.0>">>]] =
-        [[Pid, Name] || Line <- Lines, [<<"process">>, Pid, Name, _] <- [binary:split(Line, <<"\t">>, [global])]].
+        [[Pid, Name] || Line <- Lines,
+         [<<"process">>, Pid, Name, _] <- [binary:split(Line, <<"\t">>, [global])]].
 
 %% An entry that is no event is counted.
 counts_test() ->
     Strays = [hello, {seq_trace, 1, {send, {0, 1}, self(), "x", x}}, {seq_trace, 1, 2},
-              {seq_trace, 1, {print, {0, -1 bsl 60}, self(), [], x}}, {seq_trace, 1, {spawn, {0, 1}, 2, 3, 4}},
+              {seq_trace, 1, {print, {0, -1 bsl 60}, self(), [], x}},
+              {seq_trace, 1, {spawn, {0, 1}, 2, 3, 4}},
               {seq_trace, 1, {print, {0, 1 bsl 64}, self(), [], x}}],
     #{events := 1, dropped := 9, notes := [Dropped, Own, Left, Unknown]} =
         seqaudit_test_files:convert([#{node => 'a@h', dropped => 2, own => 1, strays => 0, events =>
@@ -190,22 +209,25 @@ counts_test() ->
     true = has(Dropped, "a@h: the collector dropped 2 events; raise --bytes"),
     true = has(Own, "a@h: convert left out 1 event that named the collector"),
     "convert left out 1 entry that seq_trace doesn't write: hello" = Left,
-    true = has(Unknown, "convert left out 5 entries of seq_trace whose form it doesn't know: {seq_trace,1,{send,{0,"),
+    true = has(Unknown,
+               "convert left out 5 entries of seq_trace whose form it doesn't know: "
+               "{seq_trace,1,{send,{0,"),
     true = has(Unknown, "; {seq_trace,1,2}; "),
     true = has(Unknown, "; and 2 more").
 
-%% A node number has 65,536 numbers for processes. With more processes a node gets further numbers, and nothing is left
-%% out.
+%% A node number has 65,536 numbers for processes. With more processes a node gets further numbers,
+%% and nothing is left out.
 many_processes_test_() ->
     {timeout, 120, fun() ->
         Events = [{seq_trace, 1, {print, {0, 1}, pid('a@h', N, Serial), [], x}}
                   || Serial <- [0, 1, 2, 3, 4], N <- lists:seq(0, 32_767)]
             ++ [{seq_trace, 1, {print, {0, 1}, pid('b@h', 7, 0), [], x}}],
-        #{events := 163_841, processes := 163_841, dropped := 0, notes := Notes, terms := Terms, seqtrace := Text} =
+        #{events := 163_841, processes := 163_841, dropped := 0, notes := Notes, terms := Terms,
+          seqtrace := Text} =
             convert(Events),
         [] = Notes,
-        [<<"node\t2\ta@h">>, <<"node\t3\ta@h">>] =
-            [Line || <<"node", _/binary>> = Line <- binary:split(iolist_to_binary(Terms), <<"\n">>, [global])],
+        Lines = binary:split(iolist_to_binary(Terms), <<"\n">>, [global]),
+        [<<"node\t2\ta@h">>, <<"node\t3\ta@h">>] = [Line || <<"node", _/binary>> = Line <- Lines],
         {_, _} = binary:match(Text, <<"\nprocess <1.7.0>\n">>),
         {_, _} = binary:match(Text, <<"\nprocess <3.65535.0>\n">>),
         Name = seqaudit_audits:file("many_processes"),
@@ -220,11 +242,13 @@ many_processes_test_() ->
     end}.
 
 lost_test() ->
-    #{events := 0, notes := [Note]} = seqaudit_test_files:convert([#{node => 'a@h', lost => noconnection}]),
-    true = has(Note, "a@h: the node was lost, or the connection to it, and all of its events are lost").
+    #{events := 0, notes := [Note]} =
+        seqaudit_test_files:convert([#{node => 'a@h', lost => noconnection}]),
+    true = has(Note,
+               "a@h: the node was lost, or the connection to it, and all of its events are lost").
 
-%% Large terms are cut in what is printed, and not in what is compared. The time is the processor's, as
-%% a machine that does other things too may keep the test waiting.
+%% Large terms are cut in what is printed, and not in what is compared. The time is the processor's,
+%% as a machine that does other things too may keep the test waiting.
 hostile_test_() ->
     {timeout, 120, fun() ->
         Terms = hostile(),
@@ -246,10 +270,12 @@ hostile_test_() ->
 %% The events on their way through the tracer of a node.
 hostile_trace_test_() ->
     {timeout, 120, fun() ->
-        seqaudit_test_nodes:on_port("hostile_trace", fun() -> hostile_trace("hostile", true, hostile()) end)
+        seqaudit_test_nodes:on_port("hostile_trace",
+                                    fun() -> hostile_trace("hostile", true, hostile()) end)
     end}.
 
-%% And without a trace port, through the collector itself. An event of a megabyte would be too much for its queue.
+%% And without a trace port, through the collector itself. An event of a megabyte would be too much
+%% for its queue.
 hostile_process_test_() ->
     {timeout, 120, fun() ->
         Small = [Term || Term <- hostile(), erlang:external_size(Term) < 200_000],
@@ -262,7 +288,8 @@ hostile_trace(File, Port, Terms) ->
     Name = seqaudit_audits:file(File),
     ok = seqaudit_trace:start(#{name => Name, port => Port}),
     seqaudit_trace:with_trace(1, fun() ->
-        [begin self() ! Term, receive _ -> ok end, seqaudit_test_nodes:keep_pace() end || Term <- Terms]
+        [begin self() ! Term, receive _ -> ok end, seqaudit_test_nodes:keep_pace() end
+         || Term <- Terms]
     end),
     Count = 2 * length(Terms),
     {ok, #{events := Count}} = seqaudit_trace:stop(),
@@ -279,15 +306,18 @@ hostile() ->
      maps:from_list([{K, K} || K <- lists:seq(1, 300_000)]), list_to_tuple(lists:seq(1, 1_000_000)),
      [lists:duplicate(400, $a) || _ <- lists:seq(1, 1_000)],
      fun() -> hostile end, fun lists:map/2, make_ref(), self(), hd(erlang:ports()),
-     list_to_atom(lists:duplicate(255, 16#10FFFF)), "\t\n\"<&>", 'a\nb\tc', [], {}, #{}, <<>>, 1.0e300].
+     list_to_atom(lists:duplicate(255, 16#10FFFF)), "\t\n\"<&>", 'a\nb\tc', [], {}, #{}, <<>>,
+     1.0e300].
 
 %% Text as io:format prints it, with what Erlang doesn't read back.
 text_test() ->
     Terms = [{seq_trace, {l, <<1, 2>>}, {send, {0, 1}, self(), {srv, 'b@h'}, "a 'b' {<0.1.0>"}},
-             {seq_trace, 1.5, {print, {0, 1}, self(), [], #{$a => [hd(erlang:ports()) | make_ref()]}}}],
+             {seq_trace, 1.5,
+              {print, {0, 1}, self(), [], #{$a => [hd(erlang:ports()) | make_ref()]}}}],
     Text = unicode:characters_to_binary([io_lib:format("~tp~n", [Term]) || Term <- Terms]),
-    {ok, [{Node, [First, Second]}]} = seqaudit_test_files:text(<<"%% node ", (atom_to_binary(node()))/binary,
-                                                           "\n\n", Text/binary>>),
+    {ok, [{Node, [First, Second]}]} =
+        seqaudit_test_files:text(<<"%% node ", (atom_to_binary(node()))/binary,
+                             "\n\n", Text/binary>>),
     Node = node(),
     First = hd(Terms),
     Printed = io_lib:format("~tp", [lists:last(Terms)]),
@@ -299,7 +329,8 @@ text_test() ->
 text_faults_test() ->
     [{Line, _} = element(2, seqaudit_test_files:text(Text))
      || {Line, Text} <- [{1, <<"{a">>}, {2, <<"a\n{b,\n\nc,}\n">>}, {3, <<"{a,\n\"b}\"}\n'c">>},
-                         {1, <<"<0.1>">>}, {1, <<"#Ref<1>">>}, {1, <<255>>}, {3, <<"a\n\n#Port<0.1.2>">>}]],
+                         {1, <<"<0.1>">>}, {1, <<"#Ref<1>">>}, {1, <<255>>},
+                         {3, <<"a\n\n#Port<0.1.2>">>}]],
     {ok, []} = seqaudit_test_files:text(<<"\n% nothing\n">>).
 
 external_test() ->
@@ -346,10 +377,14 @@ pid(Node, Number, Serial) ->
 damaged_event_test() ->
     Name = seqaudit_audits:file("damaged_event"),
     Entry = fun(Kind, Bytes) -> [<<Kind, (byte_size(Bytes)):32>>, Bytes] end,
-    Event = fun(Number) -> term_to_binary({seq_trace, 1, {print, {Number - 1, Number}, self(), [], "hello hello"}}) end,
+    Event = fun(Number) ->
+        term_to_binary({seq_trace, 1,
+                        {print, {Number - 1, Number}, self(), [], "hello hello"}}) end,
     ok = file:write_file(Name ++ ".events",
-                         ["seqaudit events 2\n", Entry(2, term_to_binary(#{node => node(), dropped => 0})),
-                          Entry(0, Event(1)), Entry(0, binary:part(Event(2), 0, byte_size(Event(2)) - 3))]),
+                         ["seqaudit events 2\n",
+                          Entry(2, term_to_binary(#{node => node(), dropped => 0})),
+                          Entry(0, Event(1)),
+                          Entry(0, binary:part(Event(2), 0, byte_size(Event(2)) - 3))]),
     {ok, #{events := 1}} = seqaudit_convert:from_files([Name ++ ".events"], Name),
     [<<"convert left out 1 entry that can't be read, since it is damaged">>] =
         seqaudit_test_traces:losses(Name).

@@ -3,8 +3,8 @@
 
 -export([mix_test_/0]).
 
-%% A program of Elixir that has the application as a dependency by path traces itself, mix converts what
-%% came, and gemshowal shows it as Elixir writes terms.
+%% A program of Elixir that has the application as a dependency by path traces itself, mix converts
+%% what came, and gemshowal shows it as Elixir writes terms.
 mix_test_() ->
     {timeout, 600, fun() ->
         case os:find_executable("mix") of
@@ -18,7 +18,8 @@ mix(Mix, Folder) ->
     ok = filelib:ensure_dir(filename:join([Folder, "lib", "x"])),
     [ok = file:write_file(filename:join(Folder, File), Text) || {File, Text} <- shop()],
     Run = fun(Words) ->
-                  seqaudit_test_shell:run(["cd ", Folder, " && LC_ALL=C.UTF-8 MIX_ENV=dev ", Mix, $\s, Words])
+                  seqaudit_test_shell:run(["cd ", Folder, " && LC_ALL=C.UTF-8 MIX_ENV=dev ", Mix,
+                                           $\s, Words])
           end,
     {0, Built} = Run("run trace.exs 2>&1"),
     nomatch = binary:match(Built, <<"warning">>),
@@ -44,9 +45,11 @@ shop() ->
                      "defmodule Shop do\n  use GenServer\n"
                      "  def start, do: GenServer.start(__MODULE__, %{}, name: __MODULE__)\n"
                       "  def init(state), do: {:ok, state}\n"
-                     "  def handle_call(%Shop.Order{} = order, _, state), do: {:reply, {:ok, order.n, \"sold\", nil}, "
+                     "  def handle_call(%Shop.Order{} = order, _, state), do: {:reply, {:ok, "
+                     "order.n, \"sold\", nil}, "
                       "state}\nend\n"},
      {"trace.exs", "{:ok, _} = Shop.start()\n:ok = :seqaudit_trace.start(%{name: ~c\"traced\"})\n"
-                   ":seqaudit_trace.with_trace({Shop, 7}, fn -> GenServer.call(Shop, %Shop.Order{item: \"apple\", "
+                   ":seqaudit_trace.with_trace({Shop, 7}, fn -> GenServer.call(Shop, "
+                   "%Shop.Order{item: \"apple\", "
                     "n: 3}) end)\n"
                    "{:ok, _} = :seqaudit_trace.stop()\n"}].

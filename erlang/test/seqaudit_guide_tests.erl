@@ -1,5 +1,5 @@
-%% The quotations in docs/ERLANG.md and docs/ERLANG-REFERENCE.md are what the commands print of the traces that the first tells how
-%% to collect.
+%% The quotations in docs/ERLANG.md and docs/ERLANG-REFERENCE.md are what the commands print of the
+%% traces that the first tells how to collect.
 -module(seqaudit_guide_tests).
 
 -export([guide_test_/0]).
@@ -12,12 +12,14 @@ guide(Gemshowal) ->
     _ = file:del_dir_r(Folder),
     ok = file:make_dir(Folder),
     collect(fun(Name) -> filename:join(Folder, Name) end),
+    Docs = filename:join([seqaudit_audits:home(), "..", "docs"]),
     Quoted = lists:append([begin
-                               {ok, Page} = file:read_file(filename:join([seqaudit_audits:home(), "..", "docs", Name])),
+                               {ok, Page} = file:read_file(filename:join(Docs, Name)),
                                quoted(binary:split(Page, <<"\n">>, [global]))
                            end || Name <- ["ERLANG.md", "ERLANG-REFERENCE.md"]]),
     %% Each of the four traces is audited, and the order is cut.
-    [true = lists:any(fun({Command, _}) -> string:find(Command, "gemshowal audit " ++ Name) =/= nomatch end, Quoted)
+    [true = lists:any(fun({Command, _}) ->
+        string:find(Command, "gemshowal audit " ++ Name) =/= nomatch end, Quoted)
      || Name <- ["order", "second", "flag", "reset", "order --process"]],
     [same(Command, Said, Folder, Gemshowal) || {Command, Said} <- Quoted].
 
@@ -60,7 +62,8 @@ order(Label, Count) ->
 %% The shop takes one order after the other, so it is the same if they come so.
 three(N) ->
     {_, Ordered} = spawn_monitor(fun() ->
-        seqaudit_trace:with_trace({order, N}, [send, print], fun() -> erlang:apply(shop, order, [apple, 1]) end)
+        seqaudit_trace:with_trace({order, N}, [send, print],
+                                  fun() -> erlang:apply(shop, order, [apple, 1]) end)
     end),
     receive {'DOWN', Ordered, process, _, normal} -> settled() end.
 
@@ -72,7 +75,8 @@ settled() ->
 quoted([<<"    $ ", Command/binary>> | Lines]) ->
     {Said, Rest} = lists:splitwith(fun is_said/1, Lines),
     case re:run(Command, "^(gemshowal|cp|grep) ") of
-        {match, _} -> [{binary_to_list(Command), [Line || <<"    ", Line/binary>> <- Said]} | quoted(Rest)];
+        {match, _} ->
+            [{binary_to_list(Command), [Line || <<"    ", Line/binary>> <- Said]} | quoted(Rest)];
         nomatch -> quoted(Rest)
     end;
 quoted([_ | Lines]) ->
@@ -94,7 +98,9 @@ same(Command, Quoted, Folder, Gemshowal) ->
 compared([], _Said) ->
     ok;
 compared([Dots | Quoted], Said) when Dots =:= <<"..">>; Dots =:= <<" ..">> ->
-    compared(Quoted, lists:dropwhile(fun(Line) -> Quoted =/= [] andalso not fits(hd(Quoted), Line) end, Said));
+    compared(Quoted,
+             lists:dropwhile(fun(Line) -> Quoted =/= [] andalso not fits(hd(Quoted), Line) end,
+                             Said));
 compared([Quote | Quoted], [Line | Said]) ->
     case fits(Quote, Line) of
         true -> compared(Quoted, Said);
@@ -112,5 +118,6 @@ fits(Quote, Line) ->
 
 %% Pids differ from run to run, and with them how names are aligned.
 normal(Text) ->
-    lists:foldl(fun({Pattern, With}, Done) -> re:replace(Done, Pattern, With, [global, {return, binary}]) end,
+    lists:foldl(fun({Pattern, With}, Done) ->
+        re:replace(Done, Pattern, With, [global, {return, binary}]) end,
                 iolist_to_binary(Text), [{"<[0-9]+\\.[0-9]+\\.[0-9]+>", "<>"}, {" +", " "}]).

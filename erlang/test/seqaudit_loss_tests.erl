@@ -3,10 +3,9 @@
 
 -export([net_split_test_/0, killed_node_test_/0, out_of_reach_test_/0, killed_collector_test_/0,
          killed_leader_test_/0, lost_owner_test_/0, stray_calls_test_/0, other_disk_test_/0,
-         late_events_test/0, written_over_test/0, broken_port_test/0, told_at_once_test/0, broken_disk_test_/0, stray_tokens_test_/0,
-         own_events_test/0, late_names_test_/0,
-         refused_options_test/0,
-         unread_test_/0]).
+         late_events_test/0, written_over_test/0, broken_port_test/0, told_at_once_test/0,
+         broken_disk_test_/0, stray_tokens_test_/0, own_events_test/0, late_names_test_/0,
+         refused_options_test/0, unread_test_/0]).
 
 %% Runs a test of this name on a second node.
 on_two(What, Test) ->
@@ -71,7 +70,8 @@ killed_node_test_() ->
         seqaudit_test_nodes:kill(There),
         {ok, #{events := 2, notes := Notes}} = seqaudit_trace:stop(),
         [before, here] = lists:sort(printed(File)),
-        ok = one_note("the node was lost, or the connection to it; what it wrote before, 1 event, is here", Notes),
+        ok = one_note("the node was lost, or the connection to it; what it wrote before, 1 event, "
+                      "is here", Notes),
         removed(Folders)
     end).
 
@@ -90,13 +90,15 @@ out_of_reach_test_() ->
         [ok = seqaudit_spool:remove(Each) || Each <- Folders, filelib:is_dir(Each)]
     end).
 
-%% Events that can't be fetched, as while a connection is away, stay where they are, and the notes say where.
+%% Events that can't be fetched, as while a connection is away, stay where they are, and the notes
+%% say where.
 unread_test_() ->
     on_two("unread", fun(There) ->
         {File, [_, Folder] = Folders} = begin_on(There, "unread", #{}),
         ok = print(There, kept),
         on_disk(Folder, 1),
-        {module, _} = erpc:call(There, code, load_binary, [seqaudit_spool, "unreadable", unreadable()]),
+        {module, _} =
+            erpc:call(There, code, load_binary, [seqaudit_spool, "unreadable", unreadable()]),
         {ok, #{events := 0, notes := Notes}} = apart(fun seqaudit_trace:stop/0),
         ok = one_note("of what was collected couldn't be read; they are in ", Notes),
         [Left] = [Each || Each <- Folders, filelib:is_dir(Each)],
@@ -106,12 +108,15 @@ unread_test_() ->
 
 %% The module that reads there, with a function that doesn't.
 unreadable() ->
-    {ok, {_, [{abstract_code, {_, Forms}}]}} = beam_lib:chunks(code:which(seqaudit_spool), [abstract_code]),
+    {ok, {_, [{abstract_code, {_, Forms}}]}} =
+        beam_lib:chunks(code:which(seqaudit_spool), [abstract_code]),
     {ok, _, Module} = compile:forms([case Form of
                                          {function, At, read, 3, _} ->
                                              Any = [{var, At, '_'} || _ <- [file, offset, size]],
-                                             Exit = {call, At, {atom, At, exit}, [{atom, At, away}]},
-                                             {function, At, read, 3, [{clause, At, Any, [], [Exit]}]};
+                                             Exit = {call, At, {atom, At, exit},
+                                                     [{atom, At, away}]},
+                                             {function, At, read, 3,
+                                              [{clause, At, Any, [], [Exit]}]};
                                          _ -> Form
                                      end || Form <- Forms], [return_errors]),
     Module.
@@ -159,7 +164,9 @@ killed_leader_test_() ->
         {ok, #{events := 1, notes := Notes}} = seqaudit_trace:stop(),
         [before] = printed(File),
         [_, _] = [Note || Note <- Notes,
-                          string:find(Note, "the process that led the collection ended (killed)") =/= nomatch],
+                          string:find(Note,
+                                      "the process that led the collection ended "
+                                      "(killed)") =/= nomatch],
         {error, not_started} = seqaudit_trace:stop(),
         removed(Folders)
     end).
@@ -172,7 +179,8 @@ lost_owner_test_() ->
         ok = seqaudit_trace:start(#{name => seqaudit_audits:file("x"), nodes => [There]}),
         {ok, _} = seqaudit_trace:stop(),
         {ok, Collector} = erpc:call(There, seqaudit_collector, start,
-                                    [#{owner => Owner, port => true, grace => 300, folder => Folder}]),
+                                    [#{owner => Owner, port => true, grace => 300,
+                                       folder => Folder}]),
         Spool = seqaudit_collector:folder(Collector),
         ok = print(There, before),
         true = erlang:disconnect_node(There),
@@ -202,7 +210,8 @@ stray_calls_test_() ->
         ok = one_note("the collector got 1 message besides trace events", Notes)
     end).
 
-%% A file that the port wrote over has no term where the collector looks for the next event; it goes on.
+%% A file that the port wrote over has no term where the collector looks for the next event; it goes
+%% on.
 written_over_test() ->
     seqaudit_test_nodes:on_port("written_over", fun written_over/0).
 
@@ -235,7 +244,8 @@ told_at_once_test() ->
     {links, Links} = process_info(Collector, links),
     [Writer] = [Pid || Pid <- Links, process_info(Pid, priority) =:= {priority, high}],
     Collector ! {seqaudit_scribe, Writer, enospc},
-    receive {told, Node, {ended, {disk, enospc}}} when Node =:= node() -> ok after 30_000 -> error(not_told) end,
+    receive {told, Node, {ended, {disk, enospc}}}
+        when Node =:= node() -> ok after 30_000 -> error(not_told) end,
     {ok, _} = seqaudit_trace:stop().
 
 broken_port() ->
@@ -267,8 +277,9 @@ broken_disk_test_() ->
          until(fun() -> seq_trace:get_system_tracer() =:= false end),
          {ok, #{events := 1, dropped := 0, notes := Notes}} = seqaudit_trace:stop(),
          ok = one_note(["the trace file couldn't be written (", Why, ")"], Notes)
-     end} || {Why, Break} <- [{"enospc", fun(To, Writer) -> To ! {seqaudit_scribe, Writer, enospc} end},
-                             {"killed", fun(_, Writer) -> exit(Writer, kill) end}]].
+     end} || {Why, Break} <-
+                 [{"enospc", fun(To, Writer) -> To ! {seqaudit_scribe, Writer, enospc} end},
+                 {"killed", fun(_, Writer) -> exit(Writer, kill) end}]].
 
 %% The collector waits for events that are on their way when the tracer is taken off.
 late_events_test() ->
@@ -277,7 +288,8 @@ late_events_test() ->
     Collector = whereis(seqaudit_collector),
     true = erlang:suspend_process(Collector),
     {Stopper, Monitor} = spawn_monitor(fun() -> {ok, #{events := 1}} = seqaudit_trace:stop() end),
-    until(fun() -> {messages, Waiting} = process_info(Collector, messages), lists:keymember(stop, 3, Waiting) end),
+    until(fun() -> {messages, Waiting} = process_info(Collector, messages),
+          lists:keymember(stop, 3, Waiting) end),
     Collector ! {seq_trace, 1, {print, {0, 1}, self(), [], late}},
     true = erlang:resume_process(Collector),
     receive {'DOWN', Monitor, process, Stopper, Reason} -> normal = Reason end,
@@ -305,16 +317,18 @@ own_events_test() ->
     Name = seqaudit_audits:file("own"),
     ok = seqaudit_trace:start(#{name => Name}),
     Collector = whereis(seqaudit_collector),
-    seqaudit_trace:with_trace(1, fun() -> Collector ! one, Collector ! two, seq_trace:print(kept) end),
+    seqaudit_trace:with_trace(1, fun() -> Collector ! one, Collector ! two,
+                              seq_trace:print(kept) end),
     seqaudit_test_nodes:await_collector(),
     {ok, #{events := 1, dropped := Dropped, notes := Notes}} = seqaudit_trace:stop(),
     true = Dropped >= 2 + 2,
-    [Own] = [Note || Note <- Notes, string:find(Note, "events that named the collector") =/= nomatch],
+    [Own] = [Note || Note <- Notes,
+             string:find(Note, "events that named the collector") =/= nomatch],
     {match, [Count]} = re:run(Own, "left out ([0-9]+) events", [{capture, [1], list}]),
     true = list_to_integer(Count) >= 2.
 
-%% A process that is named only after it was seen has its name at the end; one that came and went has
-%% what it was started with.
+%% A process that is named only after it was seen has its name at the end; one that came and went
+%% has what it was started with.
 late_names_test_() ->
     {timeout, 30, fun() ->
         Name = seqaudit_audits:file("late_names"),
@@ -345,12 +359,15 @@ refused_options_test() ->
          undefined = whereis(seqaudit_trace)
      end || {Option, Value} <- [{nodes, []}, {nodes, here}, {name, 17}, {name, ""},
                                 {bytes, 0}, {reset, yes}, {folder, 1}, {trigger, {a, b, 1}},
-                                {trigger, #{function => {a, b, 1}, label => 1, times => true, calls => 0}}]],
+                                {trigger, #{function => {a, b, 1}, label => 1, times => true,
+                                            calls => 0}}]],
     {error, {node, _, {trigger, {no_function, {shop, nothing, 9}}} = Missing}} =
         seqaudit_trace:start(#{name => seqaudit_audits:file("refused"),
-                               trigger => #{function => {shop, nothing, 9}, label => 1, times => false}}),
+                               trigger => #{function => {shop, nothing, 9}, label => 1,
+                                            times => false}}),
     true = is_list(seqaudit_trace:format_error({node, node(), Missing})),
     {error, {node, _, {file, _, enoent}}} =
-        seqaudit_trace:start(#{name => seqaudit_audits:file("refused"), folder => "/no/such/folder"}),
+        seqaudit_trace:start(#{name => seqaudit_audits:file("refused"),
+                               folder => "/no/such/folder"}),
     false = seq_trace:get_system_tracer(),
     ok.

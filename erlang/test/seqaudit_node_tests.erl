@@ -1,8 +1,8 @@
 %% The command, run as a program of its own.
 -module(seqaudit_node_tests).
 
--export([usage_test_/0, reading_is_gemshowals_test_/0, convert_test_/0, no_events_test_/0, collect_test_/0,
-         printing/0]).
+-export([usage_test_/0, reading_is_gemshowals_test_/0, convert_test_/0, no_events_test_/0,
+         collect_test_/0, printing/0]).
 
 usage_test_() ->
     {timeout, 180, fun() ->
@@ -15,23 +15,33 @@ usage_test_() ->
              {0, Same} = command([Command, " x -h"]),
              [] = [Option || Option <- Options, binary:match(Its, Option) =:= nomatch]
          end || {Command, Options} <- [{<<"collect">>,
-                                        [<<"--node">>, <<"-o">>, <<"--seconds">>, <<"--trigger">>, <<"--label">>,
-                                         <<"--calls">>, <<"--unload">>, <<"--times">>, <<"--reset">>,
+                                        [<<"--node">>, <<"-o">>, <<"--seconds">>, <<"--trigger">>,
+                                         <<"--label">>,
+                                         <<"--calls">>, <<"--unload">>, <<"--times">>,
+                                         <<"--reset">>,
                                          <<"--bytes">>, <<"--folder">>, <<"--cookie-file">>,
                                          <<"--cookie ">>, <<"SEQAUDIT_COOKIE">>]},
                                        {<<"convert">>, [<<"FILE">>, <<"-o">>]},
-                                       {<<"watch">>, [<<"--node">>, <<"--every">>, <<"-o">>, <<"--keep">>]}]],
+                                       {<<"watch">>,
+                                        [<<"--node">>, <<"--every">>, <<"-o">>, <<"--keep">>]}]],
         [{_, _} = binary:match(Said, Sentence)
          || {Words, Sentence} <- [{"convert x --frob",
-                                   <<"convert has no option --frob\nusage: seqaudit-node convert FILE">>},
-                                  {"convert x -o", <<"-o needs a value\nusage: seqaudit-node convert FILE">>},
-                                  {"frobnicate", <<"there is no command frobnicate\nusage: seqaudit-node COMMAND">>}],
+                                   <<"convert has no option --frob\nusage: seqaudit-node convert "
+                                     "FILE">>},
+                                  {"convert x -o",
+                                   <<"-o needs a value\nusage: seqaudit-node convert FILE">>},
+                                  {"frobnicate",
+                                   <<"there is no command frobnicate\nusage: seqaudit-node "
+                                     "COMMAND">>}],
             {3, Said} <- [command(Words)]],
         [{3, _} = command(Words)
-         || Words <- ["", "frobnicate", "convert x", "collect --node a@h", "collect -o x", "convert -o",
-                      "watch --node a@h -o x", "watch --every 1 -o x"]],
+         || Words <-
+                ["", "frobnicate", "convert x", "collect --node a@h", "collect -o x", "convert -o",
+                 "watch --node a@h -o x", "watch --every 1 -o x"]],
         {3, Text} = command("collect --node a@h --seconds ten -o x"),
-        {_, _} = binary:match(Text, <<"--seconds can't be ten; it takes a whole number from 1 to 4294967">>)
+        {_, _} = binary:match(Text,
+                              <<"--seconds can't be ten; it takes a whole number from 1 to "
+                                "4294967">>)
     end}.
 
 %% A command that this one had before is named in one line.
@@ -39,7 +49,8 @@ reading_is_gemshowals_test_() ->
     {timeout, 60, fun() ->
         [{3, Said} = command([Command, " x --json"])
          || Command <- ["audit", "chart", "why", "times"],
-            Said <- [iolist_to_binary(["seqaudit-node: `gemshowal ", Command, "' does this now\n"])]]
+            Said <- [iolist_to_binary(["seqaudit-node: `gemshowal ", Command,
+                                       "' does this now\n"])]]
     end}.
 
 convert_test_() ->
@@ -67,16 +78,20 @@ no_events_test_() ->
              {2, Refused} = Convert([Name, ".txt"]),
              has(Refused, [Name, ".txt: no event of seq_trace is in it\n"]),
              false = filelib:is_regular(Name ++ ".seqtrace")
-         end || Text <- ["", "hello\n", "% node a@h\n", term_to_binary([]), term_to_binary([hello])]],
+         end || Text <-
+                    ["", "hello\n", "% node a@h\n", term_to_binary([]), term_to_binary([hello])]],
         {ok, File} = seqaudit_events:open(Name),
         ok = seqaudit_events:close(File),
         {0, Done} = Convert([Name, ".events ", Name, ".txt"]),
         has(Done, "0 events of 0 processes"),
         has(Done, "no events came"),
         {2, Trace} = Convert([Name, ".seqtrace"]),
-        has(Trace, [Name, ".seqtrace is a trace already; `gemshowal audit ", Name, "' audits it\n"]),
+        has(Trace, [Name, ".seqtrace is a trace already; `gemshowal audit ", Name,
+                    "' audits it\n"]),
         {2, Terms} = Convert([Name, ".terms"]),
-        has(Terms, [Name, ".terms is what `seqaudit-node convert' writes beside a trace, and has no events\n"]),
+        has(Terms, [Name,
+                    ".terms is what `seqaudit-node convert' writes beside a trace, and has no "
+                    "events\n"]),
         {ok, Cut} = seqaudit_events:open(Name),
         ok = seqaudit_events:begin_collection(Cut, #{node => node()}),
         ok = file:write(Cut, <<0, 9:32, 131>>),
@@ -107,7 +122,8 @@ collect(There) ->
     {_, Binary, File} = code:get_object_code(?MODULE),
     {module, _} = erpc:call(There, code, load_binary, [?MODULE, File, Binary]),
     Name = seqaudit_audits:file("collected"),
-    Collect = [seqaudit_test_shell:node_command(), " collect --node ", atom_to_list(There), " --cookie ",
+    Collect = [seqaudit_test_shell:node_command(), " collect --node ", atom_to_list(There),
+               " --cookie ",
                atom_to_list(erlang:get_cookie()), " --reset -o ", Name],
     {0, Said} = seqaudit_test_shell:terminated_when(Collect, Name, fun() -> traced(There) end),
     {_, _} = binary:match(Said, <<"1 event of 1 process">>),
@@ -115,7 +131,8 @@ collect(There) ->
     %% The modules that the node was sent collect there; the events are converted here.
     Loaded = [Module || Module <- erpc:call(There, erlang, loaded, []),
                         string:prefix(atom_to_list(Module), "seqaudit_") =/= nomatch],
-    [seqaudit_asker, seqaudit_collector, seqaudit_scribe, seqaudit_spool, seqaudit_trace, seqaudit_trigger,
+    [seqaudit_asker, seqaudit_collector, seqaudit_scribe, seqaudit_spool, seqaudit_trace,
+     seqaudit_trigger,
      seqaudit_watch] =
         lists:sort(Loaded -- [?MODULE, seqaudit_test_server]),
     seqaudit_audits:fits(Name).

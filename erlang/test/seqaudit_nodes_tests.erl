@@ -11,11 +11,13 @@ two_nodes_test_() ->
 node_goes_down_test_() ->
     {timeout, 60, fun() ->
         seqaudit_test_nodes:with_second("a node that goes down", fun(There) ->
-            ok = seqaudit_trace:start(#{name => seqaudit_audits:file("down"), nodes => [node(), There]}),
+            ok = seqaudit_trace:start(#{name => seqaudit_audits:file("down"),
+                                        nodes => [node(), There]}),
             seqaudit_trace:with_trace(1, fun() -> seq_trace:print(here) end),
             seqaudit_test_nodes:kill(There),
             {ok, #{events := 1, notes := Notes}} = seqaudit_trace:stop(),
-            [_] = [Note || Note <- Notes, string:find(Note, "the node was lost, or the connection to it") =/= nomatch]
+            [_] = [Note || Note <- Notes,
+                   string:find(Note, "the node was lost, or the connection to it") =/= nomatch]
         end)
     end}.
 

@@ -2,11 +2,12 @@
 -module(seqaudit_refusals_tests).
 
 -export([long_name_is_no_function_test/0, wrong_option_is_usage_test_/0,
-         cookie_with_a_letter_test/0, failed_start_leaves_no_file_test/0, unwritable_promises_nothing_test/0,
-         unwritten_file_is_said_to_be_so_test/0,
+         cookie_with_a_letter_test/0, failed_start_leaves_no_file_test/0,
+         unwritable_promises_nothing_test/0, unwritten_file_is_said_to_be_so_test/0,
          lacking_option_is_named_test_/0, version_test/0]).
 
-has(Text, Part) -> {_, _} = binary:match(unicode:characters_to_binary(Text), unicode:characters_to_binary(Part)).
+has(Text, Part) ->
+    {_, _} = binary:match(unicode:characters_to_binary(Text), unicode:characters_to_binary(Part)).
 
 long_name_is_no_function_test() ->
     Long = lists:duplicate(300, $a),
@@ -34,7 +35,8 @@ lacking_option_is_named_test_() ->
              has(Said, ["seqaudit-node: ", What, "\n"])
          end || {Words, What} <- [{"collect -o x --seconds 1", "collect needs --node NAME@HOST"},
                                   {"collect", "collect needs --node NAME@HOST and -o NAME"},
-                                  {"collect --node a@b -o x y", "collect takes options alone, and y is none"},
+                                  {"collect --node a@b -o x y",
+                                   "collect takes options alone, and y is none"},
                                   {"watch --node a@b -o x", "watch needs --every SECONDS"},
                                   {"convert x", "convert needs -o NAME, once"}]]
     end}.
@@ -58,10 +60,13 @@ failed_start_leaves_no_file_test() ->
 
 unwritable_promises_nothing_test() ->
     {error, Reason} = seqaudit_events:writable("/no/such/folder/x"),
-    "/no/such/folder/x.events can't be written: no such file or directory" = seqaudit_trace:format_error(Reason).
+    "/no/such/folder/x.events can't be written: no such file or directory" =
+        seqaudit_trace:format_error(Reason).
 
 unwritten_file_is_said_to_be_so_test() ->
     Event = {seq_trace, 1, {print, {0, 1}, self(), [], seen}},
-    File = seqaudit_test_files:write(seqaudit_audits:file("unwritten"), [#{node => node(), events => [Event]}]),
+    File = seqaudit_test_files:write(seqaudit_audits:file("unwritten"),
+                                     [#{node => node(), events => [Event]}]),
     {error, Reason} = seqaudit_convert:from_files([File], "/no/such/folder/x"),
-    "/no/such/folder/x.terms can't be written: no such file or directory" = seqaudit_events:format_error(Reason).
+    "/no/such/folder/x.terms can't be written: no such file or directory" =
+        seqaudit_events:format_error(Reason).

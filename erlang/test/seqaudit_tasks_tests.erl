@@ -5,7 +5,8 @@
 -export([tasks_test_/0, requests_are_whole_test_/0]).
 
 tasks_test_() ->
-    {timeout, 120, fun() -> with_elixir("tasks", fun(Run) -> tasks(Run, seqaudit_audits:file("tasks")) end) end}.
+    {timeout, 120,
+     fun() -> with_elixir("tasks", fun(Run) -> tasks(Run, seqaudit_audits:file("tasks")) end) end}.
 
 with_elixir(What, Test) ->
     case os:find_executable("elixir") of
@@ -13,7 +14,8 @@ with_elixir(What, Test) ->
         Elixir ->
             Test(fun(Words) ->
                      seqaudit_test_shell:run(["LC_ALL=C.UTF-8 ", Elixir, " -pa ",
-                                              filename:join(seqaudit_audits:home(), "ebin"), $\s, Words])
+                                              filename:join(seqaudit_audits:home(), "ebin"), $\s,
+                                              Words])
                  end)
     end.
 
@@ -28,7 +30,8 @@ requests_are_whole(Run, Requests, Port) ->
     ok = file:write_file(Name ++ ".exs", service()),
     {0, Said} = Run([Name, ".exs ", Name, $\s, integer_to_list(Requests), $\s, atom_to_list(Port)]),
     {_, _} = binary:match(Said, <<" events, 0 dropped">>),
-    %% A machine that is busy may not keep up with 3,000: then the collector says so, and nothing else is lost.
+    %% A machine that is busy may not keep up with 3,000: then the collector says so, and nothing
+    %% else is lost.
     case seqaudit_test_traces:losses(Name) of
         [] ->
             Terms = seqaudit_test_traces:terms(Name),
@@ -37,7 +40,8 @@ requests_are_whole(Run, Requests, Port) ->
             {each, 0} = {each, length(Calls) rem Requests},
             true = length(Calls) >= 20 * Requests;
         Losses ->
-            [{_, _} = binary:match(Loss, <<"events came faster than they could be written">>) || Loss <- Losses]
+            [{_, _} = binary:match(Loss, <<"events came faster than they could be written">>)
+             || Loss <- Losses]
     end.
 
 %% A task tells nobody of its end if whom it works for has ended before.
@@ -51,14 +55,16 @@ service() ->
     "    :seqaudit_trace.with_trace({:request, number}, fn ->\n"
     "      :seq_trace.print({:begin, number})\n"
     "      {:ok, _} = GenServer.call(Shop.Stock, {:user, number})\n"
-    "      {:ok, row} = Task.await(Task.async(fn -> GenServer.call(Shop.Stock, {:row, number}) end))\n"
+    "      {:ok, row} = Task.await(Task.async(fn -> GenServer.call(Shop.Stock, {:row, number}) "
+    "end))\n"
     "      GenServer.call(Shop.Stock, {:done, row})\n    end)\n  end\nend\n"
     "[name, requests, port] = System.argv()\n"
     "{:ok, _} = GenServer.start(Shop.Stock, nil, name: Shop.Stock)\n"
     "{:ok, _} = Task.Supervisor.start_link(name: Shop.Tasks)\n"
     ":ok = :seqaudit_trace.start(%{name: String.to_charlist(name), port: port == \"true\"})\n"
     "for number <- 1..String.to_integer(requests) do\n"
-    "  Task.await(Task.Supervisor.async(Shop.Tasks, fn -> Shop.Request.run(number) end), :infinity)\nend\n"
+    "  Task.await(Task.Supervisor.async(Shop.Tasks, fn -> Shop.Request.run(number) end), "
+    ":infinity)\nend\n"
     "{:ok, summary} = :seqaudit_trace.stop()\n"
     "IO.puts(\"#{summary.events} events, #{summary.dropped} dropped\")\n".
 
@@ -75,7 +81,8 @@ tasks(Run, Name) ->
     [Customer] = [Called || {<<"task of <", _/binary>> = Called, _} <- Named],
     [<<"task">>, <<"of">>, Caller, _] = binary:split(Customer, <<" ">>, [global]),
     [_] = [Called || {Called, _} <- Named, Called =:= Caller],
-    {_, _} = binary:match(Terms, <<"#{'__struct__' => 'Elixir.Shop.Order',item => <<\"apple\">>}">>).
+    {_, _} = binary:match(Terms,
+                          <<"#{'__struct__' => 'Elixir.Shop.Order',item => <<\"apple\">>}">>).
 
 %% One call that a task answers, and one that a task makes.
 shop(Name) ->

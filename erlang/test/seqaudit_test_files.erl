@@ -7,7 +7,8 @@
 read(File) ->
     case seqaudit_events:fold(File, fun item/2, []) of
         {ok, Read} ->
-            {ok, [Facts#{events => lists:reverse(Events)} || {Facts, Events} <- lists:reverse(Read)]};
+            {ok, [Facts#{events => lists:reverse(Events)}
+                  || {Facts, Events} <- lists:reverse(Read)]};
         {error, Reason} ->
             {error, Reason}
     end.
@@ -58,8 +59,10 @@ write(Name, Collections) ->
 
 %% Converts them into files of their own: a test that takes too long may still write.
 convert(Collections) ->
-    Name = seqaudit_audits:file("converted_" ++ os:getpid() ++ integer_to_list(erlang:unique_integer([positive]))),
-    {ok, #{files := Files} = Summary} = seqaudit_convert:from_files([write(Name, Collections)], Name),
+    Name = seqaudit_audits:file("converted_" ++ os:getpid()
+                                ++ integer_to_list(erlang:unique_integer([positive]))),
+    {ok, #{files := Files} = Summary} =
+        seqaudit_convert:from_files([write(Name, Collections)], Name),
     {ok, Text} = file:read_file(Name ++ ".seqtrace"),
     {ok, Terms} = file:read_file(Name ++ ".terms"),
     [ok = file:delete(File) || File <- [Name ++ ".events" | Files]],

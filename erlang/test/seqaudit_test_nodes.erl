@@ -1,15 +1,17 @@
-%% A second node on this machine, waiting for what happens there, and what has to be there or gone for a test.
+%% A second node on this machine, waiting for what happens there, and what has to be there or gone
+%% for a test.
 -module(seqaudit_test_nodes).
 
--export([with_second/2, start/0, kill/1, again/1, on_port/2, clear/0, until/1, until_within/2, on_disk/2, met/2,
-         await_collector/0, keep_pace/0, is_traced/1, print_when_traced/1, peak/1]).
+-export([with_second/2, start/0, kill/1, again/1, on_port/2, clear/0, until/1, until_within/2,
+         on_disk/2, met/2, await_collector/0, keep_pace/0, is_traced/1, print_when_traced/1,
+         peak/1]).
 
-%% A machine that is busy takes a while for what is done at once otherwise: with a load of 40 on four processors
-%% three periods of two seconds took more than half a minute.
+%% A machine that is busy takes a while for what is done at once otherwise: with a load of 40 on
+%% four processors three periods of two seconds took more than half a minute.
 -define(DEADLINE_MS, 120_000).
 
-%% Returns what the test of a second node returns, after it stopped the collecting and the node. If there can be no such
-%% node, it says that the test is skipped, and returns that.
+%% Returns what the test of a second node returns, after it stopped the collecting and the node. If
+%% there can be no such node, it says that the test is skipped, and returns that.
 with_second(What, Test) ->
     case start() of
         {ok, Stop, There} ->
@@ -23,7 +25,8 @@ with_second(What, Test) ->
             skipped
     end.
 
-%% Returns how to stop it and what it is called; this node's name comes before it. It ends with the calling process too.
+%% Returns how to stop it and what it is called; this node's name comes before it. It ends with the
+%% calling process too.
 start() ->
     Id = os:getpid(),
     case named("seqaudit_a_" ++ Id ++ "@localhost", deadline()) of
@@ -35,8 +38,10 @@ start() ->
     end.
 
 peer(Name) ->
-    {ok, Peer, Node} = peer:start_link(#{name => list_to_atom(Name), host => "localhost", connection => standard_io,
-                                         args => ["-setcookie", atom_to_list(erlang:get_cookie())]}),
+    {ok, Peer, Node} =
+        peer:start_link(#{name => list_to_atom(Name), host => "localhost",
+                          connection => standard_io,
+                          args => ["-setcookie", atom_to_list(erlang:get_cookie())]}),
     true = net_kernel:connect_node(Node),
     {_, Binary, File} = code:get_object_code(seqaudit_test_server),
     {module, _} = erpc:call(Node, code, load_binary, [seqaudit_test_server, File, Binary]),
@@ -77,12 +82,15 @@ named(Name, Deadline) ->
 on_port(What, Test) ->
     case code:ensure_loaded(dbg) of
         {module, dbg} -> Test();
-        {error, _} -> io:format(user, "trace port, ~ts: skipped, there is no runtime_tools (erlang-runtime-tools)~n",
-                                [What])
+        {error, _} ->
+            io:format(user,
+                      "trace port, ~ts: skipped, there is no runtime_tools "
+                      "(erlang-runtime-tools)~n",
+                      [What])
     end.
 
-%% Ends what a test that failed may have left: a collection, a tracer, this node's name. EUnit kills a test that
-%% takes too long, so its `after' isn't run.
+%% Ends what a test that failed may have left: a collection, a tracer, this node's name. EUnit kills
+%% a test that takes too long, so its `after' isn't run.
 clear() ->
     _ = try seqaudit_trace:stop() catch _:_ -> failed end,
     [ok = application:unset_env(seqaudit, Key) || Key <- [collection, shared_disk]],
@@ -116,14 +124,15 @@ await_collector() ->
     Collector = whereis(seqaudit_collector),
     until(fun() -> process_info(Collector, message_queue_len) =:= {message_queue_len, 0} end).
 
-%% A collector that is the tracer itself takes itself off if a megabyte of events waits in its queue, so whoever sends
-%% much waits for it. A trace port takes what comes.
+%% A collector that is the tracer itself takes itself off if a megabyte of events waits in its
+%% queue, so whoever sends much waits for it. A trace port takes what comes.
 keep_pace() ->
     is_port(seq_trace:get_system_tracer()) orelse await_collector().
 
 %% Waits until a collector's folder has so many events.
 on_disk(Folder, Count) ->
-    until(fun() -> in_folder(Folder, fun({event, _}, Sum) -> Sum + 1; (_, Sum) -> Sum end, 0) >= Count end).
+    until(fun() ->
+        in_folder(Folder, fun({event, _}, Sum) -> Sum + 1; (_, Sum) -> Sum end, 0) >= Count end).
 
 %% Waits until a collector has asked what these processes are called.
 met(Folder, Pids) ->
@@ -148,7 +157,8 @@ print_when_traced(Node) ->
 
 %% The greatest memory that the node has taken so far, in bytes, as the system counts it.
 peak(Node) ->
-    {ok, Status} = file:read_file(filename:join(["/proc", erpc:call(Node, os, getpid, []), "status"])),
+    {ok, Status} =
+        file:read_file(filename:join(["/proc", erpc:call(Node, os, getpid, []), "status"])),
     {match, [Kilobytes]} = re:run(Status, "VmHWM:\\s+([0-9]+) kB", [{capture, [1], list}]),
     1_024 * list_to_integer(Kilobytes).
 

@@ -2,8 +2,8 @@
 -module(seqaudit_test_server).
 -behaviour(gen_server).
 
--export([start/1, start/2, print/2, timed/2, flood/1, load/2, running/1, without_runtime_tools/0, begin_shop/0, order/1,
-         shop_token/0, with_token/1, init/1, handle_call/3, handle_cast/2]).
+-export([start/1, start/2, print/2, timed/2, flood/1, load/2, running/1, without_runtime_tools/0,
+         begin_shop/0, order/1, shop_token/0, with_token/1, init/1, handle_call/3, handle_cast/2]).
 
 start(Fun) ->
     {ok, Pid} = gen_server:start(?MODULE, Fun, []),
@@ -38,8 +38,8 @@ flood(Times) ->
     seqaudit_trace:with_trace(1, fun() -> [seq_trace:print(Large) || _ <- lists:seq(1, Times)] end),
     ok.
 
-%% Lets pairs write lists of 500 numbers to each other for some time, all under tokens; returns how many
-%% messages that was.
+%% Lets pairs write lists of 500 numbers to each other for some time, all under tokens; returns how
+%% many messages that was.
 load(Pairs, Milliseconds) ->
     End = erlang:monotonic_time(millisecond) + Milliseconds,
     Started = [spawn_monitor(fun() -> exit({sent, pair(Label, End)}) end)
@@ -72,7 +72,8 @@ echo(To) ->
 
 %% The processes that are in a function of the module.
 running(Module) ->
-    [Pid || Pid <- processes(), {_, {In, _, _}} <- [process_info(Pid, current_function)], In =:= Module].
+    [Pid || Pid <- processes(), {_, {In, _, _}} <- [process_info(Pid, current_function)],
+     In =:= Module].
 
 %% As if the node had no runtime_tools, which it may not have.
 without_runtime_tools() ->

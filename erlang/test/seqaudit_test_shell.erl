@@ -1,7 +1,8 @@
 %% Commands of the shell, seqaudit-node among them, run as programs of their own.
 -module(seqaudit_test_shell).
 
--export([node_command/0, cookie/0, run/1, run/2, execute/3, begin_run/2, ended/0, terminated_when/3]).
+-export([node_command/0, cookie/0, run/1, run/2, execute/3, begin_run/2, ended/0,
+         terminated_when/3]).
 
 %% The command of this checkout.
 node_command() ->
@@ -36,8 +37,8 @@ begin_run(Words, Variables) ->
 ended() ->
     receive {ended, Answer} -> Answer end.
 
-%% The status of a command and what it wrote, which `kill' ends once this is done. Its number is in Name.pid
-%% meanwhile.
+%% The status of a command and what it wrote, which `kill' ends once this is done. Its number is in
+%% Name.pid meanwhile.
 terminated_when(Words, Name, Do) ->
     _ = begin_run(["echo $$ >", Name, ".pid; exec ", Words], cookie()),
     Do(),

@@ -1,12 +1,12 @@
 %% Programs that run on this node are traced, converted and audited.
 -module(seqaudit_trace_tests).
 
--export([fitting_test_/0, term_labels_test/0, registered_names_test/0,
-         initial_call_test/0, timestamps_test/0, same_name_test/0,
-         full_collector_test/0, former_tracer_is_put_back_test/0,
-         former_tracer_is_gone_test/0, second_tracer_stays_test/0,
+-export([fitting_test_/0, term_labels_test/0, registered_names_test/0, initial_call_test/0,
+         timestamps_test/0, same_name_test/0, full_collector_test/0,
+         former_tracer_is_put_back_test/0, former_tracer_is_gone_test/0, second_tracer_stays_test/0,
          owner_ends_test/0, collector_stays_out_test/0, token_is_taken_off_test/0,
-         nothing_is_lost_test_/0, reset_between_clients_test/0, start_refuses_test/0, unfit_is_unfit_test/0]).
+         nothing_is_lost_test_/0, reset_between_clients_test/0, start_refuses_test/0,
+         unfit_is_unfit_test/0]).
 
 -define(FLAGS, [send, 'receive', print]).
 
@@ -29,7 +29,8 @@ programs() ->
       end},
      {"ring", fun() ->
           Self = self(),
-          Ring = [spawn(fun() -> receive {next, Next} -> pass(Next) end end) || _ <- lists:seq(1, 9)],
+          Ring = [spawn(fun() -> receive {next, Next} -> pass(Next) end end)
+                  || _ <- lists:seq(1, 9)],
           lists:foldr(fun(Pid, Next) -> Pid ! {next, Next}, Pid end, Self, Ring),
           fun() ->
               [begin hd(Ring) ! {round, K}, receive {round, K} -> ok end end || K <- [1, 2, 3]]
@@ -52,7 +53,8 @@ programs() ->
       end},
      {"casts", fun() ->
           Self = self(),
-          Server = seqaudit_test_server:start(fun(K) -> seq_trace:print({got, K}), Self ! {done, K} end),
+          Server = seqaudit_test_server:start(fun(K) -> seq_trace:print({got, K}),
+                                              Self ! {done, K} end),
           fun() ->
               [gen_server:cast(Server, K) || K <- lists:seq(1, 5)],
               [receive {done, K} -> ok end || K <- lists:seq(1, 5)]
@@ -90,12 +92,13 @@ registered_names_test() ->
     Pid = list_to_binary(pid_to_list(Server)),
     #{{process, Pid} := <<"seqaudit_test_alice">>, {about, Pid} := About} = Terms,
     {_, _} = binary:match(About,
-                          <<", registered as seqaudit_test_alice, started by seqaudit_test_server:init/1">>),
+                          <<", registered as seqaudit_test_alice, started by "
+                            "seqaudit_test_server:init/1">>),
     ok = gen_server:stop(Server),
     ok_or_skipped(seqaudit_audits:fits(seqaudit_audits:file("names"))).
 
-%% A process without a name is called by what it was started with, also after its end. If there is a trace port, that is
-%% known once the collector is on.
+%% A process without a name is called by what it was started with, also after its end. If there is a
+%% trace port, that is known once the collector is on.
 initial_call_test() ->
     Server = seqaudit_test_server:start(fun(X) -> X end),
     {4, Terms} = traced("initial_call", #{}, fun() ->
@@ -135,11 +138,14 @@ same_name_test() ->
 full_collector_test() ->
     Name = seqaudit_audits:file("full"),
     ok = seqaudit_trace:start(#{name => Name, port => false, bytes => 65_536}),
-    Print = fun(_) -> seq_trace:print(binary:copy(<<0>>, 1_024)), seqaudit_test_nodes:keep_pace() end,
+    Print = fun(_) -> seq_trace:print(binary:copy(<<0>>, 1_024)),
+    seqaudit_test_nodes:keep_pace() end,
     seqaudit_trace:with_trace(1, fun() -> lists:foreach(Print, lists:seq(1, 100)) end),
     {ok, #{events := Kept, dropped := Dropped, notes := [Note]}} = seqaudit_trace:stop(),
     {true, 100} = {Kept > 50 andalso Dropped > 0, Kept + Dropped},
-    {match, _} = re:run(Note, [": the collector dropped ", integer_to_list(Dropped), " events; raise --bytes"]),
+    {match, _} =
+        re:run(Note,
+               [": the collector dropped ", integer_to_list(Dropped), " events; raise --bytes"]),
     ok_or_skipped(seqaudit_audits:fits(Name)).
 
 former_tracer_is_put_back_test() ->
@@ -200,13 +206,18 @@ collector_stays_out_test() ->
     ok_or_skipped(seqaudit_audits:fits(seqaudit_audits:file("stays_out"))).
 
 token_is_taken_off_test() ->
-    done = seqaudit_trace:with_trace(1, fun() -> [_ | _] = tuple_to_list(seq_trace:get_token()), done end),
+    done = seqaudit_trace:with_trace(1, fun() -> [_ | _] = tuple_to_list(seq_trace:get_token()),
+                                     done end),
     [] = seq_trace:get_token(),
-    failed = try seqaudit_trace:with_trace(1, fun() -> error(deliberate) end) catch error:deliberate -> failed end,
+    failed = try seqaudit_trace:with_trace(1,
+                                           fun() -> error(deliberate) end) catch error:deliberate ->
+                                               failed end,
     [] = seq_trace:get_token(),
-    thrown = try seqaudit_trace:with_trace({a, term}, [send], fun() -> throw(thrown) end) catch Thrown -> Thrown end,
+    thrown = try seqaudit_trace:with_trace({a, term}, [send],
+                                           fun() -> throw(thrown) end) catch Thrown -> Thrown end,
     [] = seq_trace:get_token(),
-    refused = try seqaudit_trace:with_trace(1, [sent], fun() -> ok end) catch error:badarg -> refused end,
+    refused = try seqaudit_trace:with_trace(1, [sent], fun() -> ok end) catch error:badarg ->
+        refused end,
     ok.
 
 %% 20,000 events of 20 processes at once: all of them come, in each process's order.
@@ -238,13 +249,15 @@ start_refuses_test() ->
     false = seq_trace:get_system_tracer(),
     ok.
 
-%% After a reset a server stamps its reply to the second client as that to the first; each reply goes
-%% to whoever received it.
+%% After a reset a server stamps its reply to the second client as that to the first; each reply
+%% goes to whoever received it.
 reset_between_clients_test() ->
     Server = seqaudit_test_server:start(fun(X) -> X end),
     Clients = [{Label, spawn(fun() ->
                     receive {go, From} -> ok end,
-                    From ! {seqaudit_trace:with_trace(Label, fun() -> gen_server:call(Server, same) end), Label},
+                    From ! {seqaudit_trace:with_trace(Label,
+                                                      fun() -> gen_server:call(Server, same) end),
+                            Label},
                     receive stop -> ok end
                 end)} || Label <- [1, 2]],
     {8, _} = traced("reset_between", #{}, fun() ->
@@ -256,7 +269,8 @@ reset_between_clients_test() ->
     end),
     {ok, Bundle} = file:read_file(seqaudit_audits:file("reset_between.seqtrace")),
     [begin
-         Reply = ["\\{seq_trace,", integer_to_list(Label), ",\\{send,\\{1,2\\},", pid_to_list(Server), $,,
+         Reply = ["\\{seq_trace,", integer_to_list(Label), ",\\{send,\\{1,2\\},",
+                  pid_to_list(Server), $,,
                   pid_to_list(Client), $,],
          {match, [_]} = re:run(Bundle, Reply, [global]),
          exit(Client, kill)

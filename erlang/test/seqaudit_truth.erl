@@ -1,23 +1,28 @@
-%% Random programs on real nodes whose messages carry numbers, and whether what is collected of them is what happened.
+%% Random programs on real nodes whose messages carry numbers, and whether what is collected of them
+%% is what happened.
 %%
-%% Each process has a list of what it does, in an order that can be kept by all; besides there are servers
-%% (seqaudit_truth_servers). Each message and print has a number, that of the message that gave its process the token
-%% (`begins', if the process began the trace itself), and whether its process had set the label since. What happens
-%% under a token is in a log too.
+%% Each process has a list of what it does, in an order that can be kept by all; besides there are
+%% servers (seqaudit_truth_servers). Each message and print has a number, that of the message that
+%% gave its process the token (`begins', if the process began the trace itself), and whether its
+%% process had set the label since. What happens under a token is in a log too.
 -module(seqaudit_truth).
 
 -export([run/3, begin_log/2, child/1, play/3, know/1, known/0, content/1, got/1]).
 
-%% Runs the program of this number, with these flags and a tracer that is on from the beginning or comes on late, on
-%% these nodes, and returns what the trace has that didn't happen, what happened and isn't in it though it should be,
-%% and the messages that were received as something else than was sent.
+%% Runs the program of this number, with these flags and a tracer that is on from the beginning or
+%% comes on late, on these nodes, and returns what the trace has that didn't happen, what happened
+%% and isn't in it though it should be, and the messages that were received as something else than
+%% was sent.
 run(Seed, #{nodes := Nodes, flags := Flags, late := Late}, Name) ->
     _ = rand:seed(exsss, {Seed, 5, 51}),
-    Logs = [erpc:call(Node, ?MODULE, begin_log, [N, length(Nodes)]) || {N, Node} <- lists:enumerate(Nodes)],
+    Logs = [erpc:call(Node, ?MODULE, begin_log, [N, length(Nodes)])
+            || {N, Node} <- lists:enumerate(Nodes)],
     Late orelse (ok = seqaudit_trace:start(#{name => Name, nodes => Nodes})),
-    Servers = [erpc:call(Node, seqaudit_truth_servers, start, [rand:uniform(6)]) || Node <- Nodes, _ <- [1, 2]],
+    Servers = [erpc:call(Node, seqaudit_truth_servers, start, [rand:uniform(6)]) || Node <- Nodes,
+               _ <- [1, 2]],
     {Players, Steps} = steps(2 + rand:uniform(4), 30 + rand:uniform(60), Servers),
-    Pids = [spawn(lists:nth(1 + N rem length(Nodes), Nodes), ?MODULE, play, [N, self(), Flags]) || N <- Players],
+    Pids = [spawn(lists:nth(1 + N rem length(Nodes), Nodes), ?MODULE, play, [N, self(), Flags])
+            || N <- Players],
     Numbered = maps:from_list(lists:zip(Players, Pids)),
     Half = length(Steps) div 2,
     ok = play_all(lists:sublist(Steps, Half), Numbered, Servers),
@@ -31,7 +36,8 @@ run(Seed, #{nodes := Nodes, flags := Flags, late := Late}, Name) ->
     Log = lists:append([ended_log(Owner) || Owner <- Logs]),
     {Reported, Changed} = reported(Name),
     Whole = not Late andalso [] =:= [send, 'receive', print] -- Flags,
-    {Reported -- [{Kind, Number} || {_, _, Kind, Number} <- Log], [One || Whole, One <- missing(Reported, Log)],
+    {Reported -- [{Kind, Number} || {_, _, Kind, Number} <- Log],
+     [One || Whole, One <- missing(Reported, Log)],
      Changed}.
 
 %% Returns what the trace has, and the messages that it has with two contents.
@@ -39,7 +45,8 @@ reported(Name) ->
     Terms = seqaudit_test_traces:terms(Name),
     Contents = [{Event, content_of(maps:get({value, Value}, Terms))}
                 || #{value := Value} = Event <- seqaudit_test_traces:events(Name)],
-    Sent = maps:from_list([{message(Event), Number} || {#{kind := <<"send">>} = Event, Number} <- Contents]),
+    Sent = maps:from_list([{message(Event), Number}
+                           || {#{kind := <<"send">>} = Event, Number} <- Contents]),
     {[{happened(Kind), Number} || {#{kind := Kind}, Number} <- Contents, is_integer(Number)],
      [Event || {#{kind := <<"'receive'">>} = Event, Number} <- Contents,
                maps:get(message(Event), Sent, Number) =/= Number]}.
@@ -47,7 +54,8 @@ reported(Name) ->
 message(Event) -> maps:remove(kind, Event).
 
 content_of(Text) ->
-    case re:run(Text, "\\{m,([0-9]+),[a-z0-9]+,(?:true|false)\\}", [{capture, all_but_first, list}]) of
+    case re:run(Text, "\\{m,([0-9]+),[a-z0-9]+,(?:true|false)\\}",
+                [{capture, all_but_first, list}]) of
         {match, [Number]} -> list_to_integer(Number);
         nomatch -> other
     end.
@@ -56,19 +64,22 @@ happened(<<"send">>) -> sent;
 happened(<<"'receive'">>) -> received;
 happened(<<"print">>) -> printed.
 
-%% Returns what happened under a token between two reported events of its process, and isn't in the trace.
+%% Returns what happened under a token between two reported events of its process, and isn't in the
+%% trace.
 missing(Reported, Log) ->
     Known = maps:from_keys(Reported, reported),
     ByPid = maps:groups_from_list(fun({_, Pid, _, _}) -> Pid end, lists:sort(Log)),
     lists:append([begin
-                      Told = [{is_map_key({Kind, Number}, Known), {Kind, Number}} || {_, _, Kind, Number} <- Entries],
+                      Told = [{is_map_key({Kind, Number}, Known), {Kind, Number}}
+                              || {_, _, Kind, Number} <- Entries],
                       From = lists:dropwhile(fun({Is, _}) -> not Is end, Told),
                       To = lists:dropwhile(fun({Is, _}) -> not Is end, lists:reverse(From)),
                       [One || {false, One} <- To]
                   end || Entries <- maps:values(ByPid)]).
 
-%% The record of what happened under tokens on a node, the Nth of several: a table, as a message would be an event. The numbers that
-%% it gives are N, N + Nodes, N + 2 * Nodes and so on, so that no other node gives them too.
+%% The record of what happened under tokens on a node, the Nth of several: a table, as a message
+%% would be an event. The numbers that it gives are N, N + Nodes, N + 2 * Nodes and so on, so that
+%% no other node gives them too.
 begin_log(N, Nodes) ->
     Self = self(),
     Owner = spawn(fun() ->
@@ -92,14 +103,18 @@ log(Kind, Number) ->
 
 %% Each player gets its steps of a part, and does them without a message of anybody else in between.
 play_all(Steps, Numbered, Servers) ->
-    [Pid ! {steps, [Step || {Who, Step} <- Steps, Who =:= N], Numbered, Servers} || {N, Pid} <- maps:to_list(Numbered)],
-    [receive {played, Pid} -> ok after 60_000 -> error({stuck, Pid}) end || Pid <- maps:values(Numbered)],
+    [Pid ! {steps, [Step || {Who, Step} <- Steps, Who =:= N], Numbered, Servers}
+     || {N, Pid} <- maps:to_list(Numbered)],
+    [receive {played, Pid} -> ok after 60_000 -> error({stuck, Pid}) end
+     || Pid <- maps:values(Numbered)],
     ok.
 
 %% The deeds of the players, in one order: messages are received after their sends, in any order.
 steps(Count, Length, Servers) ->
     Players = lists:seq(1, Count),
-    {Steps, _} = lists:mapfoldl(fun(K, Open) -> step(K, Players, length(Servers), Open) end, [], lists:seq(1, Length)),
+    {Steps, _} =
+        lists:mapfoldl(fun(K, Open) -> step(K, Players, length(Servers), Open) end, [],
+                       lists:seq(1, Length)),
     {Players, [{P, {begins, P}} || P <- Players, rand:uniform(2) =:= 1] ++ lists:append(Steps)}.
 
 step(K, Players, Servers, Open) ->
@@ -120,7 +135,8 @@ step(K, Players, Servers, Open) ->
         _ -> {[{P, {call, rand:uniform(Servers)}}], Open}
     end.
 
-%% A player. What it knows of its token: the message that gave it, and whether it set the label itself.
+%% A player. What it knows of its token: the message that gave it, and whether it set the label
+%% itself.
 play(Number, Boss, Flags) ->
     know(none),
     player(Number, Boss, Flags).

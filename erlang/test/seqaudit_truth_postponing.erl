@@ -1,7 +1,8 @@
 %% A state machine that serves one client at a time and postpones the requests of others
 %% ({@link seqaudit_truth_servers}).
 %%
-%% A request that was postponed is handled under the token that the process has by then, not under its own.
+%% A request that was postponed is handled under the token that the process has by then, not under
+%% its own.
 -module(seqaudit_truth_postponing).
 -behaviour(gen_statem).
 
@@ -25,7 +26,8 @@ handle_event({call, From}, wait, _State, _Postponed) ->
 handle_event({call, From}, Request, State, Postponed) ->
     lists:member(From, Postponed) orelse got(Request),
     case State of
-        idle -> {next_state, {busy, From}, lists:delete(From, Postponed), {state_timeout, ?BUSY_MS, done}};
+        idle -> {next_state, {busy, From}, lists:delete(From, Postponed),
+                 {state_timeout, ?BUSY_MS, done}};
         {busy, _} -> {keep_state, lists:usort([From | Postponed]), postpone}
     end;
 handle_event(state_timeout, done, {busy, From}, Postponed) ->

@@ -13,9 +13,10 @@
 %% After so long a server replies to those that wait.
 -define(LATER_MS, 5).
 
-%% at_once: before it takes the next request. later: when another request comes, or some time has passed. delegated:
-%% another server replies. kept: it keeps the client's token, and puts it back to reply. pool: it lends one of two
-%% workers, and lets who comes third wait. postponing: a state machine that postpones requests.
+%% at_once: before it takes the next request. later: when another request comes, or some time has
+%% passed. delegated: another server replies. kept: it keeps the client's token, and puts it back to
+%% reply. pool: it lends one of two workers, and lets who comes third wait. postponing: a state
+%% machine that postpones requests.
 start(Which) ->
     Kind = lists:nth(Which, ?KINDS),
     {ok, Server} = case Kind of

@@ -1,7 +1,8 @@
-%% The trace of a random program is what happened: nothing else, and all of it that was to be reported. gemshowal
-%% reads each trace.
+%% The trace of a random program is what happened: nothing else, and all of it that was to be
+%% reported. gemshowal reads each trace.
 %%
-%% The variable TRUTH says which programs are run in place of the first 300: 301-700, or those up to a number.
+%% The variable TRUTH says which programs are run in place of the first 300: 301-700, or those up to
+%% a number.
 -module(seqaudit_truth_tests).
 
 -export([truth_test_/0]).
@@ -19,7 +20,8 @@ truth_test_() ->
 
 all(Nodes) ->
     [{module, _} = erpc:call(Node, code, load_binary, [Module, File, Binary])
-     || Node <- tl(Nodes), Module <- [seqaudit_truth, seqaudit_truth_servers, seqaudit_truth_postponing],
+     || Node <- tl(Nodes),
+     Module <- [seqaudit_truth, seqaudit_truth_servers, seqaudit_truth_postponing],
         {_, Binary, File} <- [code:get_object_code(Module)]],
     [From, To] = case string:lexemes(os:getenv("TRUTH", ?PROGRAMS), "-") of
                      [Last] -> [1, list_to_integer(Last)];
@@ -29,12 +31,14 @@ all(Nodes) ->
         {Seed, {[], [], []}} = {Seed, seqaudit_truth:run(Seed, how(Seed, Nodes), name(Seed))}
     end, lists:seq(From, To)),
     seqaudit_audits:with_gemshowal("truth", fun(_) ->
-        Audits = [seqaudit_audits:gemshowal(["audit", name(Seed)]) || Seed <- lists:seq(max(From, To - 19), To)],
+        Audits = [seqaudit_audits:gemshowal(["audit", name(Seed)])
+                  || Seed <- lists:seq(max(From, To - 19), To)],
         [] = [Said || {Status, Said} <- Audits, Status > 1],
         ok
     end).
 
-%% Half of them with all flags, the others with one off or a tracer that comes on late; half of them on two nodes.
+%% Half of them with all flags, the others with one off or a tracer that comes on late; half of them
+%% on two nodes.
 how(Seed, Nodes) ->
     Some = case Seed rem 4 of
                0 -> Nodes;

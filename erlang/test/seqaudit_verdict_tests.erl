@@ -26,10 +26,12 @@ verdicts_test_() ->
                               ok = file:write_file(Name ++ ".seqtrace",
                                                    ["seqtrace 3\nprocess <0.80.0>\n"
                                                     "{seq_trace,1,{print,{0,1},<0.80.0>,[],0}}\n"
-                                                    "{seq_trace,1,{print,{", Serial, "},<0.80.0>,[],0}}\n"]),
+                                                    "{seq_trace,1,{print,{", Serial,
+                                                    "},<0.80.0>,[],0}}\n"]),
                               asked(Program, Name)
                       end,
-            {fits, <<"fits: 2 events of 1 process; nothing is known to be missing">>} = Wrapped("0,2"),
+            {fits, <<"fits: 2 events of 1 process; nothing is known to be missing">>} =
+                Wrapped("0,2"),
             {unfit, <<"fits if something wasn't reported: ", _/binary>>} = Wrapped("-5,-4")
         end)
     end}.
