@@ -1,11 +1,10 @@
 %% Collecting goes on without a gap while it is looked at, period by period.
 -module(seqaudit_periods_tests).
 
--export([rotate_test_/0, again_test_/0, other_tracer_test_/0, slow_disk_test_/0, cancel_on_slow_disk_test_/0,
-         large_event_test/0, ended_test_/0, back_test_/0, quiet_test/0, rest_test/0, never_quiet_test/0, watch_test_/0,
+-export([rotate_test_/0, again_test_/0, other_tracer_test_/0, slow_disk_test_/0,
+         cancel_on_slow_disk_test_/0, large_event_test/0, ended_test_/0, back_test_/0,
+         quiet_test/0, rest_test/0, never_quiet_test/0, watch_test_/0,
          unaudited_test_/0]).
-%% Called by name.
--export([serve/1, answer/0, request/2]).
 
 %% No event is lost between two files, and processes keep their names.
 rotate_test_() ->
@@ -48,15 +47,18 @@ print(N, Count, To) ->
 
 numbers(File) ->
     {ok, [#{events := Events}]} = seqaudit_test_files:read(File),
-    [case Printed of {N, _} -> N; N -> N end || {seq_trace, 1, {print, _, _, _, Printed}} <- Events].
+    [case Printed of {N, _} -> N; N -> N end
+     || {seq_trace, 1, {print, _, _, _, Printed}} <- Events].
 
-%% A collector that ended by itself, or was killed, is begun again, and what it has is written with the reason.
+%% A collector that ended by itself, or was killed, is begun again, and what it has is written with
+%% the reason.
 again_test_() ->
     [{timeout, 60, fun() -> begun_again(Port, Why, Break) end}
-     || {Port, Why, Break} <- [{true, "the trace file couldn't be written (enospc)", fun break_port/0},
-                               {false, "the trace file couldn't be written (enospc)", fun break_scribe/0},
-                               {true, "its collector went down (killed)", fun kill_collector/0},
-                               {false, "its collector went down (killed)", fun kill_collector/0}]].
+     || {Port, Why, Break} <-
+            [{true, "the trace file couldn't be written (enospc)", fun break_port/0},
+             {false, "the trace file couldn't be written (enospc)", fun break_scribe/0},
+             {true, "its collector went down (killed)", fun kill_collector/0},
+             {false, "its collector went down (killed)", fun kill_collector/0}]].
 
 begun_again(Port, Why, Break) ->
     Name = seqaudit_audits:file("again"),
@@ -98,7 +100,8 @@ other_tracer_test_() ->
          _ = seq_trace:set_system_tracer(Other),
          [{_, {gone, File, other_tracer}}] = seqaudit_trace:rotate(Name ++ ".1"),
          {ok, #{notes := Notes}} = seqaudit_convert:from_files([File], Name),
-         [_] = [Note || Note <- Notes, string:find(Note, "another system tracer took the collector's") =/= nomatch],
+         [_] = [Note || Note <- Notes,
+                string:find(Note, "another system tracer took the collector's") =/= nomatch],
          [{_, {error, other_tracer}}] = seqaudit_trace:rotate(Name ++ ".2"),
          Other = seq_trace:get_system_tracer(),
          _ = seq_trace:set_system_tracer(false),
@@ -110,8 +113,8 @@ other_tracer_test_() ->
          exit(Other, kill)
      end} || Port <- [true, false]].
 
-%% If the collector itself is the tracer, it goes on while a disk that takes its former files is stuck; nothing is
-%% lost. The file of facts is a pipe here, which nobody reads at first.
+%% If the collector itself is the tracer, it goes on while a disk that takes its former files is
+%% stuck; nothing is lost. The file of facts is a pipe here, which nobody reads at first.
 slow_disk_test_() ->
     {timeout, 120, fun() ->
         {Name, Facts} = begin_slow(),
@@ -134,7 +137,8 @@ cancel_on_slow_disk_test_() ->
         {Name, Facts} = begin_slow(),
         _ = spawn(fun() -> seqaudit_trace:rotate(Name ++ ".1") end),
         Collector = whereis(seqaudit_collector),
-        seqaudit_test_nodes:until(fun() -> seqaudit_collector:folder(Collector) =/= filename:dirname(Facts) end),
+        seqaudit_test_nodes:until(fun() ->
+            seqaudit_collector:folder(Collector) =/= filename:dirname(Facts) end),
         print_in_pace(1, 10),
         ok = seqaudit_trace:cancel(),
         false = seq_trace:get_system_tracer(),
@@ -155,8 +159,8 @@ begin_slow() ->
 read_slow(Facts, Seconds) ->
     [] = os:cmd(lists:concat(["timeout ", Seconds, " cat <>", Facts, " >/dev/null"])).
 
-%% 1,000 of these events would be too many for the collector's queue. A process that is new has to be asked for its
-%% name.
+%% 1,000 of these events would be too many for the collector's queue. A process that is new has to
+%% be asked for its name.
 print_in_pace(First, Last) ->
     lists:foreach(fun(N) ->
                           {_, Monitor} = spawn_monitor(fun() -> print_large(N) end),
@@ -167,7 +171,8 @@ print_in_pace(First, Last) ->
 print_large(N) ->
     seqaudit_trace:with_trace(1, fun() -> seq_trace:print({N, binary:copy(<<0>>, 1_024)}) end).
 
-%% One large event says nothing of those that wait behind it, and least of all right after the files were exchanged.
+%% One large event says nothing of those that wait behind it, and least of all right after the files
+%% were exchanged.
 large_event_test() ->
     Name = seqaudit_audits:file("large_event"),
     ok = seqaudit_trace:start(#{name => Name, port => false}),
@@ -184,8 +189,8 @@ large_event_test() ->
     {ok, #{events := 101, notes := Notes}} = seqaudit_trace:stop(),
     [] = [Note || Note <- Notes, string:find(Note, "ended early") =/= nomatch].
 
-%% The last moment without a message under way is before the send of a message that nobody received yet; one that waits
-%% since long doesn't count, nor does one whose send isn't there.
+%% The last moment without a message under way is before the send of a message that nobody received
+%% yet; one that waits since long doesn't count, nor does one whose send isn't there.
 quiet_test() ->
     [A, B] = [self(), spawn(fun() -> ok end)],
     Send = fun(N) -> {seq_trace, 1, {send, {N - 1, N}, A, B, N}} end,
@@ -194,30 +199,35 @@ quiet_test() ->
     {4, 2} = cut([[Send(1), Receive(1), Send(2), Receive(2), Send(3), Print(4)]]),
     {6, 0} = cut([[Send(1), Send(2), Receive(2), Send(3), Receive(3), Print(4)]]),
     {4, 0} = cut([[Receive(9), Send(2), Receive(2), Print(4)]]),
-    %% One of two that are alike, as when a token is put back, is under way yet; none of three that were received is.
+    %% One of two that are alike, as when a token is put back, is under way yet; none of three that
+    %% were received is.
     {2, 3} = cut([[Send(1), Receive(1), Send(1), Print(3), Print(4)]]),
     {4, 1} = cut([[Send(1), Send(1), Receive(1), Receive(1), Send(1)]]),
     {7, 0} = cut([[Send(1), Send(1), Receive(1), Send(1), Receive(1), Receive(1), Print(3)]]),
     %% One of three on two nodes is under way.
-    {4, 4, 2, 1} = cut([[Print(7), Print(8), Send(1), Receive(1), Send(2), Send(2), Send(2), Receive(2)],
-                        [Print(3), Print(4), Receive(2)]]),
+    {4, 4, 2, 1} =
+        cut([[Print(7), Print(8), Send(1), Receive(1), Send(2), Send(2), Send(2), Receive(2)],
+             [Print(3), Print(4), Receive(2)]]),
     %% On two nodes: what was sent here wasn't received there yet.
     {3, 1, 2, 0} = cut([[Send(1), Print(2), Print(3), Send(4)], [Receive(1), Print(5)]]).
 
 %% How many events each part of each file has.
 cut(Events) ->
     Names = [write(N, Own) || {N, Own} <- lists:enumerate(Events)],
-    [Own, Rest] = [[seqaudit_audits:file(lists:append(["quiet", integer_to_list(N), Which, ".events"]))
-                    || N <- lists:seq(1, length(Names))] || Which <- ["_own", "_rest"]],
+    [Own, Rest] =
+        [[seqaudit_audits:file(lists:append(["quiet", integer_to_list(N), Which, ".events"]))
+          || N <- lists:seq(1, length(Names))] || Which <- ["_own", "_rest"]],
     ok = seqaudit_quiet:cut(Names, Own, Rest),
-    list_to_tuple(lists:append([[count(First), count(Second)] || {First, Second} <- lists:zip(Own, Rest)])).
+    list_to_tuple(lists:append([[count(First), count(Second)]
+                                || {First, Second} <- lists:zip(Own, Rest)])).
 
 write(N, Events) ->
     Name = seqaudit_audits:file("quiet" ++ integer_to_list(N)),
     {ok, Device} = seqaudit_events:open(Name),
     ok = seqaudit_events:begin_collection(Device, #{node => node()}),
     ok = file:write(Device,
-                                seqaudit_spool:entry(#{processes => #{self() => #{name => tester}}, written => 17})),
+                                seqaudit_spool:entry(#{processes => #{self() => #{name => tester}},
+                                                       written => 17})),
     ok = file:write(Device, [[<<0, (byte_size(Bytes)):32>>, Bytes] || Event <- Events,
                                          Bytes <- [term_to_binary(Event)]]),
     ok = seqaudit_events:close(Device),
@@ -229,7 +239,8 @@ count(File) ->
     [#{name := tester} = maps:get(self(), Processes) || Events =/= []],
     length(Events).
 
-%% The rest of a period has its own collections and processes alone, or watching would take more with each period.
+%% The rest of a period has its own collections and processes alone, or watching would take more
+%% with each period.
 rest_test() ->
     [A, B, C] = [spawn(fun() -> ok end) || _ <- [a, b, c]],
     Name = seqaudit_audits:file("rest"),
@@ -239,16 +250,19 @@ rest_test() ->
          ok = file:write(Device, [seqaudit_spool:entry(Facts) || Facts <- Known]),
          ok = file:write(Device, [[<<0, (byte_size(Bytes)):32>>, Bytes]
                                               || Event <- Events, Bytes <- [term_to_binary(Event)]])
-     end || {Known, Events} <- [{[#{processes => #{A => #{name => a}}}, #{processes => #{B => #{name => b}}}],
-                                 [{seq_trace, 1, {print, {0, 1}, A, [], x}},
-                                  {seq_trace, 1, {print, {0, 1}, B, [], x}}]},
-                                {[#{processes => #{A => #{name => a}, B => #{name => b}}},
-                                  #{processes => #{C => #{name => c}}}],
-                                 [{seq_trace, 1, {print, {1, 2}, A, [], x}}, {seq_trace, 1, {print, {0, 1}, C, [], x}},
-                                  {seq_trace, 1, {send, {1, 2}, C, B, x}}]}]],
+     end || {Known, Events} <-
+                [{[#{processes => #{A => #{name => a}}}, #{processes => #{B => #{name => b}}}],
+                  [{seq_trace, 1, {print, {0, 1}, A, [], x}},
+                   {seq_trace, 1, {print, {0, 1}, B, [], x}}]},
+                 {[#{processes => #{A => #{name => a}, B => #{name => b}}},
+                   #{processes => #{C => #{name => c}}}],
+                  [{seq_trace, 1, {print, {1, 2}, A, [], x}},
+                   {seq_trace, 1, {print, {0, 1}, C, [], x}},
+                   {seq_trace, 1, {send, {1, 2}, C, B, x}}]}]],
     ok = seqaudit_events:close(Device),
     {4, 1} = cut_file(Name ++ ".events"),
-    {ok, [#{processes := #{} = Left}]} = seqaudit_test_files:read(seqaudit_audits:file("rest_rest") ++ ".events"),
+    {ok, [#{processes := #{} = Left}]} =
+        seqaudit_test_files:read(seqaudit_audits:file("rest_rest") ++ ".events"),
     [#{name := b}, #{name := c}] = [maps:get(Pid, Left) || Pid <- [B, C]],
     2 = map_size(Left).
 
@@ -264,10 +278,11 @@ never_quiet_test() ->
     Events = lists:append([[{seq_trace, 1, {send, {N, N + 1}, A, B, N}},
                             {seq_trace, 1, {'receive', {N - 1, N}, A, B, N - 1}}]
                            || N <- lists:seq(1, 100)]),
-    none = seqaudit_quiet:cut([write(1, Events)], [seqaudit_audits:file("x_own")], [seqaudit_audits:file("x_rest")]).
+    none = seqaudit_quiet:cut([write(1, Events)], [seqaudit_audits:file("x_own")],
+                              [seqaudit_audits:file("x_rest")]).
 
-%% A node under load is watched: what fits goes, a reset is kept with the periods beside it, and the command ends at
-%% once.
+%% A node under load is watched: what fits goes, a reset is kept with the periods beside it, and the
+%% command ends at once.
 watch_test_() ->
     with_gemshowal("w", fun watched/4).
 
@@ -285,13 +300,15 @@ begun(There, Name, Gemshowal, Test) ->
     _ = file:del_dir_r(Folder),
     ok = file:make_dir(Folder),
     Said = filename:join(Folder, "said"),
-    _ = seqaudit_test_shell:begin_run(["echo $$ >", Folder, "/pid; exec ", seqaudit_test_shell:node_command(),
+    _ = seqaudit_test_shell:begin_run(["echo $$ >", Folder, "/pid; exec ",
+                                       seqaudit_test_shell:node_command(),
                                        " watch --node ",
-                                       atom_to_list(There), " --every 2 -o ", filename:join(Folder, Name), " >", Said,
+                                       atom_to_list(There), " --every 2 -o ",
+                                       filename:join(Folder, Name), " >", Said,
                                        " 2>&1"],
                                       [{"GEMSHOWAL", Gemshowal} | seqaudit_test_shell:cookie()]),
     seqaudit_test_nodes:until(fun() -> seqaudit_test_nodes:is_traced(There) end),
-    Service = served(There, 25),
+    Service = served(There, calls, 25),
     Says = fun(Pattern) ->
                    {ok, Text} = file:read_file(Said),
                    case re:run(Text, Pattern, [global, {capture, all, list}]) of
@@ -320,16 +337,19 @@ begun(There, Name, Gemshowal, Test) ->
     exit(Service, kill).
 
 %% The node has this module and a service.
-served(There, InSecond) ->
-    {_, Binary, File} = code:get_object_code(?MODULE),
-    {module, _} = erpc:call(There, code, load_binary, [?MODULE, File, Binary]),
-    erpc:call(There, erlang, spawn, [?MODULE, serve, [InSecond]]).
+served(There, Service, InSecond) ->
+    [begin
+         {_, Binary, File} = code:get_object_code(Module),
+         {module, _} = erpc:call(There, code, load_binary, [Module, File, Binary])
+     end || Module <- [?MODULE, seqaudit_test_server, seqaudit_test_services]],
+    erpc:call(There, erlang, spawn, [seqaudit_test_services, Service, [InSecond]]).
 
 watched(There, Name, Says, End) ->
     seqaudit_test_nodes:until(fun() -> length(Says("period [0-9]+: fits.*: .* not kept")) >= 3 end),
     _ = erpc:call(There, seq_trace, reset_trace, []),
     seqaudit_test_nodes:until(fun() -> Says("period [0-9]+: doesn't fit.*: ") =/= [] end),
-    seqaudit_test_nodes:until(fun() -> Says("doesn't fit.*: .*\n.*period [0-9]+: fits.*: .*; kept as ") =/= [] end),
+    seqaudit_test_nodes:until(fun() ->
+        Says("doesn't fit.*: .*\n.*period [0-9]+: fits.*: .*; kept as ") =/= [] end),
     seqaudit_test_nodes:until(fun() -> length(Says("period [0-9]+: fits.*: .* not kept")) >= 5 end),
     Ended = erlang:monotonic_time(millisecond),
     1 = End(),
@@ -340,20 +360,23 @@ watched(There, Name, Says, End) ->
     [[_, Unfit]] = Says("period ([0-9]+): doesn't fit.*: "),
     Around = lists:sort([integer_to_list(list_to_integer(Unfit) + N) || N <- [-1, 0, 1]]),
     Around = lists:sort([Number || One <- filelib:wildcard(Name ++ ".*.seqtrace"),
-                                   ["w", Number, "seqtrace"] <- [string:split(filename:basename(One), ".", all)]]),
+                                   ["w", Number, "seqtrace"] <-
+                                       [string:split(filename:basename(One), ".", all)]]),
     [_ | _] = Says("cut at a quiet moment"),
     [[_]] = Says("[0-9]+ periods, 3 kept; period [0-9]+, which was running, isn't audited\n"),
     [] = filelib:wildcard(Name ++ ".*.rest.events").
 
-%% A collector that ended by itself is begun again: the line says since when what is lost, and the next periods are
-%% whole.
+%% A collector that ended by itself is begun again: the line says since when what is lost, and the
+%% next periods are whole.
 ended_test_() ->
     with_gemshowal("ended", fun(There, Name, Says, End) ->
         seqaudit_test_nodes:until(fun() -> Says("period [0-9]+: fits.*: .* not kept") =/= [] end),
         ok = erpc:call(There, fun() -> _ = break_port(), ok end),
         seqaudit_test_nodes:until(fun() ->
-            Says("period [0-9]+: .*; [^;]*: collecting ended early, at 2[^;]*: the trace file couldn't be written "
-                 "\\(enospc\\); cut at its end, [^ ]* had stopped collecting and began again; not kept") =/= []
+            Says("period [0-9]+: .*; [^;]*: collecting ended early, at 2[^;]*: the trace file "
+                 "couldn't be written "
+                 "\\(enospc\\); cut at its end, [^ ]* had stopped collecting and began again; not "
+                 "kept") =/= []
         end),
         seqaudit_test_nodes:until(fun() ->
             Says("began again; .*\n(.*period [0-9]+: fits.*: .*; not kept\n){3}") =/= []
@@ -367,11 +390,14 @@ back_test_() ->
     with_gemshowal("back", fun(There, _Name, Says, End) ->
         seqaudit_test_nodes:until(fun() -> Says("period [0-9]+: fits.*: .* not kept") =/= [] end),
         seqaudit_test_nodes:kill(There),
-        seqaudit_test_nodes:until(fun() -> Says("wasn't asked \\(it can't be reached\\)") =/= [] end),
+        seqaudit_test_nodes:until(fun() ->
+            Says("wasn't asked \\(it can't be reached\\)") =/= [] end),
         Stop = seqaudit_test_nodes:again(There),
-        seqaudit_test_nodes:until(fun() -> Says("had stopped collecting and began again") =/= [] end),
-        _ = served(There, 25),
-        seqaudit_test_nodes:until(fun() -> Says("began again; .*\n(.*\n)*.*period [0-9]+: fits.*: ") =/= [] end),
+        seqaudit_test_nodes:until(fun() ->
+            Says("had stopped collecting and began again") =/= [] end),
+        _ = served(There, calls, 25),
+        seqaudit_test_nodes:until(fun() ->
+            Says("began again; .*\n(.*\n)*.*period [0-9]+: fits.*: ") =/= [] end),
         0 = End(),
         Stop()
     end).
@@ -382,30 +408,11 @@ unaudited_test_() ->
         with_watch("unaudited", "/no/such/gemshowal", fun(_There, Name, Says, End) ->
             Advice = "there is no /no/such/gemshowal, which the variable GEMSHOWAL names",
             seqaudit_test_nodes:until(fun() ->
-                length(Says("period [0-9]+: [0-9]+ events, not audited: " ++ Advice ++ "; cut .*; kept as ")) >= 2
+                length(Says("period [0-9]+: [0-9]+ events, not audited: " ++ Advice
+                            ++ "; cut .*; kept as ")) >= 2
             end),
             1 = End(),
             [[_]] = Says("seqaudit-node: " ++ Advice ++ "; periods are kept without an audit\n"),
             [_, _ | _] = filelib:wildcard(Name ++ ".*.seqtrace")
         end)
     end}.
-
-%% Makes this many requests a second, each with a process and a label of its own; whoever makes them has no token.
-serve(InSecond) ->
-    drive(spawn_link(?MODULE, answer, []), InSecond, erlang:monotonic_time(millisecond), 0).
-
-%% A request that comes late, as on a busy machine, doesn't delay those behind it.
-drive(Service, InSecond, Began, N) ->
-    _ = spawn(?MODULE, request, [Service, N]),
-    Next = Began + (N + 1) * 1_000 div InSecond,
-    receive after max(0, Next - erlang:monotonic_time(millisecond)) -> drive(Service, InSecond, Began, N + 1) end.
-
-answer() ->
-    receive {Client, ask} -> Client ! {self(), answer} end,
-    answer().
-
-request(Service, N) ->
-    seqaudit_trace:with_trace({request, N}, fun() ->
-        Service ! {self(), ask},
-        receive {Service, answer} -> ok end
-    end).

@@ -3,8 +3,7 @@
 -module(seqaudit_spawns_tests).
 
 -export([requests_are_whole_test_/0, births_come_first_test/0, only_births_move_test/0,
-         answers_test/0, signs_test/0,
-         children_that_spawn_test_/0]).
+         answers_test/0, signs_test/0, children_that_spawn_test_/0]).
 
 %% Each request runs in a process of its own, calls the server, waits for a task that calls it, and
 %% calls it again: 21 events with its print. Nothing is left out, by either tracer, whatever the
@@ -140,21 +139,7 @@ served(Name, Requests, Options) ->
     Server = seqaudit_test_server:start(fun(X) -> X end),
     ok = seqaudit_trace:start(Options#{name => Name}),
     [begin
-         {Pid, Monitor} = spawn_monitor(fun() -> request(Server, Number) end),
+         {Pid, Monitor} = spawn_monitor(seqaudit_test_services, request, [Server, Number]),
          receive {'DOWN', Monitor, process, Pid, normal} -> ok end
      end || Number <- lists:seq(1, Requests)],
     seqaudit_trace:stop().
-
-request(Server, Number) ->
-    seqaudit_trace:with_trace({request, Number}, fun() ->
-        seq_trace:print({'begin', Number}),
-        user = gen_server:call(Server, user),
-        Self = self(),
-        {Task, Monitor} = spawn_monitor(fun() ->
-            receive {Self, Reference} ->
-                Self ! {Reference, gen_server:call(Server, {row, Number})} end
-        end),
-        Task ! {Self, Monitor},
-        receive {Monitor, Row} -> demonitor(Monitor, [flush]), Row end,
-        gen_server:call(Server, {done, Row})
-    end).
