@@ -19,13 +19,12 @@ pairs_test_() ->
         Releases ->
             {timeout, 900, fun() ->
                 Applications = [{Release, application(Release)} || Release <- Releases],
-                Nodes = [{Release, node(Release, Application)}
-                         || {Release, Application} <- Applications],
+                Nodes = [node(Release, Application) || {Release, Application} <- Applications],
                 try
                     [pair(Command, Application, Node)
                      || {Command, Application} <- Applications, Node <- Nodes]
                 after
-                    [stop(Port) || {_, {_, Port}} <- Nodes]
+                    [stop(Port) || {_, Port} <- Nodes]
                 end
             end}
     end.
@@ -68,9 +67,8 @@ stop(Port) ->
     {os_pid, Pid} = erlang:port_info(Port, os_pid),
     [] = os:cmd("kill " ++ integer_to_list(Pid)).
 
-pair(Command, Application, {Release, {Node, _}}) ->
-    Name = filename:join(Application,
-                         filename:basename(filename:dirname(filename:dirname(Release)))),
+pair(Command, Application, {Node, _}) ->
+    Name = filename:join(Application, "pair"),
     Run = fun(Words) ->
                   shell(Command, ["timeout ", integer_to_list(?BEGUN_S), $\s, Application,
                                   "/seqaudit-node ", Words,
@@ -90,9 +88,11 @@ pair(Command, Application, {Release, {Node, _}}) ->
     nomatch = binary:match(Watched, <<"no events came">>).
 
 %% Waits until the command has told of its second period, for which a busy machine needs a while.
+%% What the command of another pair said is removed first.
 watched(Command, Watch, Said) ->
-    shell(Command, [Watch, " >", Said, " 2>&1 & command=$!; seconds=0; until grep -q 'period 2: ' ", Said,
-                    " || [ $seconds = ", integer_to_list(?BEGUN_S), " ]; do sleep 1; seconds=$((seconds + 1)); done; "
+    shell(Command, ["rm -f ", Said, "; ", Watch, " >", Said, " 2>&1 & command=$!; seconds=0; "
+                    "until grep -qs 'period 2: ' ", Said, " || [ $seconds = ",
+                    integer_to_list(?BEGUN_S), " ]; do sleep 1; seconds=$((seconds + 1)); done; "
                     "kill $command; wait $command; cat ", Said]).
 
 %% The node may not be there yet.
@@ -113,8 +113,7 @@ shell(Release, Words) ->
                                     {"SEQAUDIT_COOKIE", ?COOKIE}]).
 
 %% A node of another release that has no compiler gets the modules as they are, and the command says
-%% so if it can't
-%% load them.
+%% so if it can't load them.
 without_compiler_test() ->
     here = seqaudit_load:from(node(), erlang:system_info(otp_release)),
     compiled = seqaudit_load:from(node(), "another"),
