@@ -3,7 +3,7 @@
 
 -export([rotate_test_/0, again_test_/0, other_tracer_test_/0, slow_disk_test_/0,
          cancel_on_slow_disk_test_/0, large_event_test/0, ended_test_/0, back_test_/0,
-         quiet_test/0, rest_test/0, never_quiet_test/0, watch_test_/0,
+         wrapped_test_/0, quiet_test/0, rest_test/0, never_quiet_test/0, watch_test_/0,
          unaudited_test_/0]).
 
 %% No event is lost between two files, and processes keep their names.
@@ -400,6 +400,17 @@ back_test_() ->
             Says("began again; .*\n(.*\n)*.*period [0-9]+: fits.*: ") =/= [] end),
         0 = End(),
         Stop()
+    end).
+
+%% The periods of a service that spawns under its tokens fit too, though its counters wrap.
+wrapped_test_() ->
+    with_gemshowal("wrapped", fun(There, Name, Says, End) ->
+        _ = served(There, spawns, 25),
+        seqaudit_test_nodes:until(fun() ->
+            length(Says("period [0-9]+: fits: .*; the counters? of .* from before; .*; not kept")) >= 3
+        end),
+        0 = End(),
+        [] = filelib:wildcard(Name ++ ".*")
     end).
 
 %% Without gemshowal each period is kept, and its line says that it wasn't audited, and what to do.

@@ -5,7 +5,7 @@
 //! that the answer of a spawn is `answer` in place of `'receive'`. So it is rewritten as one of
 //! version 2, which the proved reader then reads. The rewriting isn't proved.
 
-use crate::{Event, Kind, OutOfMemory, Pid, ReadError, Trace};
+use crate::{Event, Kind, OutOfMemory, Pid, ReadError, Serial, Trace};
 use node_given::Way;
 use node_machine::Seen;
 use node_origins::EventOrigins;
@@ -92,14 +92,31 @@ impl NodeTrace {
     pub fn audit(&self) -> Result<NodeFinding, OutOfMemory> {
         let streams = self.trace.streams();
         let judgement = node_streams::judge(Global, streams)?;
-        let ways = |(pid, events): (Pid, &[Event])| {
-            Ok((pid, node_given::given(Global, &self.seen(pid, events))?.as_slice().to_vec()))
-        };
+        let ways = |(pid, events): (Pid, &[Event])| Ok((pid, given(&self.seen(pid, events))?));
         Ok(NodeFinding {
             unsent: judgement.unsent.as_slice().to_vec(),
             cycle: judgement.cycle.as_slice().to_vec(),
             ways: self.trace.processes().map(ways).collect::<Result<_, OutOfMemory>>()?,
         })
+    }
+
+    /// Finds the processes whose first send or print is ungiven, unless their counters go on from
+    /// before the trace: its index, and the way in which each event is given then. One that was
+    /// spawned in the trace isn't among them.
+    pub fn from_before(
+        &self,
+        finding: &NodeFinding,
+    ) -> Result<Vec<(Pid, u64, Vec<Way>)>, OutOfMemory> {
+        let answers = self.events(Kind::Receive).filter(|&(place, _)| self.is_answer(place));
+        let spawned: HashSet<Pid> = answers.map(|(_, event)| event.from).collect();
+        let mut found = Vec::new();
+        for &(pid, ref ways) in finding.ways.iter().filter(|(pid, _)| !spawned.contains(pid)) {
+            let first = ways.iter().position(|&way| way != Way::Receive);
+            let Some(first) = first.filter(|&at| ways[at] == Way::Ungiven) else { continue };
+            let seen = self.seen(pid, self.trace.streams().events(pid));
+            found.extend(given_from_before(&seen, first)?.map(|ways| (pid, first as u64, ways)));
+        }
+        Ok(found)
     }
 
     /// Finds what the token of each event of a process may have come from.
@@ -142,6 +159,52 @@ impl NodeTrace {
         };
         events.iter().zip(0..).map(seen).collect()
     }
+}
+
+fn given(seen: &[Seen]) -> Result<Vec<Way>, OutOfMemory> {
+    Ok(node_given::given(Global, seen)?.as_slice().to_vec())
+}
+
+/// Returns what gives each event of a process if its counters go on from before the first of them,
+/// so that they lead to its first stamp. The upper bits of the clock, which no serial shows, are
+/// those with which the fewest later stamps are ungiven.
+fn given_from_before(seen: &[Seen], first: usize) -> Result<Option<Vec<Way>>, OutOfMemory> {
+    let mut best: Option<(usize, Vec<Way>)> = None;
+    for upper in 0..1 << (u64::BITS - COUNTS.trailing_zeros()) {
+        let mut all = past(seen, first, upper);
+        let past = all.len();
+        all.extend_from_slice(seen);
+        let ways = given(&all)?.split_off(past);
+        let ungiven = ways.iter().filter(|&&way| way == Way::Ungiven).count();
+        if ways[first] == Way::Plain && best.as_ref().is_none_or(|(least, _)| ungiven < *least) {
+            best = Some((ungiven, ways));
+        }
+        if matches!(best, Some((0, _))) {
+            break;
+        }
+    }
+    Ok(best.map(|(_, ways)| ways))
+}
+
+/// Returns events that leave a process with the clock from which its first stamp goes on. The
+/// answer of a spawn sets a clock to any count that ends in 15, and prints raise it. If nothing was
+/// received before the stamp, its token was received in the past.
+fn past(seen: &[Seen], first: usize, upper: u64) -> Vec<Seen> {
+    let stamp = seen[first];
+    let clock = upper * COUNTS + stamp.serial.this.wrapping_sub(1) % COUNTS;
+    let event =
+        |kind, prev, this| Seen { kind, serial: Serial { prev, this }, answer: false, ..stamp };
+    let mut past = Vec::new();
+    let answered = clock.checked_sub(15).map(|it| it / 16);
+    if let Some(this) = answered {
+        past.push(Seen { answer: true, ..event(Kind::Receive, 0, this) });
+    }
+    let begin = answered.map_or(0, |it| 16 * it + 15);
+    past.extend((begin..clock).map(|it| event(Kind::Print, begin % COUNTS, (it + 1) % COUNTS)));
+    if first == 0 {
+        past.push(event(Kind::Receive, stamp.serial.prev, stamp.serial.prev));
+    }
+    past
 }
 
 /// A text of version 3 as one of version 1 or 2, line by line.

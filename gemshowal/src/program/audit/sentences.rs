@@ -313,20 +313,10 @@ impl Sentences<'_> {
     }
 
     fn write_beginnings(&self, out: &mut Output) -> io::Result<()> {
-        let before = self.counted(|it| it.before);
-        if let (Some(((first, stood), rest)), false) = (before.split_first(), self.is_cut()) {
-            let first = format!("{} was {}", self.shown.process(*first), grouped(*stood));
-            let rest = rest.iter().map(|(pid, stood)| {
-                format!("that of {} {}", self.shown.process(*pid), grouped(*stood))
-            });
-            let was: Vec<String> = [first].into_iter().chain(rest).collect();
-            writeln!(
-                out,
-                "Counters go on from trace to trace, and count what isn't reported too. Before the \
-                 first send or print here, the counter of {}. That is usual if the node was traced \
-                 before; `seqaudit-node collect --reset' begins with all counters at 0.",
-                of_processes(&was, String::clone)
-            )?;
+        if !self.is_cut() {
+            let before = self.counted(|it| it.before).into_iter();
+            let named = |(pid, stood)| (self.shown.process(pid).into_owned(), grouped(stood));
+            write_counters(&before.map(named).collect::<Vec<_>>(), out)?;
         }
         let spawns = self.counted(|it| it.spawns);
         if !spawns.is_empty() {
@@ -419,6 +409,20 @@ pub(super) fn listed<T>(things: &[T], say: impl Fn(&T) -> String, more: &str) ->
         said.push(format!("and {} {more}", grouped(rest as u64)));
     }
     said.join(", ")
+}
+
+/// Writes where the counters of these processes stood before the trace.
+pub(super) fn write_counters(before: &[(String, String)], out: &mut Output) -> io::Result<()> {
+    let Some(((first, stood), rest)) = before.split_first() else { return Ok(()) };
+    let rest = rest.iter().map(|(name, stood)| format!("that of {name} {stood}"));
+    let was: Vec<String> = [format!("{first} was {stood}")].into_iter().chain(rest).collect();
+    writeln!(
+        out,
+        "Counters go on from trace to trace, and count what isn't reported too. Before the first \
+         send or print here, the counter of {}. That is usual if the node was traced before; \
+         `seqaudit-node collect --reset' begins with all counters at 0.",
+        of_processes(&was, String::clone)
+    )
 }
 
 pub(super) fn of_processes<T>(things: &[T], say: impl Fn(&T) -> String) -> String {

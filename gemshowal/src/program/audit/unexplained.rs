@@ -66,6 +66,14 @@ impl<'a> Explainer<'a> {
         }
     }
 
+    /// Returns whether a message or a token of this trace may explain the serial.
+    pub(super) fn has_source(&self, place: Place) -> bool {
+        event_at(self.trace, place).is_some_and(|event| {
+            self.unreported_receive(place.0, event.serial).is_some()
+                || self.holder(place.0, &event).is_some()
+        })
+    }
+
     /// Says what may explain this receive, whose send wasn't reported.
     pub(super) fn unsent(&self, place: Place) -> String {
         let Some(event) = event_at(self.trace, place) else { return String::new() };

@@ -1,7 +1,7 @@
 //! The audit of a trace whose counters have wrapped, by the laws of a standard node: they ask
 //! nothing of the order of counts.
 
-use super::sentences::{listed, write_all, write_losses};
+use super::sentences::{listed, write_all, write_counters, write_losses};
 use super::unexplained::{serial_text, Explainer};
 use crate::args::Audit;
 use crate::names::Names;
@@ -10,7 +10,9 @@ use crate::output::Output;
 use crate::times::summary;
 use crate::view::{count, grouped, Place};
 use crate::{Failure, Status, Task};
-use gemshowal::{Event, Kind, MessageContent, NodeFinding, NodeTrace, Pid, Serial, Way};
+use gemshowal::{
+    signed, Event, Kind, MessageContent, NodeFinding, NodeTrace, Pid, Serial, Way, COUNTS,
+};
 use serde::Serialize;
 use std::collections::{HashMap, HashSet};
 use std::io::{self, Write};
@@ -89,6 +91,8 @@ struct Judged<'a> {
     put_backs: Vec<PutBack>,
     /// The sends and prints that nothing their process had gives.
     ungiven: Vec<Place>,
+    /// The first send or print of each process whose counter goes on from before the trace.
+    earlier: Vec<Place>,
     /// The receives of messages that were sent less often than received.
     doubled: Vec<Place>,
     /// The sends whose receive wasn't reported.
@@ -97,19 +101,32 @@ struct Judged<'a> {
 
 impl<'a> Judged<'a> {
     fn of(trace: &'a NodeTrace, names: &'a Names) -> Result<Judged<'a>, Failure> {
-        let finding = trace.audit()?;
+        let mut finding = trace.audit()?;
         let sent: HashSet<MessageContent> =
             trace.events(Kind::Send).map(|(_, event)| MessageContent::of(event)).collect();
         let is_sent = |&place: &Place| {
             event_at(trace, place).is_some_and(|event| sent.contains(&MessageContent::of(&event)))
         };
+        let waiting = trace.unreceived();
+        let explainer = Explainer::new(trace, names, &waiting);
+        // What the trace itself may explain isn't said to come from before it.
+        let from_before = trace.from_before(&finding)?.into_iter();
+        let from_before = from_before.filter(|it| !explainer.has_source((it.0, it.1)));
+        let mut earlier = Vec::new();
+        for (pid, first, ways) in from_before {
+            earlier.push((pid, first));
+            if let Ok(at) = finding.ways.binary_search_by_key(&pid, |it| it.0) {
+                finding.ways[at].1 = ways;
+            }
+        }
         Ok(Judged {
             trace,
             names,
             put_backs: put_backs(trace, &finding),
             ungiven: finding.places(|way| way == Way::Ungiven),
+            earlier,
             doubled: finding.unsent.iter().copied().filter(is_sent).collect(),
-            waiting: trace.unreceived(),
+            waiting,
             finding,
         })
     }
@@ -141,7 +158,13 @@ impl<'a> Judged<'a> {
             Said::Unexplained => {
                 format!("fits if something wasn't reported: {}", self.unexplained())
             }
-            Said::Fits => format!("fits: {}{}{}", self.size(), self.missing(), self.tokens()),
+            Said::Fits => format!(
+                "fits: {}{}{}{}",
+                self.size(),
+                self.beginnings(),
+                self.missing(),
+                self.tokens()
+            ),
         }
     }
 
@@ -149,6 +172,14 @@ impl<'a> Judged<'a> {
         let streams = self.trace.trace().streams();
         let processes = streams.pids().len() as u64;
         format!("{} of {}", count(streams.total(), "event"), count(processes, "process"))
+    }
+
+    fn beginnings(&self) -> String {
+        match self.earlier.len() as u64 {
+            0 => String::new(),
+            1 => "; the counter of 1 process goes on from before".into(),
+            more => format!("; the counters of {more} processes go on from before"),
+        }
     }
 
     fn missing(&self) -> String {
@@ -196,6 +227,7 @@ impl<'a> Judged<'a> {
             writeln!(out, "{FINAL}")?;
         }
         self.write_unexplained(out)?;
+        write_counters(&self.counters(), out)?;
         write_all(out, &self.put_backs, |put_back| self.sentence(put_back))?;
         write_losses(self.names.losses(), out)?;
         if let Some(times) = self.names.times() {
@@ -213,6 +245,16 @@ impl<'a> Judged<'a> {
         write_all(out, &self.finding.unsent, |&place| {
             format!("{}: {}", self.names.event(place), explainer.unsent(place))
         })
+    }
+
+    /// Returns the processes whose counter goes on from before the trace, with its count.
+    fn counters(&self) -> Vec<(String, String)> {
+        let counter = |&place: &Place| {
+            let stamp = event_at(self.trace, place)?.serial.this;
+            let stood = signed(stamp.wrapping_sub(1) % COUNTS);
+            Some((self.names.process(place.0).into_owned(), stood.to_string()))
+        };
+        self.earlier.iter().filter_map(counter).collect()
     }
 
     fn stamp(&self, place: Place) -> String {
@@ -254,6 +296,7 @@ impl<'a> Judged<'a> {
                 .iter()
                 .map(|it| UnexplainedObject { place: place(it), why: explainer.explanation(*it) })
                 .collect(),
+            earlier: places(&self.earlier),
             unsent: places(&self.finding.unsent),
             cycle: places(&self.finding.cycle),
             waiting: places(&self.waiting),
@@ -329,6 +372,7 @@ struct Object<'a> {
     processes: usize,
     put_backs: Vec<PutBackObject>,
     unexplained: Vec<UnexplainedObject>,
+    earlier: Vec<PlaceObject>,
     unsent: Vec<PlaceObject>,
     cycle: Vec<PlaceObject>,
     waiting: Vec<PlaceObject>,
