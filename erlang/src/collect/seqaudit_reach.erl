@@ -28,10 +28,9 @@ is_node_name(Word) ->
 %% Nodes of one kind can't reach those of the other.
 -spec kind(node()) -> longnames | shortnames.
 kind(Node) ->
-    case string:find(string:find(atom_to_list(Node), "@"), ".") =:= nomatch
-        andalso string:find(atom_to_list(Node), ":") =:= nomatch of
-        true -> shortnames;
-        false -> longnames
+    case re:run(atom_to_list(Node), "@.*\\.|:", [unicode]) of
+        nomatch -> shortnames;
+        {match, _} -> longnames
     end.
 
 %% @doc Makes this a node that can reach this one, with the cookie that the options name, or else

@@ -78,8 +78,8 @@ files(Folder) ->
             Numbers = lists:sort([Number || Name <- Names, Number <- number(Name)]),
             {Base, Suffix} = base(Folder),
             Events = [Base ++ integer_to_list(Number) ++ Suffix || Number <- from_oldest(Numbers)],
-            {ok, [{File, Size} || File <- [filename:join(Folder, ?FACTS) | Events],
-                                  Size <- size_of(File)]};
+            {ok, [{File, filelib:file_size(File)}
+                  || File <- [filename:join(Folder, ?FACTS) | Events], filelib:is_regular(File)]};
         {error, Reason} ->
             {error, {file, Folder, Reason}}
     end.
@@ -96,12 +96,6 @@ from_oldest(Numbers) ->
     {Newer, Older} = lists:splitwith(fun({Place, Number}) -> Place =:= Number end,
                                      lists:zip(lists:seq(0, length(Numbers) - 1), Numbers)),
     [Number || {_, Number} <- Older ++ Newer].
-
-size_of(File) ->
-    case filelib:is_regular(File) of
-        true -> [filelib:file_size(File)];
-        false -> []
-    end.
 
 %% @doc A piece of a file of the folder.
 -spec read(file:filename(), non_neg_integer(), pos_integer()) ->

@@ -245,22 +245,20 @@ without_parts(<<?NEW_PID, Rest/binary>>) ->
     with_node(<<?NEW_PID>>, Rest, <<>>, 12);
 without_parts(<<?NEWER_REFERENCE, Words:16, Rest/binary>>) when Words =< 5 ->
     with_node(<<?NEWER_REFERENCE, Words:16>>, Rest, <<>>, 4 + 4 * Words);
-without_parts(Bytes) ->
-    seldom(Bytes).
-
-seldom(<<?V4_PORT, Rest/binary>>) ->
+without_parts(<<?V4_PORT, Rest/binary>>) ->
     with_node(<<?V4_PORT>>, Rest, <<>>, 12);
-seldom(<<?NEW_PORT, Rest/binary>>) ->
+without_parts(<<?NEW_PORT, Rest/binary>>) ->
     with_node(<<?V4_PORT>>, Rest, <<0:32>>, 8);
-seldom(<<?LARGE_BIG, Size:32, Bytes:(Size + 1)/binary, Rest/binary>>) ->
+without_parts(<<?LARGE_BIG, Size:32, Bytes:(Size + 1)/binary, Rest/binary>>) ->
     {<<?LARGE_BIG, Size:32, Bytes/binary>>, Rest};
-seldom(<<?BIT_BINARY, Size:32, Bits, Bytes:Size/binary, Rest/binary>>) when Bits >= 1, Bits =< 8 ->
+without_parts(<<?BIT_BINARY, Size:32, Bits, Bytes:Size/binary, Rest/binary>>)
+  when Bits >= 1, Bits =< 8 ->
     {<<?BIT_BINARY, Size:32, Bits, Bytes/binary>>, Rest};
-seldom(<<Tag, _/binary>> = Bytes) when ?IS_KNOWN(Tag) ->
+without_parts(<<Tag, _/binary>> = Bytes) when ?IS_KNOWN(Tag) ->
     take_atom(Bytes);
-seldom(<<_, _/binary>>) ->
+without_parts(<<_, _/binary>>) ->
     newer;
-seldom(<<>>) ->
+without_parts(<<>>) ->
     throw(damaged).
 
 %% Takes the name of a node and numbers of this size, with something between.
@@ -555,17 +553,9 @@ elements(Left, Bytes) ->
 %% @doc The keys of a map, which are atoms, with their values. A pair with another key isn't among
 %% them.
 -spec pairs(encoded()) -> #{binary() => encoded()} | other.
-pairs(<<?MAP, Pairs:32, Rest/binary>>) -> pairs(Pairs, Rest, #{});
+pairs(<<?MAP, _/binary>> = Map) ->
+    maps:from_list([{Name, Value} || {Key, Value} <- map(Map), {Name, <<>>} <- [atom_name(Key)]]);
 pairs(_) -> other.
-
-pairs(0, _Rest, Done) -> Done;
-pairs(Left, Bytes, Done) ->
-    {Key, Rest0} = first(Bytes),
-    {Value, Rest} = first(Rest0),
-    case atom_name(Key) of
-        {Name, <<>>} -> pairs(Left - 1, Rest, Done#{Name => Value});
-        _ -> pairs(Left - 1, Rest, Done)
-    end.
 
 %% @doc The pairs of a map.
 -spec map(encoded()) -> [{encoded(), encoded()}].
@@ -660,14 +650,10 @@ signed(_, N) -> -N.
 request(<<?SMALL_TUPLE, 3, ?ATOM, 9:16, "$gen_call", ?SMALL_TUPLE, 2, Rest/binary>>) ->
     {Owner, Tag} = first(Rest),
     case Tag of
-        <<?LIST, 1:32, ?ATOM, 5:16, "alias", Alias/binary>> -> {Owner, alias_in(Alias)};
+        <<?LIST, 1:32, ?ATOM, 5:16, "alias", Alias/binary>> -> {Owner, element(1, first(Alias))};
         <<?LIST, _:32, ?LIST, 1:32, ?ATOM, 5:16, "alias", Alias/binary>> ->
-            {Owner, alias_in(Alias)};
+            {Owner, element(1, first(Alias))};
         _ -> none
     end;
 request(_) ->
     none.
-
-alias_in(Bytes) ->
-    {Alias, _} = first(Bytes),
-    Alias.

@@ -5,7 +5,7 @@
 %% together.
 -module(seqaudit_numbers).
 
--export([new/0, number/2, numbers/2, size/1, part/3, listed/1, few/0, number_few/2, terms/1]).
+-export([new/0, numbers/2, size/1, part/3, listed/1, few/0, number_few/2, terms/1]).
 -export_type([table/0, few/0]).
 
 -compile({no_auto_import, [size/1]}).
@@ -24,12 +24,6 @@
 new() ->
     #table{numbers = ets:new(?MODULE, [set, protected]),
            listed = ets:new(?MODULE, [ordered_set, protected])}.
-
-%% @doc The term's number; a term that isn't in the table gets the next one.
--spec number(seqaudit_external:encoded(), table()) -> non_neg_integer().
-number(Term, Table) ->
-    [Number] = numbers([Term], Table),
-    Number.
 
 %% @doc The numbers of terms; each that isn't in the table gets the next one.
 -spec numbers([seqaudit_external:encoded()], table()) -> [non_neg_integer()].

@@ -85,8 +85,9 @@ owners(Wanted, #build{values = Values, others = Others, actors = Actors}) ->
     Ask = fun(Message, Owners) ->
                   case seqaudit_external:request(Message) of
                       {<<88, _/binary>> = Owner, Alias} ->
-                          own(?OTHER bor seqaudit_numbers:number(Alias, Others),
-                              seqaudit_numbers:number(Owner, Actors), Owners);
+                          [Handed] = seqaudit_numbers:numbers([Alias], Others),
+                          [Own] = seqaudit_numbers:numbers([Owner], Actors),
+                          own(?OTHER bor Handed, Own, Owners);
                       _ -> Owners
                   end
           end,
