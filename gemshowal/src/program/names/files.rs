@@ -28,11 +28,14 @@ pub(crate) enum Fault {
     Unlike { file: PathBuf, label: u32 },
 }
 
-/// Opens a file, if it is there, to hand on the lines after the header, without their ends.
+/// A line of a file without its end, and its number.
+type Numbered = Result<(usize, String), Fault>;
+
+/// Opens a file, if it is there, to hand on the lines after the header.
 pub(super) fn open_lines(
     file: &Path,
     header: &'static str,
-) -> Result<Option<impl Iterator<Item = Result<(usize, String), Fault>>>, Fault> {
+) -> Result<Option<impl Iterator<Item = Numbered>>, Fault> {
     let opened = match File::open(file) {
         Ok(opened) => BufReader::new(opened),
         Err(reason) if reason.kind() == ErrorKind::NotFound => return Ok(None),

@@ -83,7 +83,7 @@ impl Names {
         let named = self.terms.processes_of(word);
         match (
             &named[..],
-            gemshowal::read_pid(word).or_else(|| gemshowal::read_pid(&format!("<{word}>"))),
+            gemshowal::read_pid(word).or_else(|| gemshowal::read_pid(format!("<{word}>"))),
         ) {
             (_, Some(pid)) if is_listed(&pid) => Ok(pid),
             ([pid], _) if is_listed(pid) => Ok(*pid),
