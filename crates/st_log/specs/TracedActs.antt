@@ -17,7 +17,8 @@ use Rattle.st_core.specs.Pid.{pid_on}
 use Rattle.st_log.specs.declared.entry.Entry.{Entry}
 use Rattle.st_log.specs.declared.row.Unranked.{Unranked}
 use Rattle.st_log.specs.declared.traced_act.TracedAct.{TracedAct}
-use Rattle.st_log.specs.declared.traced_act.TracedAct.TheVariants as traced
+use Rattle.st_log.specs.declared.traced_act.TracedForm.{TracedForm}
+use Rattle.st_log.specs.declared.traced_act.TracedForm.TheVariants as form
 
 -- an entry without its rank
 abbrev pub without_rank : Entry → Unranked
@@ -48,33 +49,47 @@ abbrev pub send_rest : Pid → Pid → ℕ → Option Event → Token → Unrank
 send_rest p q v report token =
     record { act = act.Send p q v; reply = reply.Done; report = report; carried = Some token }
 
+-- a print with this report
+abbrev pub print_rest : Pid → ℕ → Event → Unranked
+print_rest p v report =
+    record { act = act.Print p v; reply = reply.Done; report = Some report; carried = None }
+
+-- a receive that took a message from q of value v, with this report
+abbrev pub mail_rest : Pid → Want → Pid → ℕ → Event → Unranked
+mail_rest p w q v report =
+    record { act = act.Receive p w; reply = reply.Mail q v; report = Some report; carried = None }
+
 -- a receive that was reported
 abbrev pub receive_rest : Pid → Want → Label → Pid → ℕ → Serial → Unranked
-receive_rest p w label q v serial = record {
-  act = act.Receive p w;
-  reply = reply.Mail q v;
-  report = Some (event_of_parts kind.Receive label serial q (Some p) v);
-  carried = None;
-}
+receive_rest p w label q v serial =
+    mail_rest p w q v (event_of_parts kind.Receive label serial q (Some p) v)
 
--- what the form of an act under a token says
+-- what an act under a token says in this form
+abbrev pub rest_in : TracedForm → TracedAct → Unranked
+rest_in (form.Send flags) t = send_rest t.actor t.other t.value None
+    (token_of_parts flags t.label t.serial t.actor)
+rest_in (form.ReportedSend flags) t = send_rest t.actor t.other t.value
+    (Some (event_of_parts kind.Send t.label t.serial t.actor (Some t.other) t.value))
+    (token_of_parts flags t.label t.serial t.actor)
+rest_in form.Print t = print_rest t.actor t.value
+    (event_of_parts kind.Print t.label t.serial t.actor None t.value)
+rest_in form.First t = receive_rest t.actor want.First t.label t.other t.value t.serial
+rest_in form.From t = receive_rest t.actor (want.From t.other) t.label t.other t.value t.serial
+rest_in form.Value t = receive_rest t.actor (want.Value t.value) t.label t.other t.value t.serial
+rest_in form.Both t =
+    receive_rest t.actor (want.Both t.other t.value) t.label t.other t.value t.serial
+
+-- what an act under a token says
 abbrev pub traced_rest : TracedAct → Unranked
-traced_rest (traced.Send flags label p q v serial) =
-    send_rest p q v None (token_of_parts flags label serial p)
-traced_rest (traced.ReportedSend flags label p q v serial) =
-    send_rest p q v (Some (event_of_parts kind.Send label serial p (Some q) v))
-    (token_of_parts flags label serial p)
-traced_rest (traced.Print p label v serial) = record {
-  act = act.Print p v;
-  reply = reply.Done;
-  report = Some (event_of_parts kind.Print label serial p None v);
-  carried = None;
-}
-traced_rest (traced.First p label q v serial) = receive_rest p want.First label q v serial
-traced_rest (traced.From p label q v serial) = receive_rest p (want.From q) label q v serial
-traced_rest (traced.Value p label q v serial) = receive_rest p (want.Value v) label q v serial
-traced_rest (traced.Both p label q v serial) = receive_rest p (want.Both q v) label q v serial
+traced_rest t = rest_in t.form t
 
--- stands for a form that is at no place, which no log has
+-- stands for an act under a token that is at no place, which no log has
 abbrev pub no_traced : TracedAct
-no_traced = traced.Print (pid_on 0 0) (record { 0 = 0 }) 0 (record { prev = 0; this = 0 })
+no_traced = record {
+  form = form.Print;
+  label = record { 0 = 0 };
+  actor = pid_on 0 0;
+  other = pid_on 0 0;
+  value = 0;
+  serial = record { prev = 0; this = 0 };
+}

@@ -14,7 +14,7 @@ use crate::calls::CallLog;
 use crate::entry::Entry;
 use crate::row::{Content, LogRow, Unranked, content_of};
 use crate::same::is_same_entry;
-use crate::traced_act::{TracedAct, traced_of};
+use crate::traced_act::{TracedAct, is_same_form, traced_of};
 use st_core::{Act, Event, Pid, Reply};
 use std::alloc::{AllocError, Global};
 use std::marker::Model;
@@ -201,6 +201,9 @@ impl Log {
             (Content::Call(call), Content::Call(same)) => {
                 self.calls
                     .is_seen_same(call as usize, &other.calls, same as usize)
+            }
+            (Content::Traced(form), Content::Traced(same)) => {
+                is_same_form(&self.traced[form as usize], &other.traced[same as usize])
             }
             _ => is_same_entry(&self.at(place), &other.at(there)),
         }

@@ -1,36 +1,44 @@
 //! Entries of the frequent acts under a token, in little memory. What such an act reported, and the
 //! token that its message carried, follow from the act, a label and a serial.
 
-ghost use Rattle.std.specs.Prelude.{◌≡◌, IfSome};
+ghost use Rattle.std.specs.Prelude.{◌≡◌, IfSome, IsTrue};
 ghost use Rattle.st_core.specs.Step.{actor};
-ghost use Rattle.st_log.specs.TracedActs.{event_of_parts, receive_rest, send_rest};
-ghost use Rattle.st_log.specs.TracedActs.{token_of_parts};
-ghost use Rattle.st_log.specs.TracedActs.{traced_rest, with_rank};
+ghost use Rattle.st_log.specs.TracedActs.{event_of_parts, mail_rest, print_rest, receive_rest};
+ghost use Rattle.st_log.specs.TracedActs.{send_rest, token_of_parts, traced_rest, with_rank};
 
 use crate::entry::Entry;
 use crate::row::Unranked;
-use crate::same::is_same_entry;
 use st_core::{Act, Event, Flags, Kind, Label, Pid, Reply, Serial, Token, Want};
 
-/// An entry without its rank, of an act under a token.
-#[derive(Clone, Copy)]
-pub enum TracedAct {
-    /// A send from the first to the second process that wasn't reported. It carried the token of
-    /// these flags, this label and this serial, which its sender stamped.
-    Send(Flags, Label, Pid, Pid, u64, Serial),
+/// The forms of acts under a token.
+#[derive(Clone, Copy, PartialEq, Eq)]
+pub enum TracedForm {
+    /// A send that wasn't reported. It carried a token with these flags, which its sender stamped.
+    Send(Flags),
     /// A send that was reported.
-    ReportedSend(Flags, Label, Pid, Pid, u64, Serial),
+    ReportedSend(Flags),
     /// A print that was reported.
-    Print(Pid, Label, u64, Serial),
-    /// A receive of the first process that took the first message, from the second and of this
-    /// value, and was reported.
-    First(Pid, Label, Pid, u64, Serial),
-    /// A receive from the second process.
-    From(Pid, Label, Pid, u64, Serial),
-    /// A receive of this value.
-    Value(Pid, Label, Pid, u64, Serial),
-    /// A receive from the second process, of this value.
-    Both(Pid, Label, Pid, u64, Serial),
+    Print,
+    /// A receive that took the first message, and was reported.
+    First,
+    /// A receive from the process that sent the message.
+    From,
+    /// A receive of the message's value.
+    Value,
+    /// A receive from the process that sent the message, and of its value.
+    Both,
+}
+
+/// An entry without its rank, of an act under a token.
+#[derive(Clone, Copy, PartialEq, Eq)]
+pub struct TracedAct {
+    form: TracedForm,
+    label: Label,
+    actor: Pid,
+    /// The receiver of a send, or the sender of the message that was taken; of a print its actor.
+    other: Pid,
+    value: u64,
+    serial: Serial,
 }
 
 // An act under a token takes 40 bytes in each log, and its row.
@@ -40,53 +48,129 @@ const _: () = prove!(size_of::<TracedAct>() == 40);
 pub fn traced_of(entry: &Entry) -> Option<TracedAct>
     ensures { IfSome result (λ t. with_rank entry.now.rank (traced_rest t) ≡ entry.now) }
 {
-    let traced = likely_form(entry)?;
-    if is_same_entry(&traced.without_rank().with_rank(entry.rank), entry) {
-        Some(traced)
-    } else {
-        None
-    }
-}
-
-/// The form that an entry like this has, if it says all of it.
-fn likely_form(entry: &Entry) -> Option<TracedAct> {
-    match (entry.act, entry.report, entry.carried) {
-        (Act::Send(me, to, value), report, Some(token)) => {
-            let Token {
-                label,
-                flags,
-                serial,
-                ..
-            } = token;
-            Some(match report {
-                None => TracedAct::Send(flags, label, me, to, value, serial),
-                Some(_) => TracedAct::ReportedSend(flags, label, me, to, value, serial),
-            })
+    match (entry.act, entry.reply, entry.report, entry.carried) {
+        (Act::Send(me, to, value), Reply::Done, report, Some(token)) => {
+            traced_send(me, to, value, report, token)
         }
-        (Act::Print(me, value), Some(event), None) => {
-            Some(TracedAct::Print(me, event.label, value, event.serial))
+        (Act::Print(me, value), Reply::Done, Some(report), None) => {
+            traced_print(me, value, report)
         }
-        (Act::Receive(me, want), Some(event), None) => likely_receive(me, want, &event),
+        (Act::Receive(me, want), Reply::Mail(from, value), Some(report), None) => {
+            traced_receive(me, want, from, value, report)
+        }
         _ => None,
     }
 }
 
-/// The form that a receive with this report has, if it says all of it. One by place has none.
-fn likely_receive(me: Pid, want: Want, event: &Event) -> Option<TracedAct> {
-    let Event {
+/// The form of a send that carried this token, if it says the report too.
+fn traced_send(
+    actor: Pid,
+    other: Pid,
+    value: u64,
+    report: Option<Event>,
+    carried: Token,
+) -> Option<TracedAct>
+    ensures { IfSome result (λ t. traced_rest t ≡ send_rest actor other value report carried) }
+{
+    let Token {
         label,
-        from,
+        flags,
         serial,
-        value,
-        ..
-    } = *event;
-    match want {
-        Want::First => Some(TracedAct::First(me, label, from, value, serial)),
-        Want::From(_) => Some(TracedAct::From(me, label, from, value, serial)),
-        Want::Value(_) => Some(TracedAct::Value(me, label, from, value, serial)),
-        Want::Both(..) => Some(TracedAct::Both(me, label, from, value, serial)),
-        Want::Place(_) => None,
+        from,
+    } = carried;
+    if from != actor {
+        return None;
     }
+    let Some(told) = report else {
+        return Some(traced(TracedForm::Send(flags), label, actor, other, value, serial));
+    };
+    if told != event(Kind::Send, label, serial, actor, Some(other), value) {
+        return None;
+    }
+    Some(traced(
+        TracedForm::ReportedSend(flags),
+        label,
+        actor,
+        other,
+        value,
+        serial,
+    ))
+}
+
+/// The form of a print, if it says this report.
+fn traced_print(actor: Pid, value: u64, report: Event) -> Option<TracedAct>
+    ensures { IfSome result (λ t. traced_rest t ≡ print_rest actor value report) }
+{
+    let Event { label, serial, .. } = report;
+    if report != event(Kind::Print, label, serial, actor, None, value) {
+        return None;
+    }
+    Some(traced(TracedForm::Print, label, actor, actor, value, serial))
+}
+
+/// The form of a receive that took a message from the other process and of this value, if it says
+/// the report too. One by place has none.
+fn traced_receive(
+    actor: Pid,
+    want: Want,
+    other: Pid,
+    value: u64,
+    report: Event,
+) -> Option<TracedAct>
+    ensures { IfSome result (λ t. traced_rest t ≡ mail_rest actor want other value report) }
+{
+    let Event { label, serial, .. } = report;
+    if report != event(Kind::Receive, label, serial, other, Some(actor), value) {
+        return None;
+    }
+    match want {
+        Want::First => Some(traced(TracedForm::First, label, actor, other, value, serial)),
+        Want::From(from) if from == other => {
+            Some(traced(TracedForm::From, label, actor, other, value, serial))
+        }
+        Want::Value(asked) if asked == value => {
+            Some(traced(TracedForm::Value, label, actor, other, value, serial))
+        }
+        Want::Both(from, asked) if from == other && asked == value => {
+            Some(traced(TracedForm::Both, label, actor, other, value, serial))
+        }
+        _ => None,
+    }
+}
+
+/// The act of these parts.
+fn traced(
+    form: TracedForm,
+    label: Label,
+    actor: Pid,
+    other: Pid,
+    value: u64,
+    serial: Serial,
+) -> TracedAct
+    ensures { result ≡ record {
+      form = form;
+      label = label;
+      actor = actor;
+      other = other;
+      value = value;
+      serial = serial;
+    } }
+{
+    TracedAct {
+        form,
+        label,
+        actor,
+        other,
+        value,
+        serial,
+    }
+}
+
+/// Whether they are the same form.
+pub fn is_same_form(first: &TracedAct, second: &TracedAct) -> bool
+    ensures { IsTrue result → first.now ≡ second.now }
+{
+    *first == *second
 }
 
 impl TracedAct {
@@ -94,31 +178,52 @@ impl TracedAct {
     pub fn without_rank(self) -> Unranked
         ensures { result ≡ traced_rest self }
     {
-        match self {
-            TracedAct::Send(flags, label, me, to, value, serial) => {
-                send_rest(me, to, value, None, token(flags, label, serial, me))
+        let TracedAct {
+            form,
+            label,
+            actor,
+            other,
+            value,
+            serial,
+        } = self;
+        match form {
+            TracedForm::Send(flags) => {
+                send_rest(
+                    actor,
+                    other,
+                    value,
+                    None,
+                    token(flags, label, serial, actor),
+                )
             }
-            TracedAct::ReportedSend(flags, label, me, to, value, serial) => {
-                let report = event(Kind::Send, label, serial, me, Some(to), value);
-                send_rest(me, to, value, Some(report), token(flags, label, serial, me))
+            TracedForm::ReportedSend(flags) => {
+                let report = event(Kind::Send, label, serial, actor, Some(other), value);
+                send_rest(
+                    actor,
+                    other,
+                    value,
+                    Some(report),
+                    token(flags, label, serial, actor),
+                )
             }
-            TracedAct::Print(me, label, value, serial) => Unranked {
-                act: Act::Print(me, value),
+            TracedForm::Print => Unranked {
+                act: Act::Print(actor, value),
                 reply: Reply::Done,
-                report: Some(event(Kind::Print, label, serial, me, None, value)),
+                report: Some(event(Kind::Print, label, serial, actor, None, value)),
                 carried: None,
             },
-            TracedAct::First(me, label, from, value, serial) => {
-                receive_rest(me, Want::First, label, from, value, serial)
-            }
-            TracedAct::From(me, label, from, value, serial) => {
-                receive_rest(me, Want::From(from), label, from, value, serial)
-            }
-            TracedAct::Value(me, label, from, value, serial) => {
-                receive_rest(me, Want::Value(value), label, from, value, serial)
-            }
-            TracedAct::Both(me, label, from, value, serial) => {
-                receive_rest(me, Want::Both(from, value), label, from, value, serial)
+            TracedForm::First => receive_rest(actor, Want::First, label, other, value, serial),
+            TracedForm::From => receive_rest(actor, Want::From(other), label, other, value, serial),
+            TracedForm::Value => receive_rest(
+                actor,
+                Want::Value(value),
+                label,
+                other,
+                value,
+                serial,
+            ),
+            TracedForm::Both => {
+                receive_rest(actor, Want::Both(other, value), label, other, value, serial)
             }
         }
     }
@@ -128,15 +233,7 @@ impl TracedAct {
     pub fn actor(self) -> Pid
         ensures { result ≡ actor (traced_rest self).act }
     {
-        match self {
-            TracedAct::Send(_, _, me, ..)
-            | TracedAct::ReportedSend(_, _, me, ..)
-            | TracedAct::Print(me, ..)
-            | TracedAct::First(me, ..)
-            | TracedAct::From(me, ..)
-            | TracedAct::Value(me, ..)
-            | TracedAct::Both(me, ..) => me,
-        }
+        self.actor
     }
 }
 
