@@ -1,12 +1,13 @@
--- A record of joined pieces is that of driven scripts: the seats hold the scripts, and each seat's
--- calls are in the run in their order. A worker's refusal is one of an act of its script.
-use Rattle.std.proofs.Common.{◌≡◌, ◌≢◌, ℕ, zero, suc, ◌<◌, ◌≤◌, Bool, true, false, cond, List, []}
+-- A record of logs in which each process made its script is that of driven scripts: each process's
+-- acts in the run are those in its log. A worker's refusal is one of an act of its script.
+use Rattle.std.proofs.Common.{◌≡◌, ◌≢◌, ℕ, zero, suc, ◌+◌, ◌<◌, ◌≤◌, Bool, true, false, cond, List, []}
 use Rattle.std.proofs.Common.{◌∷◌, ◌++◌, length, map, None, refl, sym, ◌∙◌, ap, subst, arith}
 use Rattle.std.specs.List.{AllZip, zip}
-use Rattle.std.specs.Prelude.{All, MatchOption, Some, take, slice_get}
-use Rattle.std.proofs.lemmas.List.Elements.{All-nil, All-cons}
+use Rattle.std.specs.Prelude.{All, Some, take, slice_get}
+use Rattle.std.proofs.lemmas.List.{map-append, take_more}
+use Rattle.std.proofs.lemmas.List.Elements.{All-nil, All-cons, filter-append}
 use Rattle.std.proofs.lemmas.Option.{same_Some}
-use Rattle.std.proofs.lemmas.Slice.Zip.{firsts-zip, seconds-zip}
+use Rattle.std.proofs.lemmas.Slice.Zip.{seconds-zip}
 use Rattle.st_core.specs.declared.types.Act.{Act}
 use Rattle.st_core.specs.declared.types.Pid.{Pid}
 use Rattle.st_core.specs.declared.types.Reply.{Reply}
@@ -15,136 +16,131 @@ use Rattle.st_core.specs.Run.{Shows, pids_of, run}
 use Rattle.st_core.specs.Step.{actor}
 use Rattle.st_core.specs.Streams.{IsStreams}
 use Rattle.st_log.specs.declared.entry.Entry.{Entry}
+use Rattle.st_log.specs.Entries.{entry_at, no_entry}
 use Rattle.st_runtime.specs.declared.fault.ActFault.{ActFault}
 use Rattle.st_runtime.specs.declared.fault.ActFault.TheVariants as fault
 use Rattle.st_runtime.specs.declared.join.record.Record.{Record}
 use Rattle.st_runtime.specs.declared.driver.worker.Ending.{Ending}
 use Rattle.st_runtime.specs.Driven.{acts_by, acts_in, stamps_in, IsDriven, IsOwn, IsRefused}
 use Rattle.st_runtime.specs.Driven.{IsPossible, IsWorkerFault}
-use Rattle.st_runtime.specs.Joined.{IsJoined}
-use Rattle.st_runtime.specs.Pieces.{Parts, pids_in, calls_of}
-use Rattle.st_runtime.specs.Seat.{Calls, no_calls}
-use Rattle.st_runtime.specs.Pcb.{Control, IsFromLog}
-use Rattle.st_runtime.specs.Working.{called_acts, IsDone, IsWorked, IsFirstRefusal}
+use Rattle.st_runtime.specs.Joining.{own_acts, IsScripted}
+use Rattle.st_runtime.specs.Pieces.{pids_in, calls_of}
+use Rattle.st_runtime.specs.Pcb.{Control}
+use Rattle.st_runtime.specs.Working.{IsPlayed, IsWorked, IsFirstRefusal}
+use Rattle.st_runtime.proofs.Members.{got_at}
 use Rattle.st_runtime.proofs.Runs.{pids_streams}
 use Rattle.st_runtime.proofs.Shown.{are_streams}
 use Rattle.st_runtime.proofs.Workers.{Job}
 
--- ---- seats
-
--- seats through which no act was made yet
-pub fresh_seats : (pids : List Pid) → All (λ (s : Calls). s.mine ≡ []) (map no_calls pids)
-fresh_seats [] k d below = absurd (omega arith)
-fresh_seats (p ∷ ps) zero d below = refl
-fresh_seats (p ∷ ps) (suc k) d below = fresh_seats ps k d (omega arith)
-
-pub fresh_pids : (pids : List Pid) → map (λ s. s.pid) (map no_calls pids) ≡ pids
-fresh_pids [] = refl
-fresh_pids (p ∷ ps) = ap (λ rest. p ∷ rest) (fresh_pids ps)
+-- ---- jobs
 
 -- what became of the jobs of a system that was opened is what became of the scripts
-pub scripts_worked : (pids system : List Pid) (seats : List Calls) (scripts : List (List Act))
-    (ts : List Job)
-    (es : List Ending) → system ≡ pids → seats ≡ map no_calls pids
-    → ts ≡ zip (map (λ s. s.pid) seats) scripts
-    → AllZip (IsWorked system) ts es → AllZip (IsWorked pids) (zip pids scripts) es
-scripts_worked pids system seats scripts ts es opened fresh given worked =
-    let jobs : ts ≡ zip pids scripts =
-    given ∙ ap (λ (ss : List Calls). zip (map (λ s. s.pid) ss) scripts) fresh
-    ∙ ap (λ ps. zip ps scripts) (fresh_pids pids) in
-    subst (λ ps. AllZip (IsWorked ps) (zip pids scripts) es) opened
-    (subst (λ all. AllZip (IsWorked system) all es) jobs worked)
+pub jobs_worked : (pids system : List Pid) (scripts : List (List Act)) (ts : List Job)
+    (ends : List Ending) → system ≡ pids → ts ≡ zip pids scripts
+    → AllZip (IsWorked system) ts ends → AllZip (IsWorked pids) (zip pids scripts) ends
+jobs_worked pids system scripts ts ends opened given worked =
+    subst (λ jobs. AllZip (IsWorked pids) jobs ends) given
+    (subst (λ ps. AllZip (IsWorked ps) ts ends) opened worked)
 
 -- ---- workers that met no refusal
 
-pids_worked : (pids : List Pid) (ts : List Job) (es : List Ending) → AllZip (IsWorked pids) ts es
-    → map (λ e. e.seat.pid) es ≡ map (λ t. t.0) ts
-pids_worked pids [] [] worked = refl
-pids_worked pids [] (e ∷ es) worked = absurd worked
-pids_worked pids (t ∷ ts) [] worked = absurd worked
-pids_worked pids (t ∷ ts) (e ∷ es) worked = λ i. worked.0.pid i ∷ pids_worked pids ts es worked.1 i
-
 is_done : (pids : List Pid) (t : Job) (e : Ending) → IsWorked pids t e → e.fault ≡ None
-    → IsDone pids t e.seat.mine
-is_done pids t e worked none =
-    let refused : ActFault → Type 0 = IsRefused pids t.0 t.1 (length e.seat.mine) in
-    subst (λ o. MatchOption o (IsDone pids t e.seat.mine) refused) none worked.acts
+    → All (IsOwn pids t.0) t.1
+is_done pids t e worked none = subst (IsPlayed pids t e.made) none worked.played
 
-acts_worked : (pids : List Pid) (ts : List Job) (es : List Ending) → AllZip (IsWorked pids) ts es
-    → All (λ (e : Ending). e.fault ≡ None) es
-    → map (λ e. called_acts e.seat.mine) es ≡ map (λ t. t.1) ts
-acts_worked pids [] [] worked none = refl
-acts_worked pids [] (e ∷ es) worked none = absurd worked
-acts_worked pids (t ∷ ts) [] worked none = absurd worked
-acts_worked pids (t ∷ ts) (e ∷ es) worked none =
-    let here = (is_done pids t e worked.0 (none 0 e (omega arith))).acts in
-    let rest = acts_worked pids ts es worked.1 (λ k d below. none (suc k) d (omega arith)) in
-    λ i. here i ∷ rest i
+scripts_worked : (pids : List Pid) (ts : List Job) (es : List Ending)
+    → AllZip (IsWorked pids) ts es → map (λ e. e.script) es ≡ map (λ t. t.1) ts
+scripts_worked pids [] [] worked = refl
+scripts_worked pids [] (e ∷ es) worked = absurd worked
+scripts_worked pids (t ∷ ts) [] worked = absurd worked
+scripts_worked pids (t ∷ ts) (e ∷ es) worked =
+    λ i. worked.0.script i ∷ scripts_worked pids ts es worked.1 i
+
+-- the scripts that the workers gave back are those that they were given
+pub scripts_back : (pids : List Pid) (scripts : List (List Act)) (ends : List Ending)
+    → length scripts ≡ length pids → AllZip (IsWorked pids) (zip pids scripts) ends
+    → map (λ e. e.script) ends ≡ scripts
+scripts_back pids scripts ends even worked =
+    scripts_worked pids (zip pids scripts) ends worked ∙ seconds-zip pids scripts even
 
 -- ---- the run
 
 own_act : (b : Bool) (a : Act) (y : Reply) (rest : List Act) (cs : List (Act × Reply))
-    → rest ≡ called_acts cs → cond b (a ∷ rest) rest ≡ called_acts (cond b ((a, y) ∷ []) [] ++ cs)
+    → rest ≡ map (λ c. c.0) cs
+    → cond b (a ∷ rest) rest ≡ map (λ c. c.0) (cond b ((a, y) ∷ []) [] ++ cs)
 own_act true a y rest cs same = ap (λ more. a ∷ more) same
 own_act false a y rest cs same = same
 
 -- a process's acts among entries are those of its calls there
-own_acts : (p : Pid) (es : List Entry)
-    → acts_by p (map (λ e. e.act) es) ≡ called_acts (calls_of p es)
-own_acts p [] = refl
-own_acts p (e ∷ es) =
+acts_of_calls : (p : Pid) (es : List Entry)
+    → acts_by p (map (λ e. e.act) es) ≡ map (λ c. c.0) (calls_of p es)
+acts_of_calls p [] = refl
+acts_of_calls p (e ∷ es) =
     own_act (pid_eq (actor e.act) p) e.act e.reply (acts_by p (map (λ d. d.act) es)) (calls_of p es)
-    (own_acts p es)
+    (acts_of_calls p es)
 
-seat_acts : (es : List Entry) (ends : List Ending)
-    → All (λ (s : Calls). calls_of s.pid es ≡ s.mine) (map (λ e. e.seat) ends)
-    → map (λ p. acts_by p (map (λ e. e.act) es)) (map (λ e. e.seat.pid) ends)
-    ≡ map (λ e. called_acts e.seat.mine) ends
-seat_acts es [] calls = refl
-seat_acts es (d ∷ ds) calls =
-    let here = own_acts d.seat.pid es ∙ ap called_acts (calls 0 d.seat (omega arith)) in
-    let rest = seat_acts es ds (λ k x below. calls (suc k) x (omega arith)) in
+-- an entry more adds its act, if it is the process's own
+pub acts_further : (p : Pid) (log : List Entry) (i : ℕ) (b : Bool) → i < length log
+    → pid_eq (actor (entry_at log i).act) p ≡ b
+    → acts_by p (map (λ e. e.act) (take (i + 1) log))
+    ≡ acts_by p (map (λ e. e.act) (take i log)) ++ cond b ((entry_at log i).act ∷ []) []
+acts_further p log i b within is =
+    let so_far = acts_by p (map (λ (e : Entry). e.act) (take i log)) in
+    let a = (entry_at log i).act in
+    ap (λ es. acts_by p (map (λ (e : Entry). e.act) es)) (take_more log i no_entry within)
+    ∙ ap (acts_by p) (map-append (λ (e : Entry). e.act) (take i log) (entry_at log i ∷ []))
+    ∙ filter-append (λ x. pid_eq (actor x) p) (map (λ (e : Entry). e.act) (take i log)) (a ∷ [])
+    ∙ ap (λ t. so_far ++ cond t (a ∷ []) []) is
+
+-- the script is one act further
+pub script_further : (script : List Act) (n : ℕ) (a : Act) → slice_get script n ≡ Some a
+    → (n < length script) × (take (n + 1) script ≡ take n script ++ a ∷ [])
+script_further script n a at =
+    let got = got_at script n a a at in
+    (got.0, take_more script n a got.0 ∙ ap (λ x. take n script ++ x ∷ []) got.1)
+
+-- each process's acts in the run are those in its log
+acts_made : (xs : List Control) (es : List Entry)
+    → All (λ (x : Control). calls_of x.process.pid es ≡ calls_of x.process.pid x.log) xs
+    → map (λ p. acts_by p (map (λ e. e.act) es)) (pids_in xs) ≡ map own_acts xs
+acts_made [] es same = refl
+acts_made (x ∷ xs) es same =
+    let p = x.process.pid in
+    let here : acts_by p (map (λ e. e.act) es) ≡ own_acts x =
+    acts_of_calls p es ∙ ap (map (λ c. c.0)) (same 0 x (omega arith))
+    ∙ sym (acts_of_calls p x.log) in
+    let rest = acts_made xs es (λ k d below. same (suc k) d (omega arith)) in
     λ i. here i ∷ rest i
 
-pub driven : (top ranks : ℕ) (pieces : Parts) (r : Record) (pids : List Pid)
-    (scripts : List (List Act))
-    (ends : List Ending) → length scripts ≡ length pids → IsRising pids
-    → pids_in pieces.processes ≡ pids
-    → pieces.seats ≡ map (λ e. e.seat) ends → AllZip (IsWorked pids) (zip pids scripts) ends
-    → All (λ (e : Ending). e.fault ≡ None) ends → IsJoined top pieces r
-    → All (λ (x : Control). IsFromLog top ranks x.process x.log) pieces.processes
-    → IsDriven top ranks pids scripts r
-driven top ranks pieces r pids scripts ends even rising of_pids of_seats worked none joined kept =
-    let xs = pieces.processes in
-    let es = joined.entries in
+pub driven : (top ranks : ℕ) (xs : List Control) (r : Record) (pids : List Pid)
+    (scripts : List (List Act)) → IsRising pids → pids_in xs ≡ pids
+    → IsScripted top ranks xs scripts r → IsDriven top ranks pids scripts r
+driven top ranks xs r pids scripts rising of_pids scripted =
+    let logged = scripted.logged in
+    let es = logged.entries in
     let acts = map (λ (e : Entry). e.act) es in
-    let one = joined.run in
-    let calls : All (λ (s : Calls). calls_of s.pid es ≡ s.mine) (map (λ e. e.seat) ends) =
-    subst (λ seats. All (λ (s : Calls). calls_of s.pid es ≡ s.mine) seats) of_seats joined.seats in
-    let from : map (λ e. e.seat.pid) ends ≡ pids =
-    pids_worked pids (zip pids scripts) ends worked ∙ firsts-zip pids scripts even in
+    let one = logged.run in
     record {
       logs = xs;
       logged = of_pids;
-      kept = kept;
-      whole = joined.fit.whole;
+      kept = scripted.kept;
+      whole = scripted.whole;
       entries = es;
-      merged = joined.merged;
-      acts = joined.acts;
+      merged = logged.merged;
+      acts = logged.acts;
       outcomes = one.outcomes;
       runs = ap (λ ps. run top ps r.acts) (sym of_pids) ∙ ap (λ made. run top (pids_in xs) made)
-          joined.acts ∙ one.runs;
-      replies = joined.replies ∙ sym one.replies;
-      shows = subst (λ made. Shows top r.streams made) (sym joined.acts)
-          (subst (λ streams. Shows top streams acts) (sym joined.streams) one.shows);
-      streams = subst IsStreams (sym joined.streams)
+          logged.acts ∙ one.runs;
+      replies = logged.replies ∙ sym one.replies;
+      shows = subst (λ made. Shows top r.streams made) (sym logged.acts)
+          (subst (λ streams. Shows top streams acts) (sym logged.streams) one.shows);
+      streams = subst IsStreams (sym logged.streams)
           (are_streams top xs es (subst IsRising (sym of_pids) rising) one);
-      listed = ap pids_of joined.streams ∙ pids_streams xs ∙ of_pids;
-      made = ap (λ made. map (λ p. acts_by p made) pids) joined.acts
-          ∙ ap (λ ps. map (λ p. acts_by p acts) ps) (sym from)
-          ∙ seat_acts es ends calls
-          ∙ acts_worked pids (zip pids scripts) ends worked none
-          ∙ seconds-zip pids scripts even;
+      listed = ap pids_of logged.streams ∙ pids_streams xs ∙ of_pids;
+      made = ap (λ made. map (λ p. acts_by p made) pids) logged.acts
+          ∙ ap (λ ps. map (λ p. acts_by p acts) ps) (sym of_pids)
+          ∙ acts_made xs es one.calls
+          ∙ scripted.made;
     }
 
 -- ---- a worker's refusal
@@ -172,7 +168,7 @@ own_before pids ts es zero worked none = All-nil (AllOwn pids)
 own_before pids [] es (suc k) worked none = All-nil (AllOwn pids)
 own_before pids (t ∷ ts) [] (suc k) worked none = absurd worked
 own_before pids (t ∷ ts) (e ∷ es) (suc k) worked none =
-    let here = (is_done pids t e worked.0 (none 0 e (omega arith))).own in
+    let here = is_done pids t e worked.0 (none 0 e (omega arith)) in
     let rest = own_before pids ts es k worked.1 (λ i d below. none (suc i) d (omega arith)) in
     All-cons (AllOwn pids) t (take k ts) here rest
 
@@ -200,10 +196,8 @@ worker_fault top ranks pids scripts ends p n f g worked first told possible =
     let t = found.0 in
     let whose : t.0 ≡ p = sym found.1.1.pid ∙ first.pid in
     let script = t.1 in
-    let refused : IsRefused pids t.0 script (length e.seat.mine) f =
-    subst (λ o. MatchOption o (IsDone pids t e.seat.mine)
-    (IsRefused pids t.0 script (length e.seat.mine)))
-    first.refused found.1.1.acts in
+    let refused : IsRefused pids t.0 script e.made f =
+    subst (IsPlayed pids t e.made) first.refused found.1.1.played in
     let at_n : IsRefused pids t.0 script n f =
     subst (λ m. IsRefused pids t.0 script m f) first.place refused in
     record {

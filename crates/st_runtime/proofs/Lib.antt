@@ -11,15 +11,16 @@ pub mod PidLemmas
 pub mod Legal
 pub mod Members
 pub mod Runs
-pub mod Sorting
+pub mod Walks
 pub mod Shown
 pub mod Collecting
 pub mod Searching
 pub mod Wholeness
-pub mod NodeLemmas
+pub mod Passing
 pub mod Seated
-pub mod FitLemmas
 pub mod JoinLemmas
 -- The endings of workers.
 pub mod Workers
 pub mod Driving
+-- Worked cases.
+mod Cases

@@ -1,13 +1,20 @@
--- Membership in a list, by recursion, and lists of entries in order.
+-- Membership in a list, by recursion, lists of entries in order, and processes whose pids rise.
 use Rattle.std.proofs.Common.{◌≡◌, ℕ, zero, suc, ◌<◌, List, [], ◌∷◌, length, get_or, Bool, true}
 use Rattle.std.proofs.Common.{false, cond, map, refl, sym, ap, ◌∙◌, subst, arith, inl, inr, ⊎_elim}
-use Rattle.std.proofs.Common.{◌⊎◌, take, set, ◌≤◌}
-use Rattle.std.specs.Prelude.{filter, All, AllPairs, Contains}
+use Rattle.std.proofs.Common.{◌⊎◌, ◌||◌, ◌++◌, take, set, ◌≤◌}
+use Rattle.std.specs.List.{AllByRecursion}
+use Rattle.std.specs.Prelude.{filter, slice_get, All, AllPairs, Contains, Some}
+use Rattle.std.proofs.lemmas.Option.{same_Some}
 use Rattle.st_core.specs.Step.{actor}
-use Rattle.st_core.proofs.ForCallers.{IsBelow-trans, not_below_itself}
+use Rattle.st_core.specs.Streams.{is_among}
+use Rattle.st_core.specs.declared.types.Pid.{Pid}
+use Rattle.st_core.specs.Pid.{pid_eq, IsBelow, IsRising}
+use Rattle.st_core.proofs.ForCallers.{IsBelow-trans, not_below_itself, pid_eq-true}
 use Rattle.st_log.specs.declared.entry.Entry.{Entry}
 use Rattle.st_runtime.specs.Logs.{RanksRise}
 use Rattle.st_runtime.specs.Joined.{IsBefore}
+use Rattle.st_runtime.specs.Pcb.{Control}
+use Rattle.st_runtime.specs.Pieces.{pids_in}
 
 abbrev pub In : {X : Type 0} → X → List X → Type 0
 In x [] = ⊥
@@ -64,6 +71,11 @@ In-to_filter test x (y ∷ ys) h is =
     in_kept x y (filter test ys) (test y) (⊎_elim (λ e. inl (e, ap test (sym e) ∙ is))
     (λ i. inr (In-to_filter test x ys i is)) h)
 
+In-append : {X : Type 0} (x : X) (xs ys : List X) → In x (xs ++ ys) → In x xs ⊎ In x ys
+In-append x [] ys i = inr i
+In-append x (y ∷ xs) ys i =
+    ⊎_elim (λ e. inl (inl e)) (λ l. ⊎_elim (λ a. inl (inr a)) (λ b. inr b) (In-append x xs ys l)) i
+
 -- ORDER
 
 abbrev pub IsOrdered : List Entry → Type 0
@@ -97,6 +109,21 @@ IsOrdered-filter test [] h = tt
 IsOrdered-filter test (e ∷ es) h =
     IsOrdered-kept test e es (filter test es) (test e) h.0 (λ d i. (In-filter test d es i).0)
     (IsOrdered-filter test es h.1)
+
+pub IsOrdered-append : (xs ys : List Entry) → IsOrdered xs → IsOrdered ys
+    → ((d e : Entry) → In d xs → In e ys → IsBefore d e) → IsOrdered (xs ++ ys)
+IsOrdered-append [] ys a b cross = b
+IsOrdered-append (x ∷ xs) ys a b cross = (
+  λ d i. ⊎_elim (λ l. a.0 d l) (λ r. cross x d (inl refl) r) (In-append d xs ys i),
+  IsOrdered-append xs ys a.1 b (λ d e i j. cross d e (inr i) j),
+)
+
+pub pairs_from_ordered : (es : List Entry) → IsOrdered es → AllPairs IsBefore es
+pairs_from_ordered [] h i j d a b = absurd (omega arith)
+pairs_from_ordered (e ∷ es) h i zero d a b = absurd (omega arith)
+pairs_from_ordered (e ∷ es) h zero (suc j) d a b = In-All (IsBefore e) es h.0 j d (omega arith)
+pairs_from_ordered (e ∷ es) h (suc i) (suc j) d a b =
+    pairs_from_ordered es h.1 i j d (omega arith) (omega arith)
 
 Rises-above : (low : ℕ) (es : List Entry) (d : Entry) → RanksRise low es → In d es → low < d.rank
 Rises-above low [] d r i = absurd i
@@ -154,6 +181,13 @@ same_list (x ∷ xs) (y ∷ ys) a b f g =
     (λ e i. tail_in y x ys xs e (sym same) b i (g e (inr i))) in
     λ i. same i ∷ rest i
 
+-- an item that is got is at its place
+pub got_at : {X : Type 0} (xs : List X) (i : ℕ) (x d : X) → slice_get xs i ≡ Some x
+    → (i < length xs) × (get_or xs i d ≡ x)
+got_at [] i x d at = absurd (cc)
+got_at (y ∷ ys) zero x d at = (omega arith, same_Some y x at)
+got_at (y ∷ ys) (suc i) x d at = let rest = got_at ys i x d at in (omega (arith, rest.0), rest.1)
+
 -- what is taken whole
 pub take_past : {X : Type 0} (n : ℕ) (xs : List X) → length xs ≤ n → take n xs ≡ xs
 take_past zero [] h = refl
@@ -172,3 +206,34 @@ pub map-set_same : {X Y : Type 0} (f : X → Y) (xs : List X) (i : ℕ) (x z : X
 map-set_same f [] i x z at h = refl
 map-set_same f (y ∷ ys) zero x z at h = ap (λ n. n ∷ map f ys) (h ∙ ap f at)
 map-set_same f (y ∷ ys) (suc i) x z at h = ap (λ r. f y ∷ r) (map-set_same f ys i x z at h)
+
+-- PIDS
+
+-- pids rise
+abbrev pub Ascends : List Control → Type 0
+Ascends [] = Unit {0}
+Ascends (p ∷ ps) = ((q : Control) → In q ps → IsBelow p.process.pid q.process.pid) × Ascends ps
+
+below_each : (p : Pid) (ps : List Control) → AllByRecursion (IsBelow p) (pids_in ps) → (q : Control)
+    → In q ps
+    → IsBelow p q.process.pid
+below_each p [] all q i = absurd i
+below_each p (x ∷ xs) all q i =
+    ⊎_elim (λ same. subst (λ (y : Control). IsBelow p y.process.pid) (sym same) all.0)
+    (λ later. below_each p xs all.1 q later) i
+
+pub Ascends-from_rising : (ps : List Control) → IsRising (pids_in ps) → Ascends ps
+Ascends-from_rising [] up = tt
+Ascends-from_rising (p ∷ ps) up = (below_each p.process.pid ps up.0, Ascends-from_rising ps up.1)
+
+-- who is among the pids is one of the processes
+pub among_in : (q : Pid) (ps : List Control) → is_among (pids_in ps) q ≡ true
+    → (y : Control) × (In y ps × (y.process.pid ≡ q))
+among_in q [] h = absurd (cc)
+among_in q (p ∷ ps) h =
+    elim (pid_eq p.process.pid q) as (λ b. pid_eq p.process.pid q ≡ b
+    → (b || is_among (pids_in ps) q) ≡ true
+    → (y : Control) × (In y (p ∷ ps) × (y.process.pid ≡ q))) [
+      | true ↦ λ is h. (p, (inl refl, pid_eq-true p.process.pid q is))
+      | false ↦ λ is h. let r = among_in q ps h in (r.0, (inr r.1.0, r.1.1))
+    ] refl h

@@ -24,23 +24,8 @@ use Rattle.st_runtime.specs.Pieces.{Parts, pids_in, calls_of, seat_of, seats_tol
 use Rattle.st_runtime.specs.Pieces.{IsFirstUnseated}
 use Rattle.st_runtime.specs.Seat.{Calls}
 use Rattle.st_runtime.proofs.Members.{In, All-In, In-All}
-use Rattle.st_runtime.proofs.Sorting.{Ascends, Ascends-from_rising}
+use Rattle.st_runtime.proofs.Members.{Ascends, Ascends-from_rising}
 use Rattle.st_runtime.proofs.StepLemmas.{apart_eq}
-
--- ---- lists
-
-abbrev pub rest_of : {X : Type 0} → List X → List X
-rest_of [] = []
-rest_of (x ∷ xs) = xs
-
--- ---- seats
-
-abbrev first_or : {X : Type 0} → X → List X → X
-first_or d [] = d
-first_or d (x ∷ xs) = x
-
-first_same : {X : Type 0} (x y : X) (xs ys : List X) → x ∷ xs ≡ y ∷ ys → x ≡ y
-first_same x y xs ys both = ap (first_or x) both
 
 -- ---- calls
 

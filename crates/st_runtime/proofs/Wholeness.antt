@@ -12,13 +12,13 @@ use Rattle.st_core.specs.Streams.{is_among}
 use Rattle.st_core.proofs.ForCallers.{pid_eq-true, pid_eq-same, IsBelow-apart}
 use Rattle.st_log.specs.declared.entry.Entry.{Entry}
 use Rattle.st_log.specs.Entries.{is_wide}
-use Rattle.st_runtime.specs.Joining.{HasAt, IsWholeIfOwn}
+use Rattle.st_runtime.specs.Joining.{HasAt}
 use Rattle.st_runtime.specs.Pcb.{Control}
-use Rattle.st_runtime.specs.Pieces.{pids_in, AreWhole, HasIfTouched, IsWholeEntry}
+use Rattle.st_runtime.specs.Pieces.{pids_in, HasIfTouched, IsWholeEntry}
 use Rattle.st_runtime.proofs.Members.{In, In-Contains, Contains-In, All-In, In-All}
 use Rattle.st_runtime.proofs.PartLemmas.{touches_actor}
 use Rattle.st_runtime.proofs.Searching.{key_at}
-use Rattle.st_runtime.proofs.Sorting.{Ascends, Ascends-from_rising, among_in}
+use Rattle.st_runtime.proofs.Members.{Ascends, Ascends-from_rising, among_in}
 
 -- ---- processes of one pid
 
@@ -96,7 +96,7 @@ either_true : (a b : Bool) → cond a true b ≡ true → (a ≡ true) ⊎ (b �
 either_true true b is = inl refl
 either_true false b is = inr is
 
-touches_two : (a : Act) (p : Pid) → is_wide a ≡ false → touches a p ≡ true
+pub touches_two : (a : Act) (p : Pid) → is_wide a ≡ false → touches a p ≡ true
     → (p ≡ actor a) ⊎ (p ≡ receiver a)
 touches_two (act.Send p q v) r narrow touched = ⊎_elim
     (λ l. inl (pid_eq-true _ _ l)) (λ s. inr (pid_eq-true _ _ s)) (either_true _ _ touched)
@@ -104,7 +104,7 @@ touches_two (act.Reset p) r narrow touched = absurd (cc)
 touches_two (act.Tracer p b) r narrow touched = absurd (cc)
 touches_two a r narrow touched = inl (pid_eq-true r (actor a) touched)
 
-touches_receiver : (a : Act) → touches a (receiver a) ≡ true
+pub touches_receiver : (a : Act) → touches a (receiver a) ≡ true
 touches_receiver (act.Send p q v) =
     elim (pid_eq q p) as (λ b. cond b true (pid_eq q q) ≡ true) [
       | true ↦ refl
@@ -164,20 +164,3 @@ pub whole_receiver : (xs : List Control) (e : Entry) → IsWholeEntry xs e
     → HasAt xs (receiver e.act) e
 whole_receiver xs e whole =
     has_at_of xs e (receiver e.act) (touches_receiver e.act) whole.receiver whole.everywhere
-
--- ---- entries that are looked for everywhere once
-
--- if each process's own entries are whole, and its other ones are in their actors' logs, all are
--- whole
-pub all_whole : (xs : List Control)
-    → All (λ (x : Control). All (IsWholeIfOwn xs x.process.pid) x.log) xs → AreWhole xs
-all_whole xs own =
-    let Settles : Control → Type 0 = λ x. All (IsWholeIfOwn xs x.process.pid) x.log in
-    let settles : (x : Control) (e : Entry) → In x xs → In e x.log
-    → IsWholeIfOwn xs x.process.pid e =
-    λ x e i j. All-In (IsWholeIfOwn xs x.process.pid) x.log e (All-In Settles xs x own i) j in
-    In-All (λ (x : Control). All (IsWholeEntry xs) x.log) xs
-    (λ x i. In-All (IsWholeEntry xs) x.log (λ e j.
-    let has = (settles x e i j).made in
-    let y = has.control in
-    (settles y e (Contains-In y xs has.among) (Contains-In e y.log has.has)).whole (sym has.pid)))

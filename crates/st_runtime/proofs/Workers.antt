@@ -1,10 +1,8 @@
 -- Each job ends as its worker's promise says.
-use Rattle.std.proofs.Common.{◌≡◌, ℕ, suc, ◌<◌, List, [], ◌∷◌, length, map, get_or, take, reverse}
-use Rattle.std.proofs.Common.{refl, ap, subst, arith, ◌++◌, ◌≢◌, ◌↔◌, ◌∙◌, sym, Bool, true, false}
+use Rattle.std.proofs.Common.{◌≡◌, ℕ, suc, ◌<◌, List, [], ◌∷◌, length, map, get_or, refl, ap}
+use Rattle.std.proofs.Common.{subst, arith, ◌≢◌, ◌↔◌, ◌∙◌, sym, Bool, true, false}
 use Rattle.std.proofs.Common.{Result, Ok, Err, Option, Some, IfOk}
-use Rattle.std.specs.Prelude.{All, slice_get}
-use Rattle.std.specs.List.{AllZip, zip}
-use Rattle.std.proofs.lemmas.List.{append_assoc, reverse-append}
+use Rattle.std.specs.List.{AllZip}
 use Rattle.st_core.specs.declared.types.Act.{Act}
 use Rattle.st_core.specs.declared.types.Pid.{Pid}
 use Rattle.st_core.specs.declared.types.Reply.{Reply}
@@ -14,9 +12,9 @@ use Rattle.st_core.proofs.ForCallers.{pid_eq-true, pid_eq-same}
 use Rattle.st_runtime.specs.declared.fault.ActFault.{ActFault}
 use Rattle.st_runtime.specs.declared.fault.ActFault.TheVariants as fault
 use Rattle.st_runtime.specs.declared.driver.worker.Ending.{Ending}
-use Rattle.st_runtime.specs.Driven.{IsOwn, IsRefused}
-use Rattle.st_runtime.specs.System.{is_stamping, knows}
-use Rattle.st_runtime.specs.Working.{called_acts, LeavesEnding, IsWorked}
+use Rattle.st_runtime.specs.Driven.{IsOwn}
+use Rattle.st_runtime.specs.System.{knows}
+use Rattle.st_runtime.specs.Working.{LeavesEnding, IsWorked}
 
 abbrev pub Job : Type 0
 Job = Pid × List Act
@@ -59,13 +57,6 @@ ended_worked pids ts os items (Ok v) left same =
     all_worked pids ts (items v) (subst (AllZip (LeavesEnding pids) ts) (sym same) left)
 ended_worked pids ts os items (Err e) left same = tt
 
--- pairs whose first parts are changed
-pub zip_map : {A B C : Type 0} (f : A → C) (xs : List A) (ys : List B)
-    → map (λ x. (f x.0, x.1)) (zip xs ys) ≡ zip (map f xs) ys
-zip_map f [] ys = refl
-zip_map f (x ∷ xs) [] = refl
-zip_map f (x ∷ xs) (y ∷ ys) = ap (λ rest. (f x, y) ∷ rest) (zip_map f xs ys)
-
 same_by : (p q : Pid) (b : Bool) → pid_eq p q ≡ b → ¬ (p ≢ q) → p ≡ q
 same_by p q true is alike = pid_eq-true p q is
 same_by p q false is alike =
@@ -89,78 +80,4 @@ own_act pids p a r not_yours unknown done =
     record {
       mine = mine;
       known = known_unless (knows pids a) (λ not. done fault.Unknown (unknown.1 (mine, not)));
-    }
-
-pub acts_push : (cs : List (Act × Reply)) (a : Act) (y : Reply)
-    → called_acts (cs ++ (a, y) ∷ []) ≡ called_acts cs ++ a ∷ []
-acts_push [] a y = refl
-acts_push (c ∷ cs) a y = ap (λ rest. c.0 ∷ rest) (acts_push cs a y)
-
--- ---- a script that is taken from its end, where its next act is
-
-next_act : (mine : List (Act × Reply)) (a : Act) (rest : List Act)
-    → slice_get (called_acts mine ++ a ∷ rest) (length mine) ≡ Some a
-next_act [] a rest = refl
-next_act (c ∷ mine) a rest = next_act mine a rest
-
-acts_before : (mine : List (Act × Reply)) (rest : List Act)
-    → take (length mine) (called_acts mine ++ rest) ≡ called_acts mine
-acts_before [] rest = refl
-acts_before (c ∷ mine) rest = ap (λ acts. c.0 ∷ acts) (acts_before mine rest)
-
--- what is left begins with the act that is last
-next_first : (mine : List (Act × Reply)) (a : Act) (rest script : List Act)
-    → called_acts mine ++ reverse (rest ++ a ∷ []) ≡ script
-    → called_acts mine ++ a ∷ reverse rest ≡ script
-next_first mine a rest script is =
-    ap (λ acts. called_acts mine ++ acts) (sym (reverse-append rest (a ∷ []))) ∙ is
-
-pub made_next : (mine : List (Act × Reply)) (a : Act) (y : Reply) (rest script : List Act)
-    → called_acts mine ++ reverse (rest ++ a ∷ []) ≡ script
-    → called_acts (mine ++ (a, y) ∷ []) ++ reverse rest ≡ script
-made_next mine a y rest script is =
-    ap (λ acts. acts ++ reverse rest) (acts_push mine a y)
-    ∙ append_assoc (called_acts mine) (a ∷ []) (reverse rest) ∙ next_first mine a rest script is
-
--- why an act is refused
-pub record IsRefusal (pids : List Pid) (p : Pid) (a : Act) (f : ActFault) : Type 0 where
-  pub not_yours : (f ≡ fault.NotYours) ↔ (actor a ≢ p)
-  pub unknown : (f ≡ fault.Unknown) ↔ ((actor a ≡ p) × (knows pids a ≡ false))
-  pub clock : f ≡ fault.ClockFull → is_stamping a ≡ true
-
--- a call that was refused says why its act was
-pub refusal_of : (pids : List Pid) (p q : Pid) (a : Act) (r : Result Reply ActFault) (f : ActFault)
-    → r ≡ Err f → q ≡ p → (r ≡ Err fault.NotYours) ↔ (actor a ≢ q)
-    → (r ≡ Err fault.Unknown) ↔ ((actor a ≡ q) × (knows pids a ≡ false))
-    → (r ≡ Err fault.ClockFull → is_stamping a ≡ true) → IsRefusal pids p a f
-refusal_of pids p q a r f is same not_yours unknown clock =
-    subst (λ o. IsRefusal pids o a f) same (record {
-      not_yours = (
-        λ it. not_yours.0 (is ∙ ap (λ g. Err g) it),
-        λ apart. let told =
-            not_yours.1 apart in cc,
-      );
-      unknown = (
-        λ it. unknown.0 (is ∙ ap (λ g. Err g) it),
-        λ both. let told = unknown.1 both in
-            cc,
-      );
-      clock = λ it. clock (is ∙ ap (λ g. Err g) it);
-    })
-
-pub refused_next : (pids : List Pid) (p : Pid) (mine : List (Act × Reply)) (a : Act)
-    (rest script : List Act)
-    (f : ActFault) → called_acts mine ++ reverse (rest ++ a ∷ []) ≡ script → IsRefusal pids p a f
-    → All (IsOwn pids p) (called_acts mine) → IsRefused pids p script (length mine) f
-refused_next pids p mine a rest script f is refusal own =
-    let split = next_first mine a rest script is in
-    record {
-      asked = a;
-      place = subst (λ acts. slice_get acts (length mine) ≡ Some a) split
-          (next_act mine a (reverse rest));
-      not_yours = refusal.not_yours;
-      unknown = refusal.unknown;
-      clock = refusal.clock;
-      before = subst (λ acts. All (IsOwn pids p) (take (length mine) acts)) split
-          (subst (All (IsOwn pids p)) (sym (acts_before mine (a ∷ reverse rest))) own);
     }

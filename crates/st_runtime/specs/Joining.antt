@@ -1,23 +1,22 @@
--- The steps of joining: where an entry is, the least pid that isn't seated, and each process's
--- own entries and reports.
-use Rattle.std.specs.Prelude.{◌≡◌, ◌≢◌, ℕ, ◌<◌, Bool, true, false, MatchBool, List, length, map}
-use Rattle.std.specs.Prelude.{filter, Option, Some, None, if◌then◌else◌, All, Contains, IfSome}
+-- The steps of joining: where an entry is, the least pid that isn't seated, and what is read out of
+-- the logs.
+use Rattle.std.specs.Prelude.{◌≡◌, ℕ, ◌<◌, Bool, MatchBool, List, length, map, Option, Some, None}
+use Rattle.std.specs.Prelude.{if◌then◌else◌, All, Contains, IfSome}
 use Rattle.std.specs.Borrow.{Bor}
 use Rattle.std.specs.Ordering.{is_lt}
-use Rattle.std.specs.List.{flat_map, HoldsAt}
 use Rattle.st_core.specs.declared.types.Pid.{Pid}
 use Rattle.st_core.specs.declared.types.Act.{Act}
 use Rattle.st_core.specs.declared.types.Event.{Event}
 use Rattle.st_core.specs.declared.types.Reply.{Reply}
-use Rattle.st_core.specs.Pid.{node_of, pid_cmp, pid_eq, IsBelow, IsRising}
+use Rattle.st_core.specs.Pid.{pid_cmp, pid_eq, IsBelow, IsRising}
 use Rattle.st_core.specs.Step.{actor}
-use Rattle.st_core.specs.Streams.{is_among}
 use Rattle.st_log.specs.declared.entry.Entry.{Entry}
+use Rattle.st_log.specs.Entries.{Logged, entry_at}
 use Rattle.st_runtime.specs.declared.join.record.Record.{Record}
+use Rattle.st_runtime.specs.Driven.{acts_by}
 use Rattle.st_runtime.specs.Joined.{IsMerged, IsOneRun, streams_of}
-use Rattle.st_log.specs.Entries.{Logged, is_wide, entry_at}
-use Rattle.st_runtime.specs.Pcb.{Control}
-use Rattle.st_runtime.specs.Pieces.{pids_in, Parts, IsSeated, IsWholeEntry}
+use Rattle.st_runtime.specs.Pcb.{Control, IsFromLog}
+use Rattle.st_runtime.specs.Pieces.{pids_in, AreWhole, Parts, IsSeated}
 
 -- the process of this pid is there and has the entry
 pub record HasAt (xs : List Control) (p : Pid) (e : Entry) : Type 0 where
@@ -34,52 +33,6 @@ pub record IsInLogOf (xs : List Control) (p : Pid) (e : Entry) : Type 0 where
 -- true if this holds, false if it doesn't
 abbrev pub IsWhether : Bool → Type 0 → Type 0
 IsWhether b Holds = MatchBool b Holds (¬ Holds)
-
--- the entry is in its actor's log, and whole if that is p
-pub record IsWholeIfOwn (xs : List Control) (p : Pid) (e : Entry) : Type 0 where
-  pub made : HasAt xs (actor e.act) e
-  pub whole : actor e.act ≡ p → IsWholeEntry xs e
-
--- if the entry isn't of an act of a whole node, it is in its actor's log, and whole if that is p
-abbrev pub IsSharedUnlessWide : List Control → Pid → Entry → Type 0
-IsSharedUnlessWide xs p e = is_wide e.act ≡ false → IsWholeIfOwn xs p e
-
--- the entries of acts of a whole node
-abbrev pub wide_of : List Entry → List Entry
-wide_of es = filter (λ e. is_wide e.act) es
-
--- place j has the first process on the node
-pub record IsFirstOf (xs : List Control) (node j : ℕ) : Type 0 where
-  pub within : j < length xs
-  pub here : HoldsAt (λ x. node_of x.process.pid ≡ node) xs j
-  pub before : (i : ℕ) → i < j → HoldsAt (λ x. node_of x.process.pid ≢ node) xs i
-
--- the actor is there, and on the node of p
-pub record IsOnNode (xs : List Control) (p : Pid) (a : Act) : Type 0 where
-  pub there : is_among (pids_in xs) (actor a) ≡ true
-  pub node : node_of (actor a) ≡ node_of p
-
--- the actor of an act of a whole node is there, and on the node of p
-abbrev pub IsOnNodeIfWide : List Control → Pid → Act → Type 0
-IsOnNodeIfWide xs p a = is_wide a ≡ true → IsOnNode xs p a
-
--- x, at place k, has the same entries of acts of its whole node as the first process there; if it
--- is that one, the actors of these are there
-pub record IsAlike (xs : List Control) (k : ℕ) (x : Control) : Type 0 where
-  pub first : ℕ
-  pub is_first : IsFirstOf xs (node_of x.process.pid) first
-  pub same : HoldsAt (λ y. wide_of x.log ≡ wide_of y.log) xs first
-  pub there : first ≡ k → All (λ e. IsOnNodeIfWide xs x.process.pid e.act) x.log
-
--- the process at this place is so, and its other entries are settled
-pub record IsSettledAt (xs : List Control) (k : ℕ) : Type 0 where
-  pub alike : HoldsAt (IsAlike xs k) xs k
-  pub settled : HoldsAt (λ x. All (IsSharedUnlessWide xs x.process.pid) x.log) xs k
-
--- the process at this place is settled, and seated
-pub record FitsAt (pieces : Parts) (k : ℕ) : Type 0 where
-  pub settled : IsSettledAt pieces.processes k
-  pub seated : HoldsAt (λ x. IsSeated pieces x.process.pid) pieces.processes k
 
 -- the least, if there is one, isn't seated, and each of these pids that is below it is
 pub record IsLeastUnseated {X : Type 0} (pid_of : X → Pid) (pieces : Parts) (xs : List X)
@@ -115,14 +68,18 @@ abbrev pub IsReadOut : List (Bor Logged × ℕ) → List Act → List Reply → 
 IsReadOut refs acts replies =
     (acts ≡ map (λ r. (referred r).act) refs) × (replies ≡ map (λ r. (referred r).reply) refs)
 
--- a process's own entries
-abbrev pub own_of : Pid → List Entry → List Entry
-own_of p es = filter (λ e. pid_eq (actor e.act) p) es
-
--- each process's own entries, one process after another
-abbrev pub flat_of : List Control → List Entry
-flat_of xs = flat_map (λ x. own_of x.process.pid x.log) xs
-
 -- the report of p in an entry, if it is p's own and has one
 abbrev pub report_at : Pid → Entry → Option Event
 report_at p e = if pid_eq (actor e.act) p then e.report else None
+
+-- the process's own acts in its log
+abbrev pub own_acts : Control → List Act
+own_acts x = acts_by x.process.pid (map (λ e. e.act) x.log)
+
+-- the record is that of whole logs that locks kept, in which each process made its script
+pub record IsScripted (top ranks : ℕ) (xs : List Control) (scripts : List (List Act)) (r : Record)
+    : Type 0 where
+  pub whole : AreWhole xs
+  pub kept : All (λ x. IsFromLog top ranks x.process x.log) xs
+  pub logged : IsLogged top xs r
+  pub made : map own_acts xs ≡ scripts

@@ -13,5 +13,6 @@ pub mod Driven
 -- For the parts alone.
 pub mod Inside
 pub mod Locked
+pub mod Walk
 pub mod Joining
 pub mod Working

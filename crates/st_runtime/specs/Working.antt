@@ -1,10 +1,9 @@
 -- The job of a worker thread, and its end.
-use Rattle.std.specs.Prelude.{◌≡◌, ℕ, List, map, length, Option, Some, None, MatchOption, IfSome}
+use Rattle.std.specs.Prelude.{◌≡◌, ℕ, List, Option, Some, None, MatchOption, IfSome}
 use Rattle.std.specs.Prelude.{All, take, slice_get}
 use Rattle.std.specs.List.{AllZip}
 use Rattle.st_core.specs.declared.types.Pid.{Pid}
 use Rattle.st_core.specs.declared.types.Act.{Act}
-use Rattle.st_core.specs.declared.types.Reply.{Reply}
 use Rattle.st_runtime.specs.declared.fault.ActFault.{ActFault}
 use Rattle.st_runtime.specs.declared.fault.DriveFault.{DriveFault}
 use Rattle.st_runtime.specs.declared.fault.DriveFault.TheVariants as fault
@@ -15,23 +14,17 @@ use Rattle.st_runtime.specs.declared.fault.SystemFault.TheVariants as opening
 use Rattle.st_runtime.specs.declared.driver.worker.Ending.{Ending}
 use Rattle.st_runtime.specs.Driven.{IsOwn, IsRefused}
 
--- the acts of calls
-abbrev pub called_acts : List (Act × Reply) → List Act
-called_acts calls = map (λ c. c.0) calls
+-- what became of a process's script in a system of these pids: each act is the process's own, or
+-- the one after these many was refused
+abbrev pub IsPlayed : List Pid → (Pid × List Act) → ℕ → Option ActFault → Type 0
+IsPlayed pids job made fault =
+    MatchOption fault (All (IsOwn pids job.0) job.1) (IsRefused pids job.0 job.1 made)
 
--- the accepted acts are the script, each of which is the process's own
-pub record IsDone (pids : List Pid) (job : Pid × List Act)
-    (calls : List (Act × Reply)) : Type 0 where
-  pub acts : called_acts calls ≡ job.1
-  pub own : All (IsOwn pids job.0) job.1
-
--- what became of a process's script in a system of these pids: it is done, or it was refused the
--- act that comes next
+-- the ending is that of this job
 pub record IsWorked (pids : List Pid) (job : Pid × List Act) (end : Ending) : Type 0 where
-  pub pid : end.seat.pid ≡ job.0
-  pub acts : MatchOption end.fault
-      (IsDone pids job end.seat.mine)
-      (IsRefused pids job.0 job.1 (length end.seat.mine))
+  pub pid : end.pid ≡ job.0
+  pub script : end.script ≡ job.1
+  pub played : IsPlayed pids job end.made end.fault
 
 -- a worker that wasn't told to stop leaves what became of its script
 abbrev pub LeavesEnding : List Pid → (Pid × List Act) → Option Ending → Type 0
@@ -47,8 +40,8 @@ pub record IsFirstRefusal (ends : List Ending) (p : Pid) (n : ℕ) (f : ActFault
   pub end : Ending
   pub among : slice_get ends number ≡ Some end
   pub before : All (λ e. e.fault ≡ None) (take number ends)
-  pub pid : end.seat.pid ≡ p
-  pub place : length end.seat.mine ≡ n
+  pub pid : end.pid ≡ p
+  pub place : end.made ≡ n
   pub refused : end.fault ≡ Some f
 
 -- a refusal of the drive's own, which tells nothing of the scripts

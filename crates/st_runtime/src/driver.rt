@@ -10,12 +10,11 @@ pub mod worker;
 
 use crate::driver::worker::{Ending, WORKER_STACK, jobs_of, work_all};
 use crate::fault::{ActFault, DriveFault};
-use crate::join::join_given;
+use crate::join::join_driven;
 use crate::join::record::Record;
 use crate::pcb::acts::is_stamping;
 use crate::system::System;
 use crate::system::gate::Gate;
-use crate::system::seat::Seat;
 use st_core::{Act, Pid, Sequence};
 use std::alloc::{AllocError, Global};
 use std::sync::Wait;
@@ -56,8 +55,8 @@ pub fn drive_on<const TOP: u64, const RANKS: u64, R: Threads + Wait + Sync, G: G
 {
     let acts = acts_in(scripts.as_slice());
     let stamps = stamps_in(scripts.as_slice());
-    let (system, seats) = System::<TOP, RANKS>::open_for(alloc, pids, scripts.as_slice())?;
-    let jobs = jobs_of(alloc, seats, scripts)?;
+    let system = System::<TOP, RANKS>::open_for(alloc, pids, scripts.as_slice())?;
+    let jobs = jobs_of(alloc, pids, scripts)?;
     let ends = work_all(rt, alloc, &system, gate, jobs, stack)?;
     if lacks_memory(ends.as_slice()) {
         return Err(DriveFault::Memory);
@@ -66,11 +65,11 @@ pub fn drive_on<const TOP: u64, const RANKS: u64, R: Threads + Wait + Sync, G: G
         let told = possible::<TOP, RANKS>(fault, acts, stamps);
         return Err(DriveFault::Act(pid, n, told));
     }
-    let seats = seats_of(alloc, ends)?;
-    let Ok(pieces) = system.gather(seats) else {
+    let scripts = scripts_of(alloc, ends)?;
+    let Ok(processes) = system.take_out() else {
         return Err(DriveFault::Memory);
     };
-    Ok(join_given(rt, alloc, pieces)?)
+    Ok(join_driven(rt, alloc, processes, scripts)?)
 }
 
 /// How many acts the scripts hold; the greatest count, if there are more.
@@ -123,7 +122,7 @@ fn first_refusal(ends: &[Ending]) -> Option<(Pid, u64, ActFault)>
 {
     for end in ends {
         if let Some(fault) = end.fault {
-            return Some((end.seat.pid(), end.seat.mine().len() as u64, fault));
+            return Some((end.pid, end.made as u64, fault));
         }
     }
     None
@@ -145,15 +144,15 @@ fn possible<const TOP: u64, const RANKS: u64>(fault: ActFault, acts: u64, stamps
     }
 }
 
-/// The seats that the workers gave back.
-fn seats_of(alloc: Global, ends: Vec<Ending>) -> Result<Vec<Seat>, AllocError>
-    ensures { IfOk result (λ v. v.items ≡ map (λ end. end.seat) ends.items) }
+/// The scripts that the workers gave back.
+fn scripts_of(alloc: Global, ends: Vec<Ending>) -> Result<Vec<Sequence<Act>>, AllocError>
+    ensures { IfOk result (λ v. v.items ≡ map (λ end. end.script) ends.items) }
 {
-    let mut seats = Vec::with_capacity(alloc, ends.len())?;
+    let mut scripts = Vec::with_capacity(alloc, ends.len())?;
     for end in ends {
-        let Ok(()) = seats.push(end.seat) else {
+        let Ok(()) = scripts.push(end.script) else {
             return Err(AllocError);
         };
     }
-    Ok(seats)
+    Ok(scripts)
 }

@@ -1,29 +1,30 @@
 //! The one run that pieces tell of.
 
-ghost use Rattle.std.specs.Prelude.{◌≡◌, All, IfOk, IfErr, OnOk};
+ghost use Rattle.std.specs.Prelude.{◌≡◌, length, map, vec_len, All, IfOk, IfErr, IfSome, OnOk};
 ghost use Rattle.std.specs.Thread.{IsSync};
 ghost use Rattle.st_core.specs.Pid.{IsRising};
 ghost use Rattle.st_core.specs.Streams.{IsStreams};
 ghost use Rattle.st_runtime.specs.Joined.{IsJoined, streams_of};
-ghost use Rattle.st_runtime.specs.Joining.{IsLogged, IsReadOut, IsThere};
+ghost use Rattle.st_runtime.specs.Joining.{referred, IsLogged, IsReadOut, IsScripted, IsThere};
 ghost use Rattle.st_runtime.specs.Pcb.{IsFromLog};
-ghost use Rattle.st_runtime.specs.Pieces.{pids_in, AreWhole, IsFit, IsJoinFault};
+ghost use Rattle.st_runtime.specs.Pieces.{pids_in, IsFit, IsJoinFault};
+ghost use Rattle.st_runtime.specs.Walk.{IsWalk};
 
 pub mod collect;
-pub mod fitting;
-pub mod merge;
-pub mod nodes;
+pub mod reading;
 pub mod record;
 pub mod seating;
+pub mod turns;
+pub mod walk;
 pub mod whole;
-pub mod whole_at_once;
 
 use crate::fault::JoinFault;
 use crate::join::collect::streams_of;
-use crate::join::fitting::is_seen_fit;
-use crate::join::merge::{acts_and_replies, acts_of, merge_logs, replies_of};
+use crate::join::reading::{acts_and_replies, acts_of, replies_of};
 use crate::join::record::Record;
-use crate::join::seating::first_unseated;
+use crate::join::seating::{first_undone, first_unseated};
+use crate::join::turns::turns_of;
+use crate::join::walk::{Reference, walk};
 use crate::join::whole::first_missing;
 use crate::pcb::Pcb;
 use crate::system::pieces::Pieces;
@@ -43,57 +44,79 @@ pub fn join_pieces<const TOP: u64, const RANKS: u64>(
     ensures ok { IfOk result (IsJoined TOP pieces.now) }
     ensures err { IfErr result (IsJoinFault pieces.now) }
 {
-    check_fit(alloc, pieces)?;
-    Ok(run_of_logs(alloc, pieces.processes.as_slice())?)
+    let processes = pieces.processes.as_slice();
+    let Ok(Some(entries)) = entries_of(alloc, processes) else {
+        check_fit(pieces)?;
+        return Err(JoinFault::Memory);
+    };
+    if let Some(pid) = first_unseated(processes, pieces.seats.as_slice()) {
+        return Err(JoinFault::SeatDiffers(pid));
+    }
+    Ok(run_of_logs(alloc, processes, entries.as_slice())?)
 }
 
-/// Joins pieces that are given away, by several threads. Their seats, which hold each act
-/// once more, are let go before the logs are merged.
-pub(crate) fn join_given<const TOP: u64, const RANKS: u64, R: Threads + Sync>(
+/// Joins the logs that driven scripts left, by several threads. The scripts are let go before the
+/// acts are read out.
+pub(crate) fn join_driven<const TOP: u64, const RANKS: u64, R: Threads + Sync>(
     rt: &R,
     alloc: Global,
-    pieces: Pieces<TOP, RANKS>,
+    processes: Vec<Pcb<TOP, RANKS>>,
+    scripts: Vec<Sequence<Act>>,
 ) -> Result<Record, JoinFault>
-    ensures ok { IfOk result (IsJoined TOP pieces.entry) }
-    ensures kept { OnOk result
-        (All (λ x. IsFromLog TOP RANKS x.process x.log) pieces.entry.processes) }
-    ensures err { IfErr result (IsJoinFault pieces.entry) }
+    requires rising { IsRising (pids_in processes.items) }
+    requires each { vec_len scripts ≡ vec_len processes }
+    ensures { IfOk result (IsScripted TOP RANKS processes.entry.items scripts.items) }
 {
-    see_fit(rt, alloc, &pieces)?;
-    let processes = pieces.into_processes();
-    Ok(run_by_threads(rt, alloc, processes.as_slice())?)
+    let processes = processes.as_slice();
+    let Some(entries) = entries_of(alloc, processes)? else {
+        return Err(first_fault(processes, scripts.as_slice()));
+    };
+    if let Some(pid) = first_undone(processes, scripts.as_slice()) {
+        return Err(JoinFault::SeatDiffers(pid));
+    }
+    drop(scripts);
+    Ok(run_by_threads(rt, alloc, processes, entries.as_slice())?)
 }
 
-/// Refuses pieces that don't fit, if it isn't seen at once that they do.
-fn see_fit<const TOP: u64, const RANKS: u64>(
-    rt: &(impl Threads + Sync),
+/// The entries of all logs, each once and by rank and then actor, if one walk leads through all
+/// logs.
+fn entries_of<const TOP: u64, const RANKS: u64>(
     alloc: Global,
-    pieces: &Pieces<TOP, RANKS>,
-) -> Result<(), JoinFault>
-    ensures ok { OnOk result (IsFit pieces.now) }
-    ensures err { IfErr result (IsJoinFault pieces.now) }
+    processes: &[Pcb<TOP, RANKS>],
+) -> Result<Option<Vec<Reference<'_>>>, AllocError>
+    requires { IsRising (pids_in processes.now) }
+    ensures walk { IfOk result (λ o. IfSome o (λ v. IsWalk processes.now (map referred v.items))) }
+    ensures there { IfOk result (λ o. IfSome o (λ v. All IsThere v.items)) }
+    ensures kept { OnOk result (All (λ x. IsFromLog TOP RANKS x.process x.log) processes.now) }
 {
-    if is_seen_fit(
-        rt,
-        alloc,
-        pieces.processes.as_slice(),
-        pieces.seats.as_slice(),
-    ) {
-        return Ok(());
+    let turns = turns_of(alloc, processes)?;
+    walk(alloc, processes, turns.as_slice())
+}
+
+/// Why the logs of driven scripts don't fit.
+fn first_fault<const TOP: u64, const RANKS: u64>(
+    processes: &[Pcb<TOP, RANKS>],
+    scripts: &[Sequence<Act>],
+) -> JoinFault
+    requires rising { IsRising (pids_in processes.now) }
+    requires each { length scripts.now ≡ length processes.now }
+{
+    if let Some((pid, place)) = first_missing(processes) {
+        return JoinFault::Missing(pid, place as u64);
     }
-    check_fit(alloc, pieces)
+    match first_undone(processes, scripts) {
+        Some(pid) => JoinFault::SeatDiffers(pid),
+        None => JoinFault::Memory,
+    }
 }
 
 /// Refuses pieces that don't fit.
-fn check_fit<const TOP: u64, const RANKS: u64>(
-    alloc: Global,
-    pieces: &Pieces<TOP, RANKS>,
-) -> Result<(), JoinFault>
+fn check_fit<const TOP: u64, const RANKS: u64>(pieces: &Pieces<TOP, RANKS>) -> Result<(), JoinFault>
     ensures ok { OnOk result (IsFit pieces.now) }
     ensures err { IfErr result (IsJoinFault pieces.now) }
 {
     let processes = pieces.processes.as_slice();
-    if let Some((pid, place)) = first_missing(alloc, processes) {
+    if let Some((pid, place)) = first_missing(processes) {
         return Err(JoinFault::Missing(pid, place as u64));
     }
     if let Some(pid) = first_unseated(processes, pieces.seats.as_slice()) {
@@ -102,18 +125,20 @@ fn check_fit<const TOP: u64, const RANKS: u64>(
     Ok(())
 }
 
-/// The one run of whole logs.
+/// The one run of whole logs, whose merged entries these are.
 fn run_of_logs<const TOP: u64, const RANKS: u64>(
     alloc: Global,
     processes: &[Pcb<TOP, RANKS>],
+    entries: &[Reference<'_>],
 ) -> Result<Record, AllocError>
     requires rising { IsRising (pids_in processes.now) }
-    requires whole { AreWhole processes.now }
+    requires walk { IsWalk processes.now (map referred entries.now) }
+    requires there { All IsThere entries.now }
+    requires kept { All (λ x. IsFromLog TOP RANKS x.process x.log) processes.now }
     ensures { IfOk result (IsLogged TOP processes.now) }
 {
-    let entries = merge_logs(alloc, processes)?;
-    let acts = acts_of(alloc, entries.as_slice())?;
-    let replies = replies_of(alloc, entries.as_slice())?;
+    let acts = acts_of(alloc, entries)?;
+    let replies = replies_of(alloc, entries)?;
     let streams = streams_of(alloc, processes)?;
     Ok(Record {
         streams,
@@ -127,14 +152,14 @@ fn run_by_threads<const TOP: u64, const RANKS: u64, R: Threads + Sync>(
     rt: &R,
     alloc: Global,
     processes: &[Pcb<TOP, RANKS>],
+    entries: &[Reference<'_>],
 ) -> Result<Record, AllocError>
     requires rising { IsRising (pids_in processes.now) }
-    requires whole { AreWhole processes.now }
-    ensures logged { IfOk result (IsLogged TOP processes.now) }
-    ensures kept { OnOk result (All (λ x. IsFromLog TOP RANKS x.process x.log) processes.now) }
+    requires walk { IsWalk processes.now (map referred entries.now) }
+    requires there { All IsThere entries.now }
+    requires kept { All (λ x. IsFromLog TOP RANKS x.process x.log) processes.now }
+    ensures { IfOk result (IsLogged TOP processes.now) }
 {
-    let merged = merge_logs(alloc, processes)?;
-    let entries = merged.as_slice();
     let (streams, calls) = join(
         rt,
         || -> Result<Streams, AllocError>

@@ -28,10 +28,10 @@ use crate::system::gate::Gate;
 use crate::system::lock::take_lock;
 use crate::system::log_room::expected_entries;
 use crate::system::node::Found;
-use crate::system::pids::{first_on, place_of};
+use crate::system::pids::{first_on, guesses_of, place_of};
 use crate::system::pieces::Pieces;
 use crate::system::seat::Seat;
-use st_core::{Act, Pid, Reply, Sequence, is_rising};
+use st_core::{Act, Guesses, Pid, Reply, Sequence, is_rising};
 use st_log::{Entry, is_wide};
 use std::alloc::{AllocError, Global};
 use std::marker::Model;
@@ -41,6 +41,7 @@ use std::sync::{Mutex, Wait};
 #[derive(Drop)]
 pub struct System<const TOP: u64, const RANKS: u64> {
     pids: Vec<Pid>,
+    guesses: Guesses,
     locks: Vec<Mutex<Pcb<TOP, RANKS>>>,
 }
 
@@ -66,17 +67,20 @@ impl<const TOP: u64, const RANKS: u64> System<TOP, RANKS> {
         ensures memory { result ≡ Err SystemFault.Memory → IsRising pids.now }
         ensures not_rising { (result ≡ Err SystemFault.NotRising) ↔ ¬ IsRising pids.now }
     {
-        System::open_for(alloc, pids, &[])
+        let system = System::open_for(alloc, pids, &[])?;
+        match fresh_seats(alloc, pids) {
+            Ok(seats) => Ok((system, seats)),
+            Err(_) => Err(SystemFault::Memory),
+        }
     }
 
-    /// Opens a system with room for the entries of these scripts in logs and seats.
+    /// Opens a system with room in the logs for the entries of these scripts.
     pub(crate) fn open_for(
         alloc: Global,
         pids: &[Pid],
         scripts: &[Sequence<Act>],
-    ) -> Result<(System<TOP, RANKS>, Vec<Seat>), SystemFault>
-        ensures system { IfOk result (λ r. r.0 ≡ pids.now) }
-        ensures seats { IfOk result (λ r. r.1.items ≡ map no_calls pids.now) }
+    ) -> Result<System<TOP, RANKS>, SystemFault>
+        ensures system { IfOk result (λ s. s ≡ pids.now) }
         ensures rising { OnOk result (IsRising pids.now) }
         ensures memory { result ≡ Err SystemFault.Memory → IsRising pids.now }
         ensures not_rising { (result ≡ Err SystemFault.NotRising) ↔ ¬ IsRising pids.now }
@@ -85,7 +89,7 @@ impl<const TOP: u64, const RANKS: u64> System<TOP, RANKS> {
             return Err(SystemFault::NotRising);
         }
         match open_system(alloc, pids, scripts) {
-            Ok(made) => Ok(made),
+            Ok(system) => Ok(system),
             Err(_) => Err(SystemFault::Memory),
         }
     }
@@ -101,12 +105,24 @@ impl<const TOP: u64, const RANKS: u64> System<TOP, RANKS> {
         ensures seats { IfOk result (λ p. p.seats ≡ seats.items) }
         ensures err { IfErr result (λ r. (r.0 ≡ self.entry) × (r.1.items ≡ seats.items)) }
     {
+        match self.take_out() {
+            Ok(processes) => Ok(Pieces::new(processes, seats)),
+            Err(system) => Err((system, seats)),
+        }
+    }
+
+    /// Takes the processes out of their locks. If memory runs out, the system comes back.
+    pub(crate) fn take_out(self) -> Result<Vec<Pcb<TOP, RANKS>>, System<TOP, RANKS>>
+        ensures processes { IfOk result (λ v. pids_in v.items ≡ self.entry) }
+        ensures rising { IfOk result (λ v. IsRising (pids_in v.items)) }
+        ensures err { IfErr result (λ system. system ≡ self.entry) }
+    {
         let alloc = *self.pids.allocator();
         let Ok(fresh) = fresh_processes(alloc, self.pids.as_slice()) else {
-            return Err((self, seats));
+            return Err(self);
         };
-        let System { pids: _, locks } = self;
-        Ok(Pieces::new(take_processes(alloc, fresh, locks), seats))
+        let System { locks, .. } = self;
+        Ok(take_processes(alloc, fresh, locks))
     }
 
     /// Makes the act under the locks of all processes that it touches, and keeps it in the seat
@@ -133,19 +149,51 @@ impl<const TOP: u64, const RANKS: u64> System<TOP, RANKS> {
             ↔ ((actor act.now ≡ seat.old.pid) × (knows self.now act.now ≡ false)) }
         ensures clock { result ≡ Err ActFault.ClockFull → is_stamping act.now ≡ true }
     {
-        if act.actor() != seat.pid() {
-            return Err(ActFault::NotYours);
-        }
-        let Some((me, them)) = self.places(act) else {
-            return Err(ActFault::Unknown);
-        };
+        let places = self.places_for(seat.pid(), act)?;
         let Ok(()) = seat.mine.reserve() else {
             return Err(ActFault::Memory);
         };
         let n = seat.mine.len() as u64;
-        let reply = self.act_under_locks(rt, gate, me, them, act, n)?;
+        let reply = self.act_under_locks(rt, gate, places, act, n)?;
         let _place = seat.mine.push_reserved(act, &reply);
         Ok(reply)
+    }
+
+    /// Makes the act of a process that made this many before, and keeps nothing of it but what the
+    /// logs do.
+    pub(crate) fn act_of<R: Wait, G: Gate>(
+        &self,
+        rt: &R,
+        gate: &G,
+        pid: Pid,
+        act: &Act,
+        n: u64,
+    ) -> Result<Reply, ActFault>
+        ensures not_yours { (result ≡ Err ActFault.NotYours) ↔ (actor act.now ≢ pid) }
+        ensures unknown { (result ≡ Err ActFault.Unknown)
+            ↔ ((actor act.now ≡ pid) × (knows self.now act.now ≡ false)) }
+        ensures clock { result ≡ Err ActFault.ClockFull → is_stamping act.now ≡ true }
+    {
+        let places = self.places_for(pid, act)?;
+        self.act_under_locks(rt, gate, places, act, n)
+    }
+
+    /// Where the actor is, which has to be this process, and where a send's receiver is.
+    fn places_for(&self, pid: Pid, act: &Act) -> Result<(usize, usize), ActFault>
+        ensures not_yours { (result ≡ Err ActFault.NotYours) ↔ (actor act.now ≢ pid) }
+        ensures unknown { (result ≡ Err ActFault.Unknown)
+            ↔ ((actor act.now ≡ pid) × (knows self.now act.now ≡ false)) }
+        ensures me { IfOk result (λ r. slice_get self.now r.0 ≡ Some (actor act.now)) }
+        ensures them { IfOk result (λ r. slice_get self.now r.1 ≡ Some (receiver act.now)) }
+        ensures known { IfErr result (λ f. (f ≡ ActFault.NotYours) ⊎ (f ≡ ActFault.Unknown)) }
+    {
+        if act.actor() != pid {
+            return Err(ActFault::NotYours);
+        }
+        match self.places(act) {
+            Some(places) => Ok(places),
+            None => Err(ActFault::Unknown),
+        }
     }
 
     /// Where the actor is, and where a send's receiver, which else is the actor.
@@ -154,8 +202,13 @@ impl<const TOP: u64, const RANKS: u64> System<TOP, RANKS> {
         ensures me { IfSome result (λ r. slice_get self.now r.0 ≡ Some (actor act.now)) }
         ensures them { IfSome result (λ r. slice_get self.now r.1 ≡ Some (receiver act.now)) }
     {
-        let me = place_of(self.pids.as_slice(), act.actor())?;
-        let them = place_of(self.pids.as_slice(), receiver_of(act))?;
+        let (pids, from, to) = (self.pids.as_slice(), act.actor(), receiver_of(act));
+        let me = place_of(&self.guesses, pids, from)?;
+        let them = if to == from {
+            me
+        } else {
+            place_of(&self.guesses, pids, to)?
+        };
         Some((me, them))
     }
 
@@ -164,16 +217,16 @@ impl<const TOP: u64, const RANKS: u64> System<TOP, RANKS> {
         &self,
         rt: &R,
         gate: &G,
-        me: usize,
-        them: usize,
+        places: (usize, usize),
         act: &Act,
         n: u64,
     ) -> Result<Reply, ActFault>
-        requires me { slice_get self.now me ≡ Some (actor act.now) }
-        requires them { slice_get self.now them ≡ Some (receiver act.now) }
+        requires me { slice_get self.now places.0 ≡ Some (actor act.now) }
+        requires them { slice_get self.now places.1 ≡ Some (receiver act.now) }
         ensures known { IsLockFault result }
         ensures clock { result ≡ Err ActFault.ClockFull → is_stamping act.now ≡ true }
     {
+        let (me, them) = places;
         if is_wide(act) {
             self.whole_node(rt, gate, act, n)
         } else if receiver_of(act) == act.actor() {
@@ -373,21 +426,24 @@ fn act_between<const TOP: u64, const RANKS: u64>(
     act_result(Pcb::between(from, to, act))
 }
 
-/// A system of pids that rise, and its seats, with room for what the scripts bring them.
+/// A system of pids that rise, with room in the logs for what the scripts bring them.
 fn open_system<const TOP: u64, const RANKS: u64>(
     alloc: Global,
     pids: &[Pid],
     scripts: &[Sequence<Act>],
-) -> Result<(System<TOP, RANKS>, Vec<Seat>), AllocError>
+) -> Result<System<TOP, RANKS>, AllocError>
     requires { IsRising pids.now }
-    ensures system { IfOk result (λ r. r.0 ≡ pids.now) }
-    ensures seats { IfOk result (λ r. r.1.items ≡ map no_calls pids.now) }
+    ensures { IfOk result (λ s. s ≡ pids.now) }
 {
-    let entries = expected_entries(alloc, pids, scripts)?;
+    let guesses = guesses_of(alloc, pids)?;
+    let entries = expected_entries(alloc, pids, &guesses, scripts)?;
     let locks = fresh_locks(alloc, pids, entries.as_slice())?;
-    let seats = fresh_seats(alloc, pids, scripts)?;
-    let own = Vec::from_slice(alloc, pids)?;
-    Ok((System { pids: own, locks }, seats))
+    let pids = Vec::from_slice(alloc, pids)?;
+    Ok(System {
+        pids,
+        guesses,
+        locks,
+    })
 }
 
 /// Makes a lock for each pid. The process that it holds has room for this many entries.
@@ -407,18 +463,13 @@ fn fresh_locks<const TOP: u64, const RANKS: u64>(
     Ok(locks)
 }
 
-/// A seat for each pid, with room for the acts of its script.
-fn fresh_seats(
-    alloc: Global,
-    pids: &[Pid],
-    scripts: &[Sequence<Act>],
-) -> Result<Vec<Seat>, AllocError>
+/// A seat for each pid.
+fn fresh_seats(alloc: Global, pids: &[Pid]) -> Result<Vec<Seat>, AllocError>
     ensures { IfOk result (λ seats. seats.items ≡ map no_calls pids.now) }
 {
     let mut seats = Vec::with_capacity(alloc, pids.len())?;
-    for (i, pid) in pids.iter().enumerate() {
-        let acts = scripts.get(i).map_or(0, |script| script.len());
-        seats.push_reserved(Seat::with_room(alloc, *pid, acts)?);
+    for pid in pids {
+        seats.push_reserved(Seat::new(alloc, *pid)?);
     }
     Ok(seats)
 }

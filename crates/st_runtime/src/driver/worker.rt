@@ -1,14 +1,13 @@
 //! The workers of a drive: each makes the acts of one script in a thread of its own.
 
-ghost use Rattle.std.specs.Prelude.{◌≡◌, [], map, reverse, zip, All, IfOk, IfErr, Some};
-ghost use Rattle.st_runtime.specs.Working.{LeavesEnding, AreWorked, IsOwnFault};
+ghost use Rattle.std.specs.Prelude.{◌≡◌, map, zip, IfOk, IfErr, IfSome, Some};
+ghost use Rattle.st_runtime.specs.Working.{IsPlayed, LeavesEnding, AreWorked, IsOwnFault};
 
 use crate::fault::{ActFault, DriveFault};
 use crate::system::System;
 use crate::system::gate::Gate;
-use crate::system::seat::Seat;
 use core::thread::Stack;
-use st_core::{Act, Sequence};
+use st_core::{Act, Pid, Sequence};
 use std::alloc::{AllocError, Global};
 use std::marker::Model;
 use std::snapshot::Snapshot;
@@ -21,44 +20,44 @@ use std::thread::{Promise, Threads};
 /// processes (`System::act`), of which an input of the program has up to 1,024.
 pub const WORKER_STACK: usize = 2_097_152;
 
-/// The job of a worker: a seat through which no act was made yet, and the acts to make.
+/// The job of a worker: whose acts to make, and which.
 #[derive(Drop)]
 pub struct Job {
-    seat: Seat,
+    pid: Pid,
     script: Sequence<Act>,
 }
 
 impl Model for Job {
-    ghost use Rattle.std.specs.Prelude.{List, ◌≡◌, []};
+    ghost use Rattle.std.specs.Prelude.{List};
     ghost use Rattle.st_core.specs.declared.types.Act.{Act};
     ghost use Rattle.st_core.specs.declared.types.Pid.{Pid};
 
     ghost Value = { Pid × List Act };
 
-    ghost view = { λ t. (t.seat.pid, t.script) };
-
-    ghost invariant = { λ t. t.seat.mine ≡ [] };
+    ghost view = { λ t. (t.pid, t.script) };
 }
 
-/// The end of a worker: its seat, and the refusal at which it stopped, if it met one.
+/// The end of a worker: its script, how many acts of it were made, and the refusal at which it
+/// stopped, if it met one.
 #[derive(Drop)]
 pub struct Ending {
-    pub seat: Seat,
+    pub pid: Pid,
+    pub script: Sequence<Act>,
+    pub made: usize,
     pub fault: Option<ActFault>,
 }
 
-/// A job for each seat and its script.
+/// A job for each pid and its script.
 pub fn jobs_of(
     alloc: Global,
-    seats: Vec<Seat>,
+    pids: &[Pid],
     scripts: Vec<Sequence<Act>>,
 ) -> Result<Vec<Job>, AllocError>
-    requires { All (λ s. s.mine ≡ []) seats.items }
-    ensures { IfOk result (λ v. v.items ≡ zip (map (λ s. s.pid) seats.items) scripts.items) }
+    ensures { IfOk result (λ v. v.items ≡ zip pids.now scripts.items) }
 {
-    let mut jobs = Vec::with_capacity(alloc, seats.len())?;
-    for (seat, script) in seats.into_iter().zip(scripts) {
-        let Ok(()) = jobs.push(Job { seat, script }) else {
+    let mut jobs = Vec::with_capacity(alloc, pids.len())?;
+    for (pid, script) in pids.iter().zip(scripts) {
+        let Ok(()) = jobs.push(Job { pid: *pid, script }) else {
             return Err(AllocError);
         };
     }
@@ -155,45 +154,35 @@ fn work<const TOP: u64, const RANKS: u64, R: Wait, G: Gate>(
 ) -> Option<Ending>
     ensures { LeavesEnding system.now job result }
 {
-    let Job { seat, script } = job;
-    let mut acts = script.into_vec();
-    acts.reverse();
-    play_from_end(rt, system, gate, stop, seat, acts)
+    let Job { pid, script } = job;
+    let (made, fault) = play(rt, system, gate, stop, pid, script.as_slice())?;
+    Some(Ending {
+        pid,
+        script,
+        made,
+        fault,
+    })
 }
 
-/// Makes the acts of a script through a seat, the last of which comes first. Their memory is let go
-/// as they are made, since what they leave takes as much.
-fn play_from_end<const TOP: u64, const RANKS: u64, R: Wait, G: Gate>(
+/// Makes these acts of a process in order: how many were made, and the refusal that came next, if
+/// one did.
+fn play<const TOP: u64, const RANKS: u64, R: Wait, G: Gate>(
     rt: &R,
     system: &System<TOP, RANKS>,
     gate: &G,
     stop: &AtomicBool,
-    mut seat: Seat,
-    mut acts: Vec<Act>,
-) -> Option<Ending>
-    requires { seat.mine ≡ [] }
-    ensures { LeavesEnding system.now (seat.pid, reverse acts.items) result }
+    pid: Pid,
+    script: &[Act],
+) -> Option<(usize, Option<ActFault>)>
+    ensures { IfSome result (λ r. IsPlayed system.now (pid, script.now) r.0 r.1) }
 {
-    while let Some(act) = acts.pop() {
+    for (n, act) in script.iter().enumerate() {
         if stop.load(Ordering::SeqCst) {
             return None;
         }
-        if let Err(fault) = system.act(rt, gate, &mut seat, &act) {
-            return Some(Ending {
-                seat,
-                fault: Some(fault),
-            });
+        if let Err(fault) = system.act_of(rt, gate, pid, act, n as u64) {
+            return Some((n, Some(fault)));
         }
-        shrink_if_half_empty(&mut acts);
     }
-    Some(Ending { seat, fault: None })
-}
-
-/// Lets go of the room for acts that were made, once it is half of all.
-fn shrink_if_half_empty(acts: &mut Vec<Act>)
-    ensures { acts.new.items ≡ acts.old.items }
-{
-    if acts.len() <= acts.capacity() / 2 {
-        acts.shrink_to_fit();
-    }
+    Some((script.len(), None))
 }

@@ -12,31 +12,13 @@ ghost use Rattle.st_runtime.specs.Logs.{RanksRise};
 ghost use Rattle.st_runtime.specs.Pieces.{pids_in, AreWhole, HasIfTouched, IsWholeEntry};
 ghost use Rattle.st_runtime.specs.Pieces.{IsFirstMissing};
 
-use crate::join::whole_at_once::are_seen_whole;
 use crate::pcb::Pcb;
 use crate::pcb::acts::receiver_of;
 use st_core::{Act, Pid};
 use st_log::{Entry, Log, is_same_entry, is_wide};
-use std::alloc::Global;
-
-/// The least place of an entry that isn't whole. If all are, this is mostly seen at once; else each
-/// log is asked about each of its entries.
-pub fn first_missing<const TOP: u64, const RANKS: u64>(
-    alloc: Global,
-    processes: &[Pcb<TOP, RANKS>],
-) -> Option<(Pid, usize)>
-    requires { IsRising (pids_in processes.now) }
-    ensures { MatchOption result (AreWhole processes.now)
-        (λ r. IsFirstMissing processes.now r.0 r.1) }
-{
-    if are_seen_whole(alloc, processes) {
-        return None;
-    }
-    least_missing(processes)
-}
 
 /// The least place of an entry that isn't whole, by asking each log about each of its entries.
-fn least_missing<const TOP: u64, const RANKS: u64>(
+pub fn first_missing<const TOP: u64, const RANKS: u64>(
     processes: &[Pcb<TOP, RANKS>],
 ) -> Option<(Pid, usize)>
     requires { IsRising (pids_in processes.now) }

@@ -6,7 +6,7 @@ ghost use Rattle.st_core.specs.Pid.{IsRising};
 
 use crate::pcb::acts::receiver_of;
 use crate::system::pids::place_of;
-use st_core::{Act, Pid, Sequence};
+use st_core::{Act, Guesses, Pid, Sequence};
 use std::alloc::{AllocError, Global};
 
 /// For each process, how many entries its log gets of these scripts: its own acts and what is sent
@@ -14,6 +14,7 @@ use std::alloc::{AllocError, Global};
 pub fn expected_entries(
     alloc: Global,
     pids: &[Pid],
+    guesses: &Guesses,
     scripts: &[Sequence<Act>],
 ) -> Result<Vec<usize>, AllocError>
     requires { IsRising pids.now }
@@ -21,33 +22,33 @@ pub fn expected_entries(
 {
     let mut counts = vec![in alloc; 0; pids.len()]?;
     for script in scripts {
-        count_script(&mut counts, pids, script.as_slice());
+        count_script(&mut counts, pids, guesses, script.as_slice());
     }
     Ok(counts)
 }
 
 /// Counts the entries of a script.
-fn count_script(counts: &mut [usize], pids: &[Pid], script: &[Act])
+fn count_script(counts: &mut [usize], pids: &[Pid], guesses: &Guesses, script: &[Act])
     requires rising { IsRising pids.now }
     requires each { length counts.old ≡ length pids.now }
     ensures { length counts.new ≡ length counts.old }
 {
     for act in script {
         let (from, to) = (act.actor(), receiver_of(act));
-        count_one(counts, pids, from);
+        count_one(counts, pids, guesses, from);
         if to != from {
-            count_one(counts, pids, to);
+            count_one(counts, pids, guesses, to);
         }
     }
 }
 
 /// Counts an entry of this process, if it is there.
-fn count_one(counts: &mut [usize], pids: &[Pid], pid: Pid)
+fn count_one(counts: &mut [usize], pids: &[Pid], guesses: &Guesses, pid: Pid)
     requires rising { IsRising pids.now }
     requires each { length counts.old ≡ length pids.now }
     ensures { length counts.new ≡ length counts.old }
 {
-    if let Some(place) = place_of(pids, pid) {
+    if let Some(place) = place_of(guesses, pids, pid) {
         counts[place] = counts[place].saturating_add(1);
     }
 }

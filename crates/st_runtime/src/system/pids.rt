@@ -4,15 +4,25 @@ ghost use Rattle.std.specs.Prelude.{◌≡◌, ◌≤◌, length, is_some, nat_l
 ghost use Rattle.st_core.specs.Streams.{is_among};
 ghost use Rattle.st_core.specs.Pid.{node_of, IsRising};
 
-use st_core::Pid;
+use st_core::{Guesses, Pid};
+use std::alloc::{AllocError, Global};
 
-/// Where the pid is.
-pub fn place_of(pids: &[Pid], pid: Pid) -> Option<usize>
+/// Guesses where these pids are.
+pub fn guesses_of(alloc: Global, pids: &[Pid]) -> Result<Guesses, AllocError> {
+    let mut guesses = Guesses::for_pids(alloc, pids.len())?;
+    for (place, pid) in pids.iter().enumerate() {
+        guesses.expect(pid.node(), pid.number(), place);
+    }
+    Ok(guesses)
+}
+
+/// Where the pid is: mostly at the guess.
+pub fn place_of(guesses: &Guesses, pids: &[Pid], pid: Pid) -> Option<usize>
     requires { IsRising pids.now }
     ensures variant { is_some result ≡ is_among pids.now pid }
     ensures some { IfSome result (λ i. slice_get pids.now i ≡ Some pid) }
 {
-    pids.binary_search(&pid).ok()
+    st_core::place_of(guesses, pids, pid)
 }
 
 /// Where the first process of the node is, if it has one.

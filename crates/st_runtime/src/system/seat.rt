@@ -24,12 +24,11 @@ impl Model for Seat {
 }
 
 impl Seat {
-    /// A seat through which no act was made yet, with room for this many. Fails if memory
-    /// runs out.
-    pub(crate) fn with_room(alloc: Global, pid: Pid, room: usize) -> Result<Seat, AllocError>
+    /// A seat through which no act was made yet. Fails if memory runs out.
+    pub(crate) fn new(alloc: Global, pid: Pid) -> Result<Seat, AllocError>
         ensures { IfOk result (λ seat. seat ≡ no_calls pid) }
     {
-        let mine = CallLog::with_capacity(alloc, room)?;
+        let mine = CallLog::with_capacity(alloc, 0)?;
         Ok(Seat { pid, mine })
     }
 

@@ -2,5 +2,5 @@
 use Rattle.std.proofs.Common.{◌≡◌, map}
 use Rattle.st_runtime.proofs.driver.worker.jobs_of.Given as goal
 
-abbrev pub invariant-loop-seat : goal.invariant-loop-seat
-invariant-loop-seat l = l.jobs.items ≡ map (λ x. (x.0.pid, x.1)) l.yielded
+abbrev pub invariant-loop-pid : goal.invariant-loop-pid
+invariant-loop-pid l = l.jobs.items ≡ map (λ x. (x.0.now, x.1)) l.yielded

@@ -1,0 +1,22 @@
+-- One walk leads through the logs, and each process made its script.
+use Rattle.std.proofs.Common.{◌∙◌, map, subst, List}
+use Rattle.st_log.specs.declared.entry.Entry.{Entry}
+use Rattle.st_runtime.specs.Joining.{referred, IsScripted}
+use Rattle.st_runtime.specs.Pcb.{Control}
+use Rattle.st_runtime.proofs.Walks.{walk_whole}
+use Rattle.st_runtime.proofs.join.join_driven.Goals as goal
+
+pub returns : goal.returns
+returns g c =
+    let xs = c.as_slice-processes.result.now in
+    let scripts = c.args.scripts.items in
+    let r = c.in_ok-run_by_threads.field-0 in
+    let es : List Entry = map referred c.in-Some.entries.items in
+    let walk = rw c.in-Some.is at c.in_ok-entries.ensures.walk in
+    let Scripted : List Control → Type 0 = λ ys. IsScripted g.row.TOP g.row.RANKS ys scripts r in
+    subst Scripted c.as_slice-processes.ensures.value (record {
+      whole = walk_whole xs es walk;
+      kept = c.in_ok-entries.ensures.kept;
+      logged = c.in_ok-run_by_threads.ensures;
+      made = c.in_default-first_undone.ensures ∙ c.as_slice-2.ensures.value;
+    })

@@ -1,0 +1,20 @@
+-- The cursor that was taken out is the one that is written back.
+use Rattle.std.proofs.Common.{refl, subst}
+use Rattle.std.proofs.lemmas.List.{get_or_default}
+use Rattle.st_log.specs.Entries.{entry_at}
+use Rattle.st_runtime.specs.Walk.{MovesPast}
+use Rattle.st_runtime.proofs.join.walk.pass_at.Goals as goal
+
+pub returns : goal.returns
+returns c sure =
+    let cs = c.args.cursors.now in
+    let e = entry_at c.args.log.now.entries c.args.place in
+    let old = c.index-cursors-at.result in
+    let new = c.pass.new.self in
+    record {
+      cursor = new;
+      passes = subst (λ x. MovesPast e x new)
+          (get_or_default cs c.args.at old new c.requires.at)
+          (c.pass.ensures sure);
+      written = refl;
+    }

@@ -1,0 +1,76 @@
+//! The acts of entries and what they returned, read out of the logs in which they stay.
+
+ghost use Rattle.std.specs.Prelude.{◌≡◌, map, All, IfOk};
+ghost use Rattle.st_runtime.specs.Joining.{referred, IsReadOut, IsThere};
+
+use crate::join::walk::Reference;
+use st_core::{Act, Reply};
+use std::alloc::{AllocError, Global};
+use std::thread::{Threads, join};
+
+/// The act of the entry that is referred to.
+fn act_of(reference: &Reference<'_>) -> Act
+    requires { IsThere reference.now }
+    ensures { result ≡ (referred reference.now).act }
+{
+    let (log, place) = *reference;
+    log.act_at(place)
+}
+
+/// Returns the reply of the entry that is referred to.
+fn reply_of(reference: &Reference<'_>) -> Reply
+    requires { IsThere reference.now }
+    ensures { result ≡ (referred reference.now).reply }
+{
+    let (log, place) = *reference;
+    log.reply_at(place)
+}
+
+/// The acts of entries.
+pub fn acts_of(alloc: Global, entries: &[Reference<'_>]) -> Result<Vec<Act>, AllocError>
+    requires { All IsThere entries.now }
+    ensures { IfOk result (λ v. v.items ≡ map (λ r. (referred r).act) entries.now) }
+{
+    let mut acts = Vec::with_capacity(alloc, entries.len())?;
+    for reference in entries {
+        acts.push_reserved(act_of(reference));
+    }
+    Ok(acts)
+}
+
+/// Returns the replies of entries.
+pub fn replies_of(alloc: Global, entries: &[Reference<'_>]) -> Result<Vec<Reply>, AllocError>
+    requires { All IsThere entries.now }
+    ensures { IfOk result (λ v. v.items ≡ map (λ r. (referred r).reply) entries.now) }
+{
+    let mut replies = Vec::with_capacity(alloc, entries.len())?;
+    for reference in entries {
+        replies.push_reserved(reply_of(reference));
+    }
+    Ok(replies)
+}
+
+/// The acts of entries and what they returned, read out by a thread each.
+pub fn acts_and_replies<R: Threads + Sync>(
+    rt: &R,
+    alloc: Global,
+    entries: &[Reference<'_>],
+) -> Result<(Vec<Act>, Vec<Reply>), AllocError>
+    requires { All IsThere entries.now }
+    ensures { IfOk result (λ r. IsReadOut entries.now r.0.items r.1.items) }
+{
+    let (acts, replies) = join(
+        rt,
+        || -> Result<Vec<Act>, AllocError>
+            requires { All IsThere entries.now }
+            ensures { IfOk result (λ v. v.items ≡ map (λ r. (referred r).act) entries.entry.now) }
+        { acts_of(alloc, entries) },
+        || -> Result<Vec<Reply>, AllocError>
+            requires { All IsThere entries.now }
+            ensures { IfOk result (λ v. v.items ≡ map (λ r. (referred r).reply) entries.entry.now) }
+        { replies_of(alloc, entries) },
+    );
+    let acts = acts?;
+    let replies = replies?;
+    Ok((acts, replies))
+}
