@@ -26,3 +26,7 @@ pub use Rattle.node_machine.proofs.Steps.{node_process_after, node_run_parts, no
 pub use Rattle.node_machine.proofs.Steps.{NodeStepped}
 pub use Rattle.node_machine.proofs.Queues.{alike_in, LastsFit, lasts_fit_then, queue_step}
 pub use Rattle.node_machine.proofs.Queues.{report_own, takes_alike, zero_alike, zero_lasts_fit}
+pub use Rattle.node_machine.proofs.Queues.{SentAlike, stamp_last}
+-- ---- one process by the step
+pub use Rattle.node_machine.proofs.Steps.{actor_found, actor_same, other_same, SameButTraced}
+pub use Rattle.node_machine.proofs.Moves.{IsAnswered, IsStamp, IsTake, Moves, node_acted_moves}

@@ -306,7 +306,7 @@ module _ (alike : Event → Bool) (s : State) (a : NodeAct) (o : Outcome)
 abbrev pub LastsFit : State → Type 0
 LastsFit s = (p : Pid) (r : Process) → process s p ≡ Some r → FitsSerial r.local.last
 
-stamp_last : (p : Pid) (l : LocalState) → (after_stamp p l).last ≡ l.last
+pub stamp_last : (p : Pid) (l : LocalState) → (after_stamp p l).last ≡ l.last
 stamp_last p l = elim l.token as (λ token. (let m : LocalState = elim token [
   | None ↦ l
   | Some t ↦ record l {
@@ -451,6 +451,9 @@ record SendsAlike (alike : Event → Bool) (r : Process) (a : NodeAct) (x : Pid)
   most : arrives alike (machine_act a) (node_acted r a).local.token x ≤ 1
   told : (e : Event) → (node_acted r a).report ≡ Some e
       → (kind_eq e.kind kind.Send && alike e) ≡ true
+  sent : Token
+  is_sent : (node_acted r a).local.token ≡ Some sent
+  content : alike (token_event kind.Send sent (Some x) value) ≡ true
 
 -- the act takes what it reports as received out of x's queue, and puts nothing alike into it
 abbrev pub KeepsQueue : (Event → Bool) → State → NodeAct → Outcome → Pid → Type 0
@@ -458,7 +461,7 @@ KeepsQueue alike s a o x =
     alike_in alike o.after x + cond (pid_eq (node_actor a) x) (takes_alike alike o.report) 0
     ≤ alike_in alike s x
 
--- the act sends its actor's token to x, and what it reports is an alike send
+-- the act sends its actor's token to x, that is alike, and so is what it reports
 pub record SentAlike (alike : Event → Bool) (s : State) (a : NodeAct) (o : Outcome)
     (x : Pid) : Type 0 where
   pub sender : Process
@@ -468,19 +471,27 @@ pub record SentAlike (alike : Event → Bool) (s : State) (a : NodeAct) (o : Out
   pub token : is_some sender.local.token ≡ true
   pub most : alike_in alike o.after x ≤ alike_in alike s x + 1
   pub told : (e : Event) → o.report ≡ Some e → (kind_eq e.kind kind.Send && alike e) ≡ true
+  pub sent : Token
+  pub is_sent : (node_acted sender a).local.token ≡ Some sent
+  pub content : alike (token_event kind.Send sent (Some x) value) ≡ true
 
 module _ (alike : Event → Bool)
     (blind : (t : Token) (to : Option Pid) (v : ℕ)
     → alike (token_event kind.Receive t to v) ≡ alike (token_event kind.Send t to v)) where
+  -- a send of a token is alike if its message is
+  sent_alike : (t : Token) (q : Pid) (v : ℕ) → node_token t ≡ t
+      → alike (token_event kind.Receive (node_token t) (Some q) v) ≡ true
+      → alike (token_event kind.Send t (Some q) v) ≡ true
+  sent_alike t q v same is = sym (blind t (Some q) v)
+      ∙ ap (λ u. alike (token_event kind.Receive u (Some q) v)) (sym same) ∙ is
+
   -- the report of a token is alike if its message is
   told_alike : (traced : Bool) (t : Token) (q : Pid) (v : ℕ) → node_token t ≡ t
       → alike (token_event kind.Receive (node_token t) (Some q) v) ≡ true → (e : Event)
       → report traced kind.Send (Some t) (Some q) v ≡ Some e
       → (kind_eq e.kind kind.Send && alike e) ≡ true
   told_alike traced t q v same is e =
-      let told : alike (token_event kind.Send t (Some q) v) ≡ true =
-      sym (blind t (Some q) v) ∙ ap (λ u. alike (token_event kind.Receive u (Some q) v)) (sym same)
-      ∙ is in
+      let told = sent_alike t q v same is in
       elim (traced && t.flags.send) as (λ b.
       cond b (Some (token_event kind.Send t (Some q) v)) None ≡ Some e
       → (kind_eq e.kind kind.Send && alike e) ≡ true) [
@@ -495,7 +506,9 @@ module _ (alike : Event → Bool)
       (arrives alike (act.Send p q v) m.token q ≡ 0)
       ⊎ ((is_some token ≡ true)
       × ((e : Event) → report traced kind.Send m.token (Some q) v ≡ Some e
-      → (kind_eq e.kind kind.Send && alike e) ≡ true))
+      → (kind_eq e.kind kind.Send && alike e) ≡ true)
+      × ((u : Token) × (m.token ≡ Some u)
+      × (alike (token_event kind.Send u (Some q) v) ≡ true)))
 
   stamped_with : (p q : Pid) (v : ℕ) (x : Pid) (l : LocalState) (t : Token) → FitsSerial l.last
       → (let m : LocalState = record l {
@@ -508,7 +521,13 @@ module _ (alike : Event → Bool)
       (elim (alike (token_event kind.Receive (node_token stamped) (Some q) v)) as (λ b.
       alike (token_event kind.Receive (node_token stamped) (Some q) v) ≡ b
       → SentWith p q v l.traced (Some t) m) [
-        | true ↦ λ is. inr (refl, told_alike l.traced stamped q v (stamp_same x l t fits) is)
+        | true ↦ λ is.
+            let same = stamp_same x l t fits in
+            inr (
+              refl,
+              told_alike l.traced stamped q v same is,
+              (stamped, refl, sent_alike stamped q v same is),
+            )
         | false ↦ λ is. inl (ap (λ b. cond (pid_eq q q && b) 1 0) is ∙ no_one (pid_eq q q))
       ]) refl
 
@@ -549,6 +568,10 @@ module _ (alike : Event → Bool)
                 token = sent.0;
                 most = at_most_one (pid_eq x q && lies x);
                 told = sent.1;
+                sent = sent.2.0;
+                is_sent = sent.2.1;
+                content = subst (λ y. alike (token_event kind.Send sent.2.0 (Some y) v) ≡ true)
+                    (sym who) sent.2.2;
               })
             ]
       ]) refl
@@ -590,6 +613,9 @@ module _ (alike : Event → Bool)
               most = omega arith;
               told = λ e is. sent.told e (ap (λ (y : Acted). y.report) same
                   ∙ ap (λ (y : Outcome). y.report) t.is_outcome ∙ is);
+              sent = sent.sent;
+              is_sent = sent.is_sent;
+              content = sent.content;
             })
       ]
 

@@ -6,19 +6,32 @@ use Rattle.std.specs.List.{count_by, slice_get}
 use Rattle.std.specs.HashMap.{get}
 use Rattle.std.specs.Option.{option_map, unwrap_or}
 use Rattle.std.proofs.lemmas.Bool.{and_parts, eqb-true}
+use Rattle.std.proofs.Common.{eq-eqb}
 use Rattle.std.proofs.lemmas.Bool.Decides.{nat_tests}
 use Rattle.std.proofs.lemmas.List.Sums.{sum_by-append, sum_by-cons}
 use Rattle.std.proofs.lemmas.Option.{same_Some}
 use Rattle.st_core.specs.declared.types.Pid.{Pid}
+use Rattle.st_core.specs.declared.types.Kind.TheVariants as kind
 use Rattle.st_core.specs.declared.types.Event.{Event}
 use Rattle.st_core.specs.Pid.{pid_eq}
 use Rattle.st_core.specs.Event.{to_eq}
-use Rattle.st_core.proofs.ForCallers.{pid_eq-true, to_eq-true}
+use Rattle.st_core.proofs.ForCallers.{pid_eq-refl, pid_eq-true, to_eq-same, to_eq-true}
 use Rattle.node_streams.specs.declared.content.MessageContent.{MessageContent}
 use Rattle.node_streams.specs.declared.counter.Counter.{Counter}
 use Rattle.node_streams.specs.Messages.{content_eq, nth}
 use Rattle.node_streams.specs.Order.{turns}
 use Rattle.node_streams.specs.Tables.{count_in}
+
+-- where there is no event
+abbrev pub blank : Event
+blank = record {
+  label = record { 0 = 0 };
+  kind = kind.Send;
+  to = None;
+  from = record { node = 0; number = 0 };
+  serial = record { prev = 0; this = 0 };
+  value = 0;
+}
 
 pub not_both : (a b : Bool) → b ≡ false → (a && b) ≡ false
 not_both true b is = is
@@ -151,6 +164,16 @@ content_same c d is =
       this = this i;
       value = value i;
     }
+
+pub content_itself : (c : MessageContent) → content_eq c c ≡ true
+content_itself c = rw (
+  pid_eq-refl c.from,
+  to_eq-same c.to,
+  eq-eqb c.label c.label refl,
+  eq-eqb c.prev c.prev refl,
+  eq-eqb c.this c.this refl,
+  eq-eqb c.value c.value refl,
+) refl
 
 -- a counter with one more of a content
 pub noted : (before after : Counter) (d : MessageContent) (more : ℕ) → more ≡ count_in before d + 1

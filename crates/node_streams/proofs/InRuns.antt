@@ -3,7 +3,7 @@
 -- receive that comes after n alike ones had more than n alike sends before it.
 use Rattle.std.proofs.Common.{◌≡◌, ℕ, ◌+◌, ◌≤◌, ◌<◌, ◌⊎◌, ◌&&◌, zero, suc, cond, Bool, true, false}
 use Rattle.std.proofs.Common.{List, [], ◌∷◌, ◌++◌, take, drop, Some, None, is_some, IsSome}
-use Rattle.std.proofs.Common.{eq-eqb, option_to_list, inl, inr, refl, arith, sym, ◌∙◌, ap, subst}
+use Rattle.std.proofs.Common.{option_to_list, inl, inr, refl, arith, sym, ◌∙◌, ap, subst}
 use Rattle.std.specs.List.{count_by, find, slice_get}
 use Rattle.std.proofs.lemmas.Bool.{and_parts, false≢true}
 use Rattle.st_core.specs.declared.types.Pid.{Pid}
@@ -17,7 +17,6 @@ use Rattle.st_core.specs.State.{Process, process, State, zero_state}
 use Rattle.st_core.specs.Step.{Outcome}
 use Rattle.st_core.specs.Streams.{events_of, is_own, lists}
 use Rattle.st_core.proofs.ForCallers.{both_true, lists_among, pid_eq-refl, pid_eq-true}
-use Rattle.st_core.proofs.ForCallers.{to_eq-same}
 use Rattle.node_machine.specs.Node.{machine_act, NodeAct, node_actor, node_run_from}
 use Rattle.node_machine.proofs.ForCallers.{alike_in, LastsFit, lasts_fit_then, node_run_parts}
 use Rattle.node_machine.proofs.ForCallers.{NodeStepped, node_step_parts, queue_step, report_own}
@@ -27,7 +26,8 @@ use Rattle.node_streams.specs.Messages.{content_eq, content_of, takes_message, t
 use Rattle.node_streams.specs.Order.{HaveOrder, next_event, turns}
 use Rattle.node_streams.specs.Runs.{AreReported, AreStreamsOf, node_stream, ReportSends}
 use Rattle.node_streams.specs.Runs.{token_receiver}
-use Rattle.node_streams.proofs.Counting.{add_zero, content_same, count_more, taken_more, turns_more}
+use Rattle.node_streams.proofs.Counting.{add_zero, content_itself, content_same, count_more}
+use Rattle.node_streams.proofs.Counting.{taken_more, turns_more}
 use Rattle.node_streams.proofs.Owners.{receive_to, send_from}
 use Rattle.node_streams.proofs.SentOrders.{GoesSent, HaveSentOrder, IsSentOrder, nothing_unsent}
 use Rattle.node_streams.proofs.SentOrders.{nth_within, sent_order}
@@ -35,7 +35,7 @@ use Rattle.node_streams.proofs.Turns.{events_in, unlisted_events}
 
 -- STREAMS
 
-listed_events : (streams : List Stream) (acts : List NodeAct) (os : List Outcome)
+pub listed_events : (streams : List Stream) (acts : List NodeAct) (os : List Outcome)
     → AreReported streams acts os → (p : Pid) → lists streams p ≡ true
     → events_of streams p ≡ node_stream acts os p
 listed_events [] acts os are p is = absurd (false≢true is)
@@ -96,7 +96,7 @@ told_more streams order test p q e next =
     ]) refl
 
 -- the event's message has this content
-abbrev is_content : MessageContent → Event → Bool
+abbrev pub is_content : MessageContent → Event → Bool
 is_content c e = content_eq (content_of e) c
 
 -- at most as many messages of each content were received or lie in a queue as were sent
@@ -109,21 +109,11 @@ same_if : (b : Bool) → cond {A = ℕ} b 0 0 ≡ 0
 same_if true = refl
 same_if false = refl
 
-send_no_receive : (k : Kind) (same : Bool) → kind_eq k kind.Send ≡ true
+pub send_no_receive : (k : Kind) (same : Bool) → kind_eq k kind.Send ≡ true
     → (kind_eq k kind.Receive && same) ≡ false
 send_no_receive kind.Send same is = refl
 send_no_receive kind.Receive same is = absurd (false≢true is)
 send_no_receive kind.Print same is = absurd (false≢true is)
-
-content_itself : (c : MessageContent) → content_eq c c ≡ true
-content_itself c = rw (
-  pid_eq-refl c.from,
-  to_eq-same c.to,
-  eq-eqb c.label c.label refl,
-  eq-eqb c.prev c.prev refl,
-  eq-eqb c.this c.this refl,
-  eq-eqb c.value c.value refl,
-) refl
 
 -- the turns are those that led to s, and these acts and outcomes are left
 record IsReached (streams : List Stream) (order : List Pid) (s : State) (acts : List NodeAct)

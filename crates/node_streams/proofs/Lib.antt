@@ -1,8 +1,9 @@
 -- The lemmas.
 pub mod Counting
 pub mod Owners
-pub mod SendTables
+pub mod EndTables
 pub mod Unsents
+pub mod OtherEnds
 pub mod Turns
 pub mod Frees
 pub mod Orders
@@ -10,3 +11,4 @@ pub mod SentOrders
 pub mod InRuns
 pub mod FullSends
 pub mod Example
+pub mod ForCallers

@@ -1,9 +1,10 @@
 -- Each event of streams is its process's own.
 use Rattle.std.proofs.Common.{◌≡◌, ℕ, zero, suc, true, false, cond, List, [], ◌∷◌, Option, Some}
 use Rattle.std.proofs.Common.{None}
-use Rattle.std.proofs.Common.{◌⊎◌, inl, inr, is_some, refl, ap, subst}
+use Rattle.std.proofs.Common.{is_some, refl, ap, subst}
+use Rattle.std.specs.Prelude.{is_none}
 use Rattle.std.specs.List.{AllByRecursion, find, slice_get}
-use Rattle.std.specs.Option.{option_map_or}
+use Rattle.std.specs.Option.{option_map_or, unwrap_or}
 use Rattle.std.proofs.lemmas.Bool.{and_parts, false≢true}
 use Rattle.std.proofs.lemmas.Option.{same_Some}
 use Rattle.st_core.specs.declared.types.Pid.{Pid}
@@ -15,6 +16,7 @@ use Rattle.st_core.specs.Event.{kind_eq}
 use Rattle.st_core.specs.Run.{Stream}
 use Rattle.st_core.specs.Streams.{AreOwn, events_of, is_of, is_own}
 use Rattle.st_core.proofs.ForCallers.{pid_eq-true}
+use Rattle.node_streams.specs.Messages.{content_of, owner}
 
 pub own_events : (streams : List Stream) (p : Pid) → AreOwn streams
     → AllByRecursion (λ e. is_own p e ≡ true) (events_of streams p)
@@ -64,7 +66,24 @@ send_from p e own is = (elim e.kind as (λ k. is_of k e.from e.to p ≡ true
       | kind.Receive ↦ λ _ other. absurd (false≢true other)
     ]) own is
 
--- only a send is told as one
-pub not_send : (k : Kind) → (k ≡ kind.Receive) ⊎ (k ≡ kind.Print) → kind_eq k kind.Send ≡ false
-not_send k (inl is) = ap (λ x. kind_eq x kind.Send) is
-not_send k (inr is) = ap (λ x. kind_eq x kind.Send) is
+-- an event of p's is the end of a message that p reports
+pub owner_is : (p : Pid) (e : Event) → is_own p e ≡ true → owner e.kind (content_of e) ≡ p
+owner_is p e own = (elim e.kind as (λ k. is_of k e.from e.to p ≡ true
+    → owner k (content_of e) ≡ p) [
+      | kind.Send ↦ λ mine.
+          pid_eq-true e.from p (and_parts (pid_eq e.from p) (is_some e.to) mine).0
+      | kind.Print ↦ λ mine.
+          pid_eq-true e.from p (and_parts (pid_eq e.from p) (is_none e.to) mine).0
+      | kind.Receive ↦ λ mine. ap (λ o. unwrap_or o e.from) (receiver_is p e.to mine)
+    ]) own
+
+pub kind_same : (j k : Kind) → kind_eq j k ≡ true → j ≡ k
+kind_same kind.Send kind.Send is = refl
+kind_same kind.Receive kind.Receive is = refl
+kind_same kind.Print kind.Print is = refl
+kind_same kind.Send kind.Receive is = absurd (false≢true is)
+kind_same kind.Send kind.Print is = absurd (false≢true is)
+kind_same kind.Receive kind.Send is = absurd (false≢true is)
+kind_same kind.Receive kind.Print is = absurd (false≢true is)
+kind_same kind.Print kind.Send is = absurd (false≢true is)
+kind_same kind.Print kind.Receive is = absurd (false≢true is)

@@ -9,7 +9,7 @@ use Rattle.st_core.specs.Run.{Stream}
 use Rattle.node_streams.specs.Messages.{is_unsent, unsent_from}
 use Rattle.node_streams.proofs.Counting.{taken_next}
 
-first_left : {A : Type 0} (xs : List A) (i : ℕ) (x : A) → slice_get xs i ≡ Some x
+pub first_left : {A : Type 0} (xs : List A) (i : ℕ) (x : A) → slice_get xs i ≡ Some x
     → drop i xs ≡ x ∷ drop (suc i) xs
 first_left [] i x at = absurd (cc)
 first_left (y ∷ xs) zero x at = ap (λ z. z ∷ xs) (same_Some y x at)

@@ -1,7 +1,8 @@
 -- Which send a receive took. Counts may repeat on a node, so a message is known by all that its
 -- events say of it, and messages that are alike are taken in order.
 use Rattle.std.specs.Prelude.{ℕ, ◌==◌, ◌&&◌, zero, suc, Bool, List, [], ◌∷◌, ◌++◌, length}
-use Rattle.std.specs.Prelude.{Option, Some, None, option_map, if◌then◌else◌, is_none, count_by}
+use Rattle.std.specs.Prelude.{Option, Some, None, option_map, if◌then◌else◌, is_none, count_by, map}
+use Rattle.std.specs.Option.{unwrap_or}
 use Rattle.st_core.specs.declared.types.Pid.{Pid}
 use Rattle.st_core.specs.declared.types.Kind.{Kind}
 use Rattle.st_core.specs.declared.types.Kind.TheVariants as kind
@@ -38,6 +39,12 @@ nth test n (e ∷ es) = if test e
     then elim n [ zero ↦ Some 0 | suc m ↦ option_map suc (nth test m es) ]
     else option_map suc (nth test n es)
 
+-- the process that reports an end of this kind of such a message
+abbrev pub owner : Kind → MessageContent → Pid
+owner kind.Send c = c.from
+owner kind.Receive c = unwrap_or c.to c.from
+owner kind.Print c = c.from
+
 -- the index of the send that a receive took, in its sender's stream: as many alike messages were
 -- sent before it as were received among the events before the receive. None if too few were sent
 abbrev pub send_of : List Stream → List Event → Event → Option ℕ
@@ -64,3 +71,26 @@ abbrev pub unsent_among : List Stream → List Pid → List (Pid × ℕ)
 unsent_among streams [] = []
 unsent_among streams (p ∷ ps) =
     unsent_from streams p [] (events_of streams p) ++ unsent_among streams ps
+
+-- the index of a message's other end, in the stream of the process that reports that: of a receive
+-- its send, of a send its receive, which is found in the same way; none if too few were reported
+abbrev pub other_end_of : List Stream → List Event → Event → Option ℕ
+other_end_of streams before e = let c = content_of e in elim e.kind [
+  | kind.Send ↦ nth (tells kind.Receive c) (count_by (tells kind.Send c) before)
+      (events_of streams (owner kind.Receive c))
+  | kind.Receive ↦ send_of streams before e
+  | kind.Print ↦ None
+]
+
+-- those of these events, before which their process reported the others
+abbrev pub partners_from : List Stream → List Event → List Event → List (Option ℕ)
+partners_from streams before [] = []
+partners_from streams before (e ∷ es) =
+    other_end_of streams before e ∷ partners_from streams (before ++ e ∷ []) es
+
+abbrev pub partners : List Stream → List Event → List (Option ℕ)
+partners streams es = partners_from streams [] es
+
+-- those of each process
+abbrev pub all_partners : List Stream → List (List (Option ℕ))
+all_partners streams = map (λ x. partners streams x.events) streams

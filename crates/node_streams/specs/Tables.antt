@@ -4,6 +4,7 @@ use Rattle.std.specs.Prelude.{Some, None, if◌then◌else◌}
 use Rattle.std.specs.Option.{unwrap_or}
 use Rattle.std.specs.HashMap.{get}
 use Rattle.st_core.specs.declared.types.Pid.{Pid}
+use Rattle.st_core.specs.declared.types.Kind.{Kind}
 use Rattle.st_core.specs.declared.types.Kind.TheVariants as kind
 use Rattle.st_core.specs.declared.types.Event.{Event}
 use Rattle.st_core.specs.Pid.{pid_eq}
@@ -11,11 +12,11 @@ use Rattle.st_core.specs.Run.{Stream}
 use Rattle.st_core.specs.Streams.{events_of}
 use Rattle.node_streams.specs.declared.content.MessageContent.{MessageContent}
 use Rattle.node_streams.specs.declared.counter.Counter.{Counter}
-use Rattle.node_streams.specs.declared.sends.Sends.{Sends}
+use Rattle.node_streams.specs.declared.ends.Ends.{Ends}
 use Rattle.node_streams.specs.declared.walk.Walk.{Walk}
 use Rattle.node_streams.specs.declared.walk.Turn.{Turn}
 use Rattle.node_streams.specs.declared.walk.Turn.TheVariants as turn
-use Rattle.node_streams.specs.Messages.{content_eq, takes_message, nth, send_of, tells}
+use Rattle.node_streams.specs.Messages.{content_eq, takes_message, nth, owner, send_of, tells}
 use Rattle.node_streams.specs.Order.{CanGo, next_event, turns}
 
 abbrev pub numbered_eq : MessageContent × ℕ → MessageContent × ℕ → Bool
@@ -25,17 +26,29 @@ numbered_eq a b = content_eq a.0 b.0 && a.1 == b.1
 abbrev pub count_in : Counter → MessageContent → ℕ
 count_in counter c = unwrap_or (get content_eq counter.counts c) 0
 
--- the counter has the receives among these events
-abbrev pub AreReceived : List Event → Counter → Type 0
-AreReceived es counter = (c : MessageContent)
-    → count_in counter c ≡ count_by (tells kind.Receive c) es
+-- the counter has the events of this kind among these
+abbrev pub CountsKind : Kind → List Event → Counter → Type 0
+CountsKind k es counter = (c : MessageContent) → count_in counter c ≡ count_by (tells k c) es
 
--- the table has the sends of these events of each process
-pub record AreSends (told : Pid → List Event) (t : Sends) : Type 0 where
+-- the receives among them
+abbrev pub AreReceived : List Event → Counter → Type 0
+AreReceived es counter = CountsKind kind.Receive es counter
+
+-- the table has the ends of this kind among these events of each process
+pub record AreEnds (k : Kind) (told : Pid → List Event) (t : Ends) : Type 0 where
   pub counts : (c : MessageContent)
-      → count_in t.counter c ≡ count_by (tells kind.Send c) (told c.from)
+      → count_in t.counter c ≡ count_by (tells k c) (told (owner k c))
   pub places : (c : MessageContent) (n : ℕ)
-      → get numbered_eq t.places (c, n) ≡ nth (tells kind.Send c) n (told c.from)
+      → get numbered_eq t.places (c, n) ≡ nth (tells k c) n (told (owner k c))
+
+-- the sends among them
+abbrev pub AreSends : (Pid → List Event) → Ends → Type 0
+AreSends told t = AreEnds kind.Send told t
+
+-- the tables have the sends and the receives of streams
+pub record AreBothEnds (streams : List Stream) (sends receives : Ends) : Type 0 where
+  pub sent : AreEnds kind.Send (events_of streams) sends
+  pub received : AreEnds kind.Receive (events_of streams) receives
 
 -- with these events for p's
 abbrev pub with_events : Pid → List Event → (Pid → List Event) → Pid → List Event

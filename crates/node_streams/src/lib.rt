@@ -4,14 +4,16 @@
 
 mod content;
 mod counter;
+mod ends;
 mod judgement;
 pub mod laws;
 mod order;
+mod partners;
 mod receives;
-mod sends;
 #[cfg(test)]
 mod tests;
 mod walk;
 
 pub use content::MessageContent;
 pub use judgement::{Judgement, judge};
+pub use partners::MessageEnds;

@@ -7,7 +7,7 @@ ghost use Rattle.st_core.specs.declared.types.Pid.{Pid as PidValue};
 ghost use Rattle.node_streams.specs.Order.{HaveOrder, next_event};
 ghost use Rattle.node_streams.specs.Tables.{AreSends, IsAt};
 
-use crate::sends::Sends;
+use crate::ends::Ends;
 use crate::walk::Walk;
 use st_core::{Pid, Streams};
 use std::alloc::{AllocError, Global};
@@ -35,7 +35,7 @@ fn events_left(alloc: Global, streams: &Streams, walk: &Walk) -> Result<Vec<(Pid
 pub(crate) fn cycle(
     alloc: Global,
     streams: &Streams,
-    sends: &Sends,
+    sends: &Ends,
 ) -> Result<Vec<(Pid, u64)>, AllocError>
     requires { AreSends (events_of streams.now) sends.now }
     ensures none { IfOk result (λ v. v.items ≡ [] → HaveOrder streams.now) }

@@ -9,12 +9,12 @@ ghost use Rattle.node_streams.specs.Tables.{AreReceived, AreSends};
 
 use crate::content::MessageContent;
 use crate::counter::Counter;
-use crate::sends::Sends;
+use crate::ends::Ends;
 use st_core::{Event, Kind, Pid, Streams};
 use std::alloc::{AllocError, Global};
 
 /// Counts an event, and returns whether it is the receive of a message that nobody sent.
-fn is_unsent(sends: &Sends, received: &mut Counter, event: &Event) -> Result<bool, AllocError>
+fn is_unsent(sends: &Ends, received: &mut Counter, event: &Event) -> Result<bool, AllocError>
     ensures unsent { (streams : List Stream) (before : List EventValue)
         → AreSends (events_of streams) sends.now → AreReceived before received.old
         → IfOk result (λ b. b ≡ is_unsent streams before event.now) }
@@ -34,7 +34,7 @@ fn is_unsent(sends: &Sends, received: &mut Counter, event: &Event) -> Result<boo
 /// Adds the places of such receives among the events of a process.
 fn add_unsent(
     alloc: Global,
-    sends: &Sends,
+    sends: &Ends,
     places: &mut Vec<(Pid, u64)>,
     pid: Pid,
     events: &[Event],
@@ -56,7 +56,7 @@ fn add_unsent(
 pub(crate) fn unsent(
     alloc: Global,
     streams: &Streams,
-    sends: &Sends,
+    sends: &Ends,
 ) -> Result<Vec<(Pid, u64)>, AllocError>
     requires { AreSends (events_of streams.now) sends.now }
     ensures { IfOk result (λ v. v.items ≡ unsent_among streams.now (pids_of streams.now)) }

@@ -12,7 +12,7 @@ ghost use Rattle.node_streams.specs.Tables.{AreSends, IsAt, IsTurn, done_in};
 
 use crate::content::MessageContent;
 use crate::counter::Counter;
-use crate::sends::Sends;
+use crate::ends::Ends;
 use st_core::{Event, Kind, Pid, Streams};
 use std::alloc::{AllocError, Global};
 use std::collections::HashMap;
@@ -64,7 +64,7 @@ impl Walk {
     }
 
     /// Finds the next turn of the process.
-    pub(crate) fn turn(&self, streams: &Streams, sends: &Sends, pid: Pid) -> Turn
+    pub(crate) fn turn(&self, streams: &Streams, sends: &Ends, pid: Pid) -> Turn
         requires { AreOwn streams.now }
         ensures { (order : List PidValue) → IsAt streams.now order self.now
             → AreSends (events_of streams.now) sends.now → IsTurn streams.now order pid result }
@@ -95,7 +95,7 @@ impl Walk {
     fn candidate(
         &mut self,
         streams: &Streams,
-        sends: &Sends,
+        sends: &Ends,
     ) -> Result<Option<(Pid, Event)>, AllocError>
         requires { AreOwn streams.now }
         ensures done { OnOk result (self.new.done ≡ self.old.done) }
@@ -122,7 +122,7 @@ impl Walk {
     }
 
     /// The first process that can go on, with its next event.
-    fn free_process(&self, streams: &Streams, sends: &Sends) -> Option<(Pid, Event)>
+    fn free_process(&self, streams: &Streams, sends: &Ends) -> Option<(Pid, Event)>
         requires { AreOwn streams.now }
         ensures free { (order : List PidValue) → IsAt streams.now order self.now
             → AreSends (events_of streams.now) sends.now → IfSome result (λ x.
@@ -143,7 +143,7 @@ impl Walk {
     pub(crate) fn next(
         &mut self,
         streams: &Streams,
-        sends: &Sends,
+        sends: &Ends,
     ) -> Result<Option<(Pid, Event)>, AllocError>
         requires { AreOwn streams.now }
         ensures done { OnOk result (self.new.done ≡ self.old.done) }

@@ -1,26 +1,13 @@
 -- One event more: its place is added if it is such a receive.
 use Rattle.std.proofs.Common.{cond, get_or, take, [], ◌∷◌, ◌++◌, sym, ◌∙◌, ap, subst}
-use Rattle.std.proofs.Common.{append-nil, None, Vec, Global, ℕ}
+use Rattle.std.proofs.Common.{append-nil, Vec, Global, ℕ}
 use Rattle.st_core.specs.declared.types.Pid.{Pid}
-use Rattle.st_core.specs.declared.types.Event.{Event}
-use Rattle.st_core.specs.declared.types.Kind.TheVariants as kind
-use Rattle.node_streams.specs.Messages.{is_unsent, unsent_from}
+use Rattle.node_streams.specs.Messages.{unsent_from}
 use Rattle.node_streams.specs.Tables.{AreReceived}
-use Rattle.node_streams.proofs.Counting.{at_get_or, taken_next}
+use Rattle.node_streams.proofs.Counting.{at_get_or, blank, taken_next}
 use Rattle.node_streams.proofs.Unsents.{none_left, unsent_step}
 use Rattle.node_streams.proofs.receives.add_unsent.Goals as goal
 use Rattle.node_streams.proofs.receives.add_unsent.Goals.{then-branch+in_ok-push, else-branch}
-
--- where there is no event
-abbrev blank : Event
-blank = record {
-  label = record { 0 = 0 };
-  kind = kind.Send;
-  to = None;
-  from = record { node = 0; number = 0 };
-  serial = record { prev = 0; this = 0 };
-  value = 0;
-}
 
 pub loop-i-preserved : goal.loop-i-preserved
 loop-i-preserved c =

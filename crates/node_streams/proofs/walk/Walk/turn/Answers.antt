@@ -18,7 +18,7 @@ returns-in-None c = λ order at sends.
     let here = ap (slice_get (events_of streams p)) (sym c.done_of.ensures)
     ∙ sym c.event.ensures ∙ c.in-Some.is in
     let found = found_for streams w e c.of-content.result c.number.result c.place.result
-    c.of-content.ensures c.number.ensures (c.place.ensures (events_of streams) sends) in
+    c.of-content.ensures c.number.ensures (c.place.ensures kind.Send (events_of streams) sends) in
     let receive = ap (λ k. kind_eq k kind.Receive) c.in-Receive.is in (
       free_receive streams order w p c.requires at e here receive c.place.result found
           (λ j is_j. absurd (none-some j (sym c.in-None.is ∙ is_j))),
@@ -34,7 +34,7 @@ returns-then-index-done_of c = λ order at sends.
     let here = ap (slice_get (events_of streams p)) (sym c.done_of.ensures)
     ∙ sym c.event.ensures ∙ c.in-Some.is in
     let found = found_for streams w e c.of-content.result c.number.result c.place.result
-    c.of-content.ensures c.number.ensures (c.place.ensures (events_of streams) sends) in
+    c.of-content.ensures c.number.ensures (c.place.ensures kind.Send (events_of streams) sends) in
     let receive = ap (λ k. kind_eq k kind.Receive) c.in-Receive.is in
     let index = c.in-Some-place.index in
     let early = subst (λ n. index < n) c.done_of-in-Some-place.ensures c.if-index-done_of.true in (
@@ -53,7 +53,7 @@ returns-else-index-done_of c = λ order at sends.
     let here = ap (slice_get (events_of streams p)) (sym c.done_of.ensures)
     ∙ sym c.event.ensures ∙ c.in-Some.is in
     let found = found_for streams w e c.of-content.result c.number.result c.place.result
-    c.of-content.ensures c.number.ensures (c.place.ensures (events_of streams) sends) in
+    c.of-content.ensures c.number.ensures (c.place.ensures kind.Send (events_of streams) sends) in
     let receive = ap (λ k. kind_eq k kind.Receive) c.in-Receive.is in
     let index = c.in-Some-place.index in
     let late = subst (λ n. n ≤ index) c.done_of-in-Some-place.ensures c.if-index-done_of.false in

@@ -2,16 +2,20 @@
 use Rattle.std.proofs.Common.{◌≡◌, ◌≤◌, ◌+◌, cond, get_or, length, take, [], sym, ◌∙◌, ap, subst}
 use Rattle.std.specs.List.{AllByRecursion, slice_get}
 use Rattle.std.proofs.lemmas.List.{take_all}
-use Rattle.std.proofs.Common.{true, Some}
+use Rattle.std.proofs.Common.{true, Some, refl}
 use Rattle.st_core.specs.Pid.{pid_eq}
 use Rattle.st_core.specs.Run.{pids_of}
 use Rattle.st_core.specs.Streams.{events_of, is_own}
 use Rattle.node_streams.specs.Tables.{with_events}
 use Rattle.node_streams.proofs.Counting.{at_get_or}
 use Rattle.node_streams.proofs.Owners.{own_events}
-use Rattle.node_streams.proofs.SendTables.{same_told}
+use Rattle.node_streams.proofs.EndTables.{same_told}
 use Rattle.node_streams.proofs.Turns.{all_among, among_step, events_among, not_before}
-use Rattle.node_streams.proofs.sends.Sends.of.Goals as goal
+use Rattle.node_streams.proofs.ends.Ends.of.Goals as goal
+
+pub loop-pid-init : goal.loop-pid-init
+loop-pid-init c = same_told c.args.kind (λ p. []) (events_among c.args.streams.now [])
+    c.new-ends.result (λ p. refl) (c.new-ends.ensures c.args.kind)
 
 pub note_all-requires : goal.note_all-requires
 note_all-requires c =
@@ -33,7 +37,7 @@ loop-pid-preserved c =
     let told = events_among streams (take i (pids_of streams)) in
     let none = ap (λ b. cond b (events_of streams p) [])
     (not_before (pids_of streams) i p listed.streams.draft.rising at) in
-    same_told (with_events p c.events.result.now told)
+    same_told c.args.kind (with_events p c.events.result.now told)
     (events_among streams (take (i + 1) (pids_of streams)))
     c.note_all.new.self
     (λ q. ap (λ es. cond (pid_eq p q) es (told q)) c.events.ensures.value
@@ -47,5 +51,5 @@ returns c =
     let ps = pids_of streams in
     let all = take_all i ps
     (subst (λ xs. length xs ≤ i) c.pids-pid-items.ensures.value c.loop-pid-test.false) in
-    same_told (events_among streams (take i ps)) (events_of streams) c.loop-pid.sends
+    same_told c.args.kind (events_among streams (take i ps)) (events_of streams) c.loop-pid.ends
     (λ q. ap (λ xs. events_among streams xs q) all ∙ all_among streams q) c.loop-pid.invariant

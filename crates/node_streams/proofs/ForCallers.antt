@@ -1,0 +1,11 @@
+-- The lemmas that proofs of the crates above may cite. They hold by the definitions alone.
+
+-- ---- the other ends of messages
+pub use Rattle.node_streams.proofs.OtherEnds.{IsNth, IsReceiveOf, IsSendOf, nth_is, partner_at}
+pub use Rattle.node_streams.proofs.OtherEnds.{received_sent, sent_received}
+-- ---- contents, and events that tell of them
+pub use Rattle.node_streams.proofs.Counting.{content_itself, content_same, count_more, taken_more}
+pub use Rattle.node_streams.proofs.Owners.{kind_same, own_event, owner_is, receive_to}
+pub use Rattle.node_streams.proofs.SentOrders.{nth_within}
+-- ---- the events of a listed process in a run
+pub use Rattle.node_streams.proofs.InRuns.{is_content, listed_events}
