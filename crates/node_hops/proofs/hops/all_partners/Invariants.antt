@@ -1,0 +1,8 @@
+-- So far these are the partners of the streams that were taken.
+use Rattle.std.proofs.Common.{◌≡◌, map, take}
+use Rattle.node_streams.specs.Messages.{partners}
+use Rattle.node_hops.proofs.hops.all_partners.Given as goal
+
+abbrev pub invariant-loop-pid : goal.invariant-loop-pid
+invariant-loop-pid l =
+    l.lists.items ≡ map (λ s. partners l.streams s.events) (take l.pid-index l.streams)

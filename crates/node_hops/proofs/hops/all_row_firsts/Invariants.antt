@@ -1,0 +1,7 @@
+-- So far these are the starts of the streams that were taken.
+use Rattle.std.proofs.Common.{◌≡◌, take}
+use Rattle.node_hops.specs.Kept.{all_row_firsts}
+use Rattle.node_hops.proofs.hops.all_row_firsts.Given as goal
+
+abbrev pub invariant-loop-pid : goal.invariant-loop-pid
+invariant-loop-pid l = l.lists.items ≡ all_row_firsts (take l.pid-index l.streams)

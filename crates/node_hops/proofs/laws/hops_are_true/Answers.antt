@@ -1,0 +1,6 @@
+-- By its kind.
+use Rattle.node_hops.proofs.Claims.{hop_true}
+use Rattle.node_hops.proofs.laws.hops_are_true.Goals as goal
+
+pub returns : goal.returns
+returns c = hop_true

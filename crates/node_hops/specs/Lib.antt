@@ -1,0 +1,9 @@
+-- The definitions: what gave a process the token that it stamps next, what its events tell of its
+-- counters, the hop back from an event with the premises that it rests on, and what it claims of a
+-- run. Public contracts cite these.
+pub mod Gifts
+pub mod Events
+pub mod Hops
+pub mod Claims
+-- For the parts alone: what is kept of streams.
+pub mod Kept

@@ -1,0 +1,19 @@
+//! The claims of hops in all runs of a standard node without a reset, as contracts of functions
+//! that do nothing: each clause is a theorem over the definitions of `specs/`, and a proof that
+//! calls the function may use it.
+
+ghost use Rattle.std.specs.Prelude.{◌≡◌, ℕ, List, Some, slice_get, Bool};
+ghost use Rattle.st_core.specs.declared.types.Event.{Event};
+ghost use Rattle.st_core.specs.declared.types.Pid.{Pid};
+ghost use Rattle.st_core.specs.Run.{Stream};
+ghost use Rattle.st_core.specs.Streams.{IsStreams};
+ghost use Rattle.st_pair.specs.Places.{event_at};
+ghost use Rattle.node_hops.specs.Claims.{IsTrueOnNode};
+ghost use Rattle.node_hops.specs.Hops.{node_hop_of};
+
+/// The claim of the hop back from an event is true in every run of the node without a reset that
+/// has the streams and in which the premises hold that the hop names.
+pub fn hops_are_true()
+    ensures { (streams : List Stream) (p : Pid) (i : ℕ) (e : Event) → IsStreams streams
+        → event_at streams p i ≡ Some e → IsTrueOnNode streams p i e (node_hop_of streams p i e) }
+{}

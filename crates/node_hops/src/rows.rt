@@ -1,0 +1,73 @@
+//! The rows of sends and prints with one prev.
+
+ghost use Rattle.std.specs.Prelude.{◌≡◌, ◌-◌, ◌<◌, ◌≤◌, IfOk, Some, length, slice_get};
+ghost use Rattle.st_core.specs.declared.types.Event.{Event as EventValue};
+ghost use Rattle.node_hops.specs.Kept.{row_firsts};
+ghost use Rattle.node_hops.specs.Events.{is_in_row, take_before, row_first};
+
+use st_core::{Event, Kind};
+use std::alloc::{AllocError, Global};
+
+/// Whether the event is a send or a print with this prev.
+pub(crate) fn is_in_row(prev: u64, event: &Event) -> bool
+    ensures { result ≡ is_in_row prev event.now }
+{
+    match event.kind {
+        Kind::Send | Kind::Print => event.serial.prev == prev,
+        Kind::Receive => false,
+    }
+}
+
+/// Where the row of sends and prints with the prev of this event begins that goes up to it: where
+/// that of the event before begins, if that event is in the row.
+#[tactic(auto, using(crate::proofs::Starts::next_start))]
+fn next_start(events: &[Event], index: usize, before: usize) -> usize
+    requires within { index < length events.now }
+    requires before { (d : EventValue) → 0 < index → slice_get events.now (index - 1) ≡ Some d
+        → before ≡ row_first d.serial.prev events.now (index - 1) }
+    ensures { (e : EventValue) → slice_get events.now index ≡ Some e
+        → result ≡ row_first e.serial.prev events.now index }
+{
+    if index == 0 {
+        return 0;
+    }
+    if is_in_row(events[index].serial.prev, &events[index - 1]) {
+        before
+    } else {
+        index
+    }
+}
+
+/// Where the row before each event begins.
+pub(crate) fn row_firsts(alloc: Global, events: &[Event]) -> Result<Vec<usize>, AllocError>
+    ensures { IfOk result (λ v. v.items ≡ row_firsts events.now) }
+{
+    let mut start = 0;
+    let mut found = Vec::with_capacity(alloc, events.len())?;
+    for index in 0..events.len() {
+        start = next_start(events, index, start);
+        found.push(start)?;
+    }
+    Ok(found)
+}
+
+/// The index before this one, if a receive of this count is there.
+pub(crate) fn take_before(this: u64, events: &[Event], index: usize) -> Option<u64>
+    requires { index ≤ length events.now }
+    ensures { result ≡ take_before this events.now index }
+{
+    if index == 0 {
+        return None;
+    }
+    let event = &events[index - 1];
+    match event.kind {
+        Kind::Send | Kind::Print => None,
+        Kind::Receive => {
+            if event.serial.this == this {
+                Some(index as u64 - 1)
+            } else {
+                None
+            }
+        }
+    }
+}
