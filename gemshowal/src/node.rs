@@ -7,6 +7,7 @@
 
 use crate::{Event, Kind, OutOfMemory, Pid, ReadError, Serial, Trace};
 use node_given::Way;
+use node_hops::NodeHop;
 use node_machine::Seen;
 use node_origins::EventOrigins;
 use node_streams::MessageContent;
@@ -40,6 +41,7 @@ pub fn signed(count: u64) -> i64 {
 pub struct NodeTrace {
     trace: Trace,
     answers: HashSet<(Pid, u64)>,
+    is_wrapped: bool,
 }
 
 /// The findings about the trace of a node.
@@ -66,7 +68,22 @@ impl NodeFinding {
     }
 }
 
+/// The hops back from all events of a trace.
+pub struct NodeHops<'a>(node_hops::NodeHops<'a>);
+
+impl NodeHops<'_> {
+    /// Returns the hop back from this event, which is at this place.
+    pub fn hop(&self, (pid, index): (Pid, u64), event: &Event) -> NodeHop {
+        self.0.hop(pid, index, event)
+    }
+}
+
 impl NodeTrace {
+    /// Takes a trace as one of a standard node, on which these receives are the answers of spawns.
+    pub fn new(trace: Trace, answers: HashSet<(Pid, u64)>) -> NodeTrace {
+        NodeTrace { trace, answers, is_wrapped: false }
+    }
+
     /// Reads a text of version 3.
     pub fn read(text: &[u8]) -> Result<NodeTrace, ReadError> {
         let rewritten = Rewritten::of(text).map_err(ReadError::Faulty)?;
@@ -75,12 +92,17 @@ impl NodeTrace {
             let lines = trace.lines()?;
             rewritten.answers.iter().filter_map(|&line| lines.place(line)).collect()
         };
-        Ok(NodeTrace { trace, answers })
+        Ok(NodeTrace { trace, answers, is_wrapped: true })
     }
 
     /// Returns the events of all processes.
     pub fn trace(&self) -> &Trace {
         &self.trace
+    }
+
+    /// Returns whether the text was one of version 3.
+    pub fn is_wrapped(&self) -> bool {
+        self.is_wrapped
     }
 
     /// Returns whether this event is the answer of a spawn.
@@ -119,10 +141,21 @@ impl NodeTrace {
         Ok(found)
     }
 
-    /// Finds what the token of each event of a process may have come from.
-    pub fn origins(&self, pid: Pid) -> Result<Vec<EventOrigins>, OutOfMemory> {
+    /// Finds how each event of a process is given, and what its token may have come from. Returns
+    /// `None` if a count is none that a serial of a node shows.
+    pub fn origins(&self, pid: Pid) -> Result<Option<(Vec<Way>, Vec<EventOrigins>)>, OutOfMemory> {
         let seen = self.seen(pid, self.trace.streams().events(pid));
-        Ok(node_origins::origins(Global, &seen)?.as_slice().to_vec())
+        if seen.iter().any(|event| event.serial.this >= COUNTS) {
+            return Ok(None);
+        }
+        let ways = given(&seen)?;
+        let origins = node_origins::origins(Global, &seen)?.as_slice().to_vec();
+        Ok(Some((ways, origins)))
+    }
+
+    /// Finds the hops back from all events.
+    pub fn hops(&self) -> Result<NodeHops<'_>, OutOfMemory> {
+        Ok(NodeHops(node_hops::NodeHops::new(Global, self.trace.streams())?))
     }
 
     /// Returns the send and the receive of each message of which both were reported: alike messages

@@ -130,6 +130,12 @@ class Process:
         self.token, self.queue, self.saved, self.events = None, deque(), [], []
         # The origin of each stamp's token, by index.
         self.origins = {}
+        # How many events came before each act that moves the counters unseen, and before each that makes a token.
+        self.moved, self.made = [], []
+
+    def make(self, label):
+        self.token = Token(label, self.last, 0, None)
+        self.made.append(len(self.events))
 
 
 class Node:
@@ -188,12 +194,14 @@ class Node:
             self.send(born, pid)
             sender, token, value = process.queue.pop()
             process.clock, process.last = answer_count(token.this) % COUNTER, answer_count(token.this) % SERIAL
+            process.moved.append(len(process.events))
             self.report(pid, "answer", token, sender, pid, value)
         return child
 
     def put_back(self, pid, token):
         process = self.processes[pid]
         process.token, process.clock, process.last = token, token.this, token.prev
+        process.moved.append(len(process.events))
 
     def act(self, pid, hands_over):
         process, rng = self.processes[pid], self.rng
@@ -209,7 +217,7 @@ class Node:
             if saved:
                 self.put_back(pid, rng.choice(saved))
         elif not process.token:
-            process.token = Token(self.label(), process.last, 0, None)
+            process.make(self.label())
         elif chance < 0.6:
             process.token = None
         elif chance < 0.7:
@@ -222,7 +230,7 @@ def run(node, acts, hands_over):
     rng = node.rng
     if rng.random() < 0.5:
         first = min(node.processes)
-        node.processes[first].token = Token(node.label(), 0, 0, None)
+        node.processes[first].make(node.label())
         for _ in range(WRAPS):
             for _ in range(rng.randrange(9)):
                 node.print(first)
@@ -233,10 +241,12 @@ def run(node, acts, hands_over):
 
 
 def origins_of(rng, acts):
-    """The streams of a run in which each token that is made has a label of its own, and the origin of each stamp."""
+    """The streams of a run in which each token that is made has a label of its own, its processes, and the origin of each
+    stamp."""
     node = run(Node(rng, has_own_labels=True), acts, hands_over=False)
     streams = {pid: process.events for pid, process in node.processes.items()}
-    return streams, {(pid, i): origin for pid, process in node.processes.items() for i, origin in process.origins.items()}
+    origins = {(pid, i): origin for pid, process in node.processes.items() for i, origin in process.origins.items()}
+    return streams, node.processes, origins
 
 
 def streams_of(rng, acts, hands_over, lossy):

@@ -5,7 +5,7 @@
 //! on, which say what is so in one run of several: so that is said with `perhaps`.
 
 use crate::audit;
-use crate::names::{Line, Names};
+use crate::names::Names;
 use crate::reason::paired;
 use crate::spawns;
 use crate::view::{Kept, Place, Shown, View};
@@ -326,24 +326,6 @@ impl Causes<'_> {
             }
             Item::Reported(pid, index) => self.shown.event((pid, index)),
         }
-    }
-
-    pub(crate) fn put_name(&self, line: &mut Line<'_>, item: Item) {
-        let (pid, index) = item.place();
-        if let Item::Hidden(..) = item {
-            line.text("the send of ");
-        }
-        match self.whole {
-            None => line.event(self.names(), (pid, self.view().number(pid, index))),
-            Some(_) => line.text(&self.shown.event((pid, index))),
-        };
-    }
-
-    pub(crate) fn put_process(&self, line: &mut Line<'_>, pid: Pid) {
-        match self.is_unlisted(pid) {
-            false => line.process(self.names(), pid),
-            true => line.text(&self.process(pid)),
-        };
     }
 
     /// Returns the number of an event in its name; a hidden send has none.

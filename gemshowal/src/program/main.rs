@@ -34,7 +34,6 @@ mod times;
 mod view;
 mod why;
 mod words;
-mod wrapped_why;
 
 use crate::args::{Args, Command};
 use crate::failure::{Failure, Status, PIPE};
