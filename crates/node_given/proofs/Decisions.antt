@@ -80,7 +80,7 @@ module _ (es : List Seen) (ks : List ℕ) (lift last : ℕ) (taking : Bool) (t :
 
 -- TOKENS
 
-zero_held : (es : List Seen) → IsAmong (tokens es) (fresh 0)
+pub zero_held : (es : List Seen) → IsAmong (tokens es) (fresh 0)
 zero_held [] = inl refl
 zero_held (e ∷ es) = among_back (shown e) (tokens es) (fresh 0) (zero_held es)
 
@@ -103,7 +103,7 @@ shown_fits e false answer n x fits (inr (inl is)) =
     let made = ap (λ (y : Serial). y.this) is in omega arith
 shown_fits e false answer n x fits (inr (inr is)) = absurd is
 
-tokens_fit : (es : List Seen) (x : Serial) → AreFit es → IsAmong (tokens es) x → x.this < 2 ^ 60
+pub tokens_fit : (es : List Seen) (x : Serial) → AreFit es → IsAmong (tokens es) x → x.this < 2 ^ 60
 tokens_fit [] x fit (inl is) = let made = ap (λ (y : Serial). y.this) is in omega arith
 tokens_fit [] x fit (inr is) = absurd is
 tokens_fit (e ∷ es) x fit is = elim (among_parts (shown e) (tokens es) x is) [
@@ -161,7 +161,7 @@ lowered_held es e token low =
     (tokens_more low.receive low.front token low.held)
 
 -- the clock that such a token leads to
-lowered_clock : (es : List Seen) (e : Seen) (token : Serial) (clock : ℕ) → AreFit es
+pub lowered_clock : (es : List Seen) (e : Seen) (token : Serial) (clock : ℕ) → AreFit es
     → IsLowered es e token → clock < 2 ^ 60 → stamp_count clock ≡ e.serial.this
     → max token.this (last_behind 0 es) ≡ clock
 lowered_clock es e token clock fit low fits next =
@@ -175,7 +175,7 @@ lowered_clock es e token clock fit low fits next =
     omega arith
 
 -- a token that was held and leads there with the receive was held before it
-before_receive : (front : List Seen) (receive : Seen) (token : Serial) → takes receive ≡ true
+pub before_receive : (front : List Seen) (receive : Seen) (token : Serial) → takes receive ≡ true
     → receive.serial.this < token.this → IsAmong (tokens (front ++ receive ∷ [])) token
     → IsAmong (tokens front) token
 before_receive front receive token taken above is =

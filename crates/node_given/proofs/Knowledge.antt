@@ -51,7 +51,7 @@ tokens_push es e news t to from are =
     ]) are
 
 -- what is shown, by kind
-shown_stamp : (e : Seen) → is_receipt e ≡ false
+pub shown_stamp : (e : Seen) → is_receipt e ≡ false
     → shown e ≡ e.serial ∷ fresh e.serial.prev ∷ []
 shown_stamp e is = ap (λ b. cond b
     (cond e.answer (fresh (serial_count (answer_count e.serial.this)) ∷ [])

@@ -50,7 +50,7 @@ max_either a b = elim (cases_order a b) [
 ]
 
 -- below the size of a serial two clocks before a stamp differ in the counts that they lead to
-serial_case : (n : ℕ) → FitsSerial n → ((n + 1 < 2 ^ 60) × (stamp_count n ≡ n + 1))
+pub serial_case : (n : ℕ) → FitsSerial n → ((n + 1 < 2 ^ 60) × (stamp_count n ≡ n + 1))
     ⊎ ((n + 1 ≡ 2 ^ 60) × (stamp_count n ≡ 0))
 serial_case n fits = elim (cases_order (n + 1) (2 ^ 60)) [
   | inl same ↦ inr (same, (next_wraps n same).0)

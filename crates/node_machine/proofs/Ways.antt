@@ -1,16 +1,15 @@
 -- A stamp is given in one of the four ways.
-use Rattle.std.proofs.Common.{◌≡◌, ℕ, ◌<◌, ◌⊎◌, ◌&&◌, max, Bool, true, false, cond, List, [], ◌∷◌}
+use Rattle.std.proofs.Common.{◌≡◌, ℕ, ◌⊎◌, ◌&&◌, max, Bool, true, false, cond, List, [], ◌∷◌}
 use Rattle.std.proofs.Common.{◌++◌}
-use Rattle.std.proofs.Common.{inl, inr, refl, arith, sym, ◌∙◌, ap, subst, append_assoc, append-nil}
+use Rattle.std.proofs.Common.{inl, inr, refl, sym, ◌∙◌, ap, subst, append_assoc, append-nil}
 use Rattle.std.specs.List.{AllByRecursion}
-use Rattle.std.proofs.lemmas.Bool.{cases_order}
 use Rattle.st_core.specs.declared.types.Serial.{Serial}
 use Rattle.node_machine.specs.Counts.{answer_count, stamp_count, serial_count}
 use Rattle.node_machine.specs.Node.{Seen}
 use Rattle.node_machine.specs.Premises.{IsAmong}
-use Rattle.node_machine.specs.Readings.{clock_behind, clock_by, is_receipt, last_behind, last_by}
+use Rattle.node_machine.specs.Readings.{clock_behind, is_receipt, last_behind}
 use Rattle.node_machine.specs.Given.{fresh, IsGiven, IsPutBack, shown, takes, tokens}
-use Rattle.node_machine.specs.Ways.{carried, IsAgain, IsFreshly, IsInSomeWay, IsLowered, lasts}
+use Rattle.node_machine.specs.Ways.{carried, IsInSomeWay, IsLowered, lasts}
 use Rattle.node_machine.specs.Ways.{lasts_shown}
 use Rattle.node_machine.proofs.Counts.{max_either, next_of_zero}
 use Rattle.node_machine.proofs.Lists.{among_back, among_front, among_parts}
@@ -136,12 +135,12 @@ made_last es v is = elim (held_as es (fresh v) is) [
 
 -- COUNTS
 
-abbrev AreTaken : List Seen → Type 0
+abbrev pub AreTaken : List Seen → Type 0
 AreTaken es = AllByRecursion (λ r. takes r ≡ true) es
 
 -- a token that was put back leads to a clock: it is its own count or that of a receive since, so a
 -- token put back right before the last receive leads there too
-lower : (es : List Seen) (e : Seen) (clock : ℕ) → e.serial.this ≡ stamp_count clock
+pub lower : (es : List Seen) (e : Seen) (clock : ℕ) → e.serial.this ≡ stamp_count clock
     → (front : List Seen) (first : Seen) (back : List Seen) (t : Serial)
     → es ≡ front ++ first ∷ back
     → IsAmong (tokens front) t → AreTaken (first ∷ back)

@@ -11,12 +11,12 @@ use Rattle.node_machine.specs.Origins.{Can, Follows, TokenOrigin}
 use Rattle.node_machine.proofs.ForCallers.{takes_true}
 use Rattle.node_given.specs.declared.way.Way.{Way}
 use Rattle.node_given.specs.Walk.{AreFit, IsWay}
+use Rattle.node_given.proofs.ForCallers.{fits_at, taken_more}
 use Rattle.node_origins.specs.declared.origin.EventOrigins.{EventOrigins}
 use Rattle.node_origins.specs.declared.origin.EventOrigins.TheVariants as origins
 use Rattle.node_origins.specs.declared.origin.StampOrigin.TheVariants as stamp_origin
 use Rattle.node_origins.specs.Sources.{Brings, FromReceive, FromRequest, FollowsAnswer}
 use Rattle.node_origins.specs.Summary.{IsEntry, IsSummary}
-use Rattle.node_origins.proofs.Steps.{fits_at, taken_more}
 use Rattle.node_origins.proofs.Summaries.{entry_summary, same_summary}
 use Rattle.node_origins.proofs.Receives.{Leads, leads_leaves, leads_taken, leaves_leads}
 use Rattle.node_origins.proofs.Receives.{taken_leads}

@@ -15,7 +15,7 @@ use Rattle.node_machine.specs.Readings.{is_receipt}
 use Rattle.node_machine.specs.Given.{shown, tokens}
 use Rattle.node_machine.specs.Origins.{Bears, IsAtHome, StampsFirst}
 use Rattle.node_machine.proofs.ForCallers.{among_back, among_front, among_parts}
-use Rattle.node_origins.proofs.Steps.{at_below, zero_held}
+use Rattle.node_given.proofs.ForCallers.{at_below, zero_held}
 use Rattle.node_origins.specs.declared.first_labels.FirstBearer.{FirstBearer}
 use Rattle.node_origins.specs.Tables.{HasPredecessor, IsBearer, NoneBears}
 

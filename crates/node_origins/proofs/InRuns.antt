@@ -21,7 +21,7 @@ use Rattle.node_machine.specs.Readings.{is_receipt}
 use Rattle.node_machine.specs.Origins.{Can, Held, held_in, Home, OriginsAre, origins_told}
 use Rattle.node_machine.specs.Origins.{TokenOrigin}
 use Rattle.node_machine.proofs.ForCallers.{origins_can}
-use Rattle.node_origins.proofs.Steps.{at_get_or}
+use Rattle.node_given.proofs.ForCallers.{at_get_or}
 use Rattle.node_origins.specs.Runs.{HaveOrigins}
 
 -- as many are told as there are events

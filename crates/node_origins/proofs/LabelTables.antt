@@ -12,9 +12,9 @@ use Rattle.node_machine.specs.declared.types.Seen.{Seen}
 use Rattle.node_machine.specs.Readings.{is_receipt}
 use Rattle.node_machine.specs.Origins.{Bears}
 use Rattle.node_machine.proofs.ForCallers.{all_append}
+use Rattle.node_given.proofs.ForCallers.{at_below}
 use Rattle.node_origins.specs.declared.first_labels.FirstBearer.{FirstBearer}
 use Rattle.node_origins.specs.Tables.{IsBearer, IsFirstBearer, NoneBears}
-use Rattle.node_origins.proofs.Steps.{at_below}
 
 at_front : {A : Type 0} (xs ys : List A) (i : ℕ) (x : A) → slice_get xs i ≡ Some x
     → slice_get (xs ++ ys) i ≡ Some x

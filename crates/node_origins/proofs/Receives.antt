@@ -18,15 +18,15 @@ use Rattle.node_machine.specs.Readings.{readings, taking}
 use Rattle.node_machine.specs.Given.{fresh, IsPutBack, IsStraight, takes, tokens}
 use Rattle.node_machine.specs.Ways.{IsLowered, IsPlainly}
 use Rattle.node_machine.specs.Origins.{IsTaken}
-use Rattle.node_machine.proofs.ForCallers.{all_of, clock_by_receive, last_by_receive}
-use Rattle.node_machine.proofs.ForCallers.{last_push, take_reads, takes_true}
-use Rattle.node_machine.proofs.ForCallers.{took_reads, ways_give}
+use Rattle.node_machine.proofs.ForCallers.{all_of, clock_by_receive, last_by_receive, last_push}
+use Rattle.node_machine.proofs.ForCallers.{next_parts, next_true, serial_case, take_reads}
+use Rattle.node_machine.proofs.ForCallers.{takes_true, took_reads, ways_give}
 use Rattle.node_given.specs.declared.way.Way.{Way}
 use Rattle.node_given.specs.declared.way.Way.TheVariants as way
 use Rattle.node_given.specs.Walk.{AreFit, IsWay}
-use Rattle.node_origins.proofs.Steps.{before_receive, lowered_clock, lowered_last}
-use Rattle.node_origins.proofs.Steps.{lowered_receive, next_parts, next_true, serial_case}
-use Rattle.node_origins.proofs.Steps.{tokens_fit, zero_held}
+use Rattle.node_given.proofs.ForCallers.{before_receive, lowered_clock, lowered_last, tokens_fit}
+use Rattle.node_given.proofs.ForCallers.{zero_held}
+use Rattle.node_origins.proofs.Steps.{lowered_receive}
 use Rattle.node_origins.specs.Sources.{LeavesReceive}
 
 -- the receive leads to the stamp e

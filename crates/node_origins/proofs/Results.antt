@@ -9,6 +9,7 @@ use Rattle.node_machine.specs.declared.types.Seen.{Seen}
 use Rattle.node_machine.specs.Node.{NodeAct}
 use Rattle.node_machine.specs.Readings.{is_receipt}
 use Rattle.node_machine.specs.Origins.{Can, origins_told, TokenOrigin}
+use Rattle.node_given.proofs.ForCallers.{at_below, at_get_or}
 use Rattle.node_origins.specs.declared.origin.EventOrigins.{EventOrigins}
 use Rattle.node_origins.specs.declared.origin.EventOrigins.TheVariants as origins
 use Rattle.node_origins.specs.declared.origin.StampOrigin.{StampOrigin}
@@ -19,7 +20,6 @@ use Rattle.node_origins.proofs.Befores.{blank}
 use Rattle.node_origins.proofs.Entries.{entry_one, entry_receive, entry_several, entry_unknown}
 use Rattle.node_origins.proofs.Entries.{one_parts, unknown_parts}
 use Rattle.node_origins.proofs.InRuns.{origin_in_run}
-use Rattle.node_origins.proofs.Steps.{at_below, at_get_or}
 
 -- an entry is there if the list has it
 as_entry : (found : List EventOrigins) (i : ℕ) (o p : EventOrigins) → slice_get found i ≡ Some o

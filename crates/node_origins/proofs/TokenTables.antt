@@ -19,7 +19,7 @@ use Rattle.node_machine.specs.Premises.{IsAmong}
 use Rattle.node_machine.specs.Readings.{is_receipt}
 use Rattle.node_machine.specs.Given.{fresh, shown, tokens}
 use Rattle.node_machine.proofs.ForCallers.{tokens_new, tokens_parts}
-use Rattle.node_origins.proofs.Steps.{shown_stamp, shown_taken, taken_more}
+use Rattle.node_given.proofs.ForCallers.{shown_stamp, shown_taken, taken_more}
 use Rattle.node_origins.specs.declared.first_tokens.FirstTokens.{FirstTokens}
 use Rattle.node_origins.specs.Tables.{AreFirstTokens, HasPredecessor, IsSince, same_serial}
 use Rattle.node_origins.proofs.Homes.{tokens_later}

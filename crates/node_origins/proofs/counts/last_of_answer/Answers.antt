@@ -1,7 +1,7 @@
 -- A serial shows the rest.
 use Rattle.std.proofs.Common.{ap, ◌∙◌}
 use Rattle.node_machine.specs.Counts.{serial_count}
-use Rattle.node_origins.proofs.Steps.{serial_is}
+use Rattle.node_given.proofs.ForCallers.{serial_is}
 use Rattle.node_origins.proofs.counts.last_of_answer.Goals as goal
 
 pub returns : goal.returns

@@ -3,11 +3,11 @@ use Rattle.std.proofs.Common.{◌≡◌, ◌<◌, get_or, length, inl, inr, arit
 use Rattle.std.proofs.Common.{sym, ◌∙◌, ap, subst, Some}
 use Rattle.std.specs.List.{slice_get}
 use Rattle.std.proofs.lemmas.Option.{none-some, same_Some}
+use Rattle.node_given.proofs.ForCallers.{at_get_or, length_more, pushed_at}
 use Rattle.node_origins.specs.Summary.{IsEntry}
 use Rattle.node_origins.proofs.Befores.{blank}
 use Rattle.node_origins.proofs.Results.{certain_at, impossible_at, one_at, receive_at, several_at}
 use Rattle.node_origins.proofs.Results.{unknown_at}
-use Rattle.node_origins.proofs.Steps.{at_get_or, length_more, pushed_at}
 use Rattle.node_origins.proofs.walk.origins.Goals as goal
 
 pub loop-index-init : goal.loop-index-init

@@ -2,9 +2,9 @@
 use Rattle.std.proofs.Common.{◌≡◌, ◌-◌, ◌<◌, suc, length, get_or, arith, sym, ◌∙◌, ap}
 use Rattle.std.specs.List.{slice_get}
 use Rattle.std.proofs.lemmas.Bool.{false≢true}
+use Rattle.node_given.proofs.ForCallers.{at_below, at_get_or}
 use Rattle.node_origins.specs.declared.origin.EventOrigins.TheVariants as origins
 use Rattle.node_origins.proofs.Befores.{blank, none_requests, request_gives}
-use Rattle.node_origins.proofs.Steps.{at_below, at_get_or}
 use Rattle.node_origins.proofs.walk.request_before.Goals as goal
 
 pub returns-then-goes_on_from : goal.returns-then-goes_on_from

@@ -1,9 +1,9 @@
 -- One event more comes to the table.
 use Rattle.std.proofs.Common.{◌≤◌, get_or, length, take, arith, sym, subst}
+use Rattle.node_given.proofs.ForCallers.{at_get_or, taken_more}
 use Rattle.node_origins.specs.Tables.{AreFirstLabels}
 use Rattle.node_origins.proofs.Befores.{blank}
 use Rattle.node_origins.proofs.Homes.{length_taken}
-use Rattle.node_origins.proofs.Steps.{at_get_or, taken_more}
 use Rattle.node_origins.proofs.first_labels.FirstLabels.of.Goals as goal
 
 pub loop-index-preserved : goal.loop-index-preserved

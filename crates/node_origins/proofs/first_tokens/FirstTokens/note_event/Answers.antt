@@ -4,8 +4,8 @@ use Rattle.st_core.specs.declared.types.Kind.{Kind}
 use Rattle.st_core.specs.declared.types.Kind.TheVariants as kind
 use Rattle.st_core.specs.Event.{kind_eq}
 use Rattle.node_machine.specs.Given.{fresh}
+use Rattle.node_given.proofs.ForCallers.{on_ok}
 use Rattle.node_origins.specs.Tables.{IsSince}
-use Rattle.node_origins.proofs.Steps.{on_ok}
 use Rattle.node_origins.proofs.TokenTables.{not_receive, since_answer, since_receive, since_stamp}
 use Rattle.node_origins.proofs.first_tokens.FirstTokens.note_event.Goals as goal
 

@@ -1,8 +1,8 @@
 -- The table begins with the token that can be made before all events.
 use Rattle.std.proofs.Common.{◌≡◌, ◌+◌, [], arith, subst}
+use Rattle.node_given.proofs.ForCallers.{at_get_or}
 use Rattle.node_origins.specs.Tables.{IsSince}
 use Rattle.node_origins.proofs.Befores.{blank}
-use Rattle.node_origins.proofs.Steps.{at_get_or}
 use Rattle.node_origins.proofs.TokenTables.{since_start}
 use Rattle.node_origins.proofs.first_tokens.FirstTokens.of.Goals as goal
 

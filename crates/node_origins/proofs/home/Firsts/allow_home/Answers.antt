@@ -2,9 +2,9 @@
 use Rattle.std.proofs.Common.{◌≤◌, length, not, inl, inr, refl, arith, sym, ◌∙◌, ap, subst}
 use Rattle.st_core.proofs.ForCallers.{not_true}
 use Rattle.std.proofs.lemmas.Bool.{false≢true, le-leb}
+use Rattle.node_given.proofs.ForCallers.{at_below}
 use Rattle.node_origins.specs.Tables.{IsFirstBearer}
 use Rattle.node_origins.proofs.Homes.{home_back, home_new, home_saved, home_unborne}
-use Rattle.node_origins.proofs.Steps.{at_below}
 use Rattle.node_origins.proofs.home.Firsts.allow_home.Goals as goal
 
 pub returns-in-None : goal.returns-in-None

@@ -1,6 +1,6 @@
 -- The token that the event shows comes to the table, but for an answer's.
 use Rattle.std.proofs.Common.{refl}
-use Rattle.node_origins.proofs.Steps.{on_ok}
+use Rattle.node_given.proofs.ForCallers.{on_ok}
 use Rattle.node_origins.proofs.SuccessorTables.{successors_answer, successors_more}
 use Rattle.node_origins.proofs.successors.Successors.note.Goals as goal
 
