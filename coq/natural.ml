@@ -28,8 +28,14 @@ let rec to_positive n =
     let half = to_positive (Int64.shift_right_logical n 1) in
     if Int64.logand n 1L = 1L then XI half else XO half
 
-(* The numbers in pids, whose bits every look at a process asks for. *)
-let small = Array.init 65_536 (fun n -> if n = 0 then XH else to_positive (Int64.of_int n))
+(* The numbers in pids, whose bits every look at a process asks for. Each has its half's bits. *)
+let small =
+  let bits = Array.make 65_536 XH in
+  for n = 2 to 65_535 do
+    let half = bits.(n / 2) in
+    bits.(n) <- (if n land 1 = 1 then XI half else XO half)
+  done;
+  bits
 
 let cases zero positive n =
   if equal n 0L then zero ()
