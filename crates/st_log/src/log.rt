@@ -19,10 +19,6 @@ use st_core::{Act, Event, Pid, Reply};
 use std::alloc::{AllocError, Global};
 use std::marker::Model;
 
-/// The number of entries up to which a rank is looked for one after another: the processor fetches
-/// those ahead; only past them by halves.
-const NEAR: usize = 64;
-
 /// The most entries of one form: a row has 32 bits for the place of an entry.
 const MOST_PLACES: usize = 4_294_967_295;
 
@@ -225,20 +221,6 @@ impl Log {
         ensures position { IsBinarySearchResult (λ e. nat_cmp e.rank rank) self.now.entries result }
     {
         self.rows.binary_search_by_key(&rank, |row| row.rank)
-    }
-
-    /// The place of the rank, if ranks rise and it is there from this place on. A guess, on which
-    /// no promise rests.
-    pub fn place_from(&self, from: usize, rank: u64) -> usize {
-        let Some(rest) = self.rows.get(from..) else {
-            return from;
-        };
-        match rest.iter().take(NEAR).position(|row| row.rank >= rank) {
-            Some(near) => from.saturating_add(near),
-            None => match self.search(rank) {
-                Ok(place) | Err(place) => place,
-            },
-        }
     }
 
     /// Makes room for one entry. Fails if memory runs out, or if as many as can be apart do.
