@@ -83,9 +83,7 @@ moment({Counts, Messages}) ->
 %% Each send with its receive. Several messages that are alike are under way from the first send to
 %% the last receive, and of those that weren't received the last sends are.
 -spec pairs([place()], [place()]) -> [{place(), place() | none}].
-pairs([], _Received) ->
-    [];
-pairs(Sent, []) ->
+pairs(Sent, Received) when Sent =:= []; Received =:= [] ->
     [{Send, none} || Send <- Sent];
 pairs([First | _] = Sent, Received) ->
     {Taken, Left} = lists:split(min(length(Sent), length(Received)), Sent),

@@ -102,12 +102,11 @@ of_user() ->
         [] -> {error, none}
     end.
 
+checked(Cookie, From) when Cookie =:= []; length(Cookie) > ?LONGEST -> {error, {length, From}};
 checked(Cookie, From) ->
-    case {Cookie =/= []
-          andalso length(Cookie) =< ?LONGEST, lists:all(fun(Letter) -> Letter < 256 end, Cookie)} of
-        {true, true} -> {ok, Cookie};
-        {false, _} -> {error, {length, From}};
-        {true, false} -> {error, {letter, From}}
+    case lists:all(fun(Letter) -> Letter < 256 end, Cookie) of
+        true -> {ok, Cookie};
+        false -> {error, {letter, From}}
     end.
 
 %% @doc Why a node can't be reached, as far as its host tells.

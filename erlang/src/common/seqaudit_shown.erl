@@ -13,10 +13,12 @@
         C >= 16#2028, C =< 16#202E; C >= 16#2066, C =< 16#2069).
 
 %% @doc The text, in UTF-8, with its control characters escaped. What is escaped already stays as it
-%% is.
+%% is, and so do bytes that are no UTF-8.
 -spec escaped(binary()) -> binary().
 escaped(Text) ->
-    << <<(shown(Character))/binary>> || <<Character/utf8>> <= Text >>.
+    escaped(Text, <<>>).
 
-shown(C) when ?IS_CONTROL(C) -> <<"\\x{", (integer_to_binary(C, 16))/binary, $}>>;
-shown(C) -> <<C/utf8>>.
+escaped(<<C/utf8, Rest/binary>>, Done) when ?IS_CONTROL(C) ->
+    escaped(Rest, <<Done/binary, "\\x{", (integer_to_binary(C, 16))/binary, $}>>);
+escaped(<<Byte, Rest/binary>>, Done) -> escaped(Rest, <<Done/binary, Byte>>);
+escaped(<<>>, Done) -> Done.
