@@ -25,6 +25,10 @@ const SHOWN: Range<i64> = -(1 << 59)..1 << 59;
 /// The number of counts that a serial can show.
 pub const COUNTS: u64 = 1 << 60;
 
+/// The number of a process's events from which the upper bits of its first clock are told: they
+/// matter at each greater count that it receives.
+const FRONT: usize = 1_000;
+
 /// Returns a count as the node prints it: above the greatest comes the least.
 pub fn signed(count: u64) -> i64 {
     let count = count as i64;
@@ -200,23 +204,25 @@ fn given(seen: &[Seen]) -> Result<Vec<Way>, OutOfMemory> {
 
 /// Returns what gives each event of a process if its counters go on from before the first of them,
 /// so that they lead to its first stamp. The upper bits of the clock, which no serial shows, are
-/// those with which the fewest later stamps are ungiven.
+/// those with which the fewest of the stamps soon after it are ungiven.
 fn given_from_before(seen: &[Seen], first: usize) -> Result<Option<Vec<Way>>, OutOfMemory> {
-    let mut best: Option<(usize, Vec<Way>)> = None;
+    let front = &seen[..seen.len().min(first + FRONT)];
+    let mut best: Option<(usize, u64)> = None;
     for upper in 0..1 << (u64::BITS - COUNTS.trailing_zeros()) {
-        let mut all = past(seen, first, upper);
-        let past = all.len();
-        all.extend_from_slice(seen);
-        let ways = given(&all)?.split_off(past);
+        let ways = given_after(past(seen, first, upper), front)?;
         let ungiven = ways.iter().filter(|&&way| way == Way::Ungiven).count();
-        if ways[first] == Way::Plain && best.as_ref().is_none_or(|(least, _)| ungiven < *least) {
-            best = Some((ungiven, ways));
-        }
-        if matches!(best, Some((0, _))) {
-            break;
+        if ways[first] == Way::Plain && best.is_none_or(|(least, _)| ungiven < least) {
+            best = Some((ungiven, upper));
         }
     }
-    Ok(best.map(|(_, ways)| ways))
+    let ways = |(_, upper)| given_after(past(seen, first, upper), seen);
+    best.map(ways).transpose()
+}
+
+fn given_after(mut past: Vec<Seen>, seen: &[Seen]) -> Result<Vec<Way>, OutOfMemory> {
+    let before = past.len();
+    past.extend_from_slice(seen);
+    Ok(given(&past)?.split_off(before))
 }
 
 /// Returns events that leave a process with the clock from which its first stamp goes on. The
