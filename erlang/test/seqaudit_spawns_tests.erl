@@ -3,7 +3,7 @@
 -module(seqaudit_spawns_tests).
 
 -export([requests_are_whole_test_/0, births_come_first_test/0, only_births_move_test/0,
-         answers_test/0, signs_test/0, children_that_spawn_test_/0]).
+         answers_test/0, signs_test/0, children_that_spawn_test_/0, exit_test_/0]).
 
 %% Each request runs in a process of its own, calls the server, waits for a task that calls it, and
 %% calls it again: 21 events with its print. Nothing is left out, by either tracer, whatever the
@@ -59,6 +59,26 @@ spawner(Label) ->
         Child ! {self(), asked},
         receive {Child, done} -> ok end
     end).
+
+%% A process that doesn't trap exits gets no message of the end of one that is linked with it.
+exit_test_() ->
+    {timeout, 60, fun() -> seqaudit_audits:with_gemshowal("an exit", fun(_) -> exits() end) end}.
+
+exits() ->
+    Name = seqaudit_audits:file("exits"),
+    ok = seqaudit_trace:start(#{name => Name}),
+    {_, Ended} = spawn_monitor(fun() -> seqaudit_trace:with_trace(1, fun linked/0) end),
+    receive {'DOWN', Ended, process, _, normal} -> ok end,
+    {ok, #{dropped := 0}} = seqaudit_trace:stop(),
+    {0, Said} = seqaudit_audits:gemshowal(["audit", Name]),
+    {_, _} = binary:match(Said, <<"; 1 message has no reported receive, and may still wait, or "
+                                  "told of an exit, which is no message if it isn't trapped\n">>).
+
+linked() ->
+    Child = spawn_link(fun() -> receive go_on -> ok end end),
+    Monitor = monitor(process, Child),
+    Child ! go_on,
+    receive {'DOWN', Monitor, process, Child, normal} -> ok end.
 
 %% The receive of the request and the send of the reply go first, wherever they came.
 births_come_first_test() ->

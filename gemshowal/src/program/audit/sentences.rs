@@ -2,6 +2,7 @@
 
 use super::missing::{Before, Counter, Known, Lack, Missing};
 use super::outcome::{Outcome, Said};
+use crate::names::Names;
 use crate::output::Output;
 use crate::view::{count, grouped, Place, Shown};
 use gemshowal::{Event, Kind, Pid};
@@ -149,24 +150,12 @@ impl Sentences<'_> {
     /// waits no longer, and a message to another node may get there without its token.
     fn not_received(&self) -> String {
         let waiting = &self.missing.waiting;
-        let has = if waiting.len() == 1 { "has" } else { "have" };
-        let messages = count(waiting.len() as u64, "message");
         if self.is_cut() {
-            return format!("{messages} {has} no receive here");
+            let has = if waiting.len() == 1 { "has" } else { "have" };
+            return format!("{} {has} no receive here", count(waiting.len() as u64, "message"));
         }
-        let names = self.shown.view.names;
-        let events = || waiting.iter().filter_map(|&(pid, i)| self.shown.streams.event(pid, i));
-        let to_port = events().any(|it| it.to.is_some_and(|to| names.is_port(to)));
-        let late = events().any(|it| names.is_reply_to_alias(it.value));
-        let far = !names.has_further_nodes()
-            && events().any(|it| it.to.is_some_and(|to| to.node() != it.from.node()));
-        let ways = [
-            (to_port, ", or went to a port"),
-            (late, ", or came too late, as a reply may"),
-            (far, ", or reached another node without a token"),
-        ];
-        let ways: String = ways.iter().filter(|(is_so, _)| *is_so).map(|(_, way)| *way).collect();
-        format!("{messages} {has} no reported receive, and may still wait{ways}")
+        let sends = waiting.iter().filter_map(|&(pid, i)| self.shown.streams.event(pid, i));
+        not_received(self.shown.view.names, &sends.collect::<Vec<_>>())
     }
 
     pub(crate) fn write_details(&self, out: &mut Output) -> io::Result<()> {
@@ -409,6 +398,30 @@ pub(super) fn listed<T>(things: &[T], say: impl Fn(&T) -> String, more: &str) ->
         said.push(format!("and {} {more}", grouped(rest as u64)));
     }
     said.join(", ")
+}
+
+/// Says of the messages of these sends, of which no receive was reported, what may have become of
+/// them.
+pub(super) fn not_received(names: &Names, sends: &[Event]) -> String {
+    let to_port = |send: &Event| send.to.is_some_and(|to| names.is_port(to));
+    let is_late = |send: &Event| names.is_reply_to_alias(send.value);
+    let is_exit = |send: &Event| names.is_exit(send.value);
+    let is_far = |send: &Event| {
+        !names.has_further_nodes() && send.to.is_some_and(|to| to.node() != send.from.node())
+    };
+    let ways = [
+        (sends.iter().any(to_port), ", or went to a port"),
+        (sends.iter().any(is_late), ", or came too late, as a reply may"),
+        (sends.iter().any(is_far), ", or reached another node without a token"),
+        (
+            sends.iter().any(is_exit),
+            ", or told of an exit, which is no message if it isn't trapped",
+        ),
+    ];
+    let ways: String = ways.iter().filter(|(is_so, _)| *is_so).map(|(_, way)| *way).collect();
+    let has = if sends.len() == 1 { "has" } else { "have" };
+    let messages = count(sends.len() as u64, "message");
+    format!("{messages} {has} no reported receive, and may still wait{ways}")
 }
 
 /// Writes where the counters of these processes stood before the trace.

@@ -1,7 +1,7 @@
 //! The audit of a trace whose counters have wrapped, by the laws of a standard node: they ask
 //! nothing of the order of counts.
 
-use super::sentences::{listed, write_all, write_counters, write_losses};
+use super::sentences::{listed, not_received, write_all, write_counters, write_losses};
 use super::unexplained::{serial_text, Explainer};
 use crate::args::Audit;
 use crate::names::Names;
@@ -186,11 +186,10 @@ impl<'a> Judged<'a> {
         match self.waiting.len() {
             0 if self.names.losses().is_empty() => "; nothing is known to be missing".into(),
             0 => "; nothing else is known to be missing".into(),
-            1 => "; 1 message has no reported receive, and may still wait".into(),
-            more => format!(
-                "; {} have no reported receive, and may still wait",
-                count(more as u64, "message")
-            ),
+            _ => {
+                let sends = self.waiting.iter().filter_map(|&place| event_at(self.trace, place));
+                format!("; {}", not_received(self.names, &sends.collect::<Vec<_>>()))
+            }
         }
     }
 

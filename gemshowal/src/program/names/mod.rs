@@ -165,6 +165,11 @@ impl Names {
         self.way(value).is_some_and(|way| way == "spawned ")
     }
 
+    /// Returns whether a message tells a linked process of an exit.
+    pub(crate) fn is_exit(&self, value: u64) -> bool {
+        self.terms.value(value).is_some_and(|it| it.starts_with("{'EXIT',"))
+    }
+
     /// Returns whether a message is a reply to an alias, which a caller that waits no longer
     /// doesn't get.
     pub(crate) fn is_reply_to_alias(&self, value: u64) -> bool {
