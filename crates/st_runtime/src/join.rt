@@ -93,7 +93,8 @@ fn entries_of<const TOP: u64, const RANKS: u64>(
     walk(alloc, processes, turns.as_slice())
 }
 
-/// Why the logs of driven scripts don't fit.
+/// Why the logs of driven scripts don't fit. If no fault is found, there were more acts than turns
+/// can tell (`join::turns`), and it is `Memory`.
 fn first_fault<const TOP: u64, const RANKS: u64>(
     processes: &[Pcb<TOP, RANKS>],
     scripts: &[Sequence<Act>],
