@@ -218,7 +218,7 @@ counts_test() ->
 %% A node number has 65,536 numbers for processes. With more processes a node gets further numbers,
 %% and nothing is left out.
 many_processes_test_() ->
-    {timeout, 120, fun() ->
+    {timeout, 600, fun() ->
         Events = [{seq_trace, 1, {print, {0, 1}, pid('a@h', N, Serial), [], x}}
                   || Serial <- [0, 1, 2, 3, 4], N <- lists:seq(0, 32_767)]
             ++ [{seq_trace, 1, {print, {0, 1}, pid('b@h', 7, 0), [], x}}],
@@ -250,7 +250,7 @@ lost_test() ->
 %% Large terms are cut in what is printed, and not in what is compared. The time is the processor's,
 %% as a machine that does other things too may keep the test waiting.
 hostile_test_() ->
-    {timeout, 120, fun() ->
+    {timeout, 600, fun() ->
         Terms = hostile(),
         Changed = [{lists:seq(1, 1_000_000) ++ [x]}, {lists:seq(1, 1_000_000) ++ [y]}],
         Events = [{seq_trace, Term, {print, {K, K + 1}, self(), [], Term}}
@@ -269,7 +269,7 @@ hostile_test_() ->
 
 %% The events on their way through the tracer of a node.
 hostile_trace_test_() ->
-    {timeout, 120, fun() ->
+    {timeout, 600, fun() ->
         seqaudit_test_nodes:on_port("hostile_trace",
                                     fun() -> hostile_trace("hostile", true, hostile()) end)
     end}.
@@ -277,7 +277,7 @@ hostile_trace_test_() ->
 %% And without a trace port, through the collector itself. An event of a megabyte would be too much
 %% for its queue.
 hostile_process_test_() ->
-    {timeout, 120, fun() ->
+    {timeout, 600, fun() ->
         Small = [Term || Term <- hostile(), erlang:external_size(Term) < 200_000],
         true = length(Small) > 10,
         hostile_trace("hostile_process", false, Small)
