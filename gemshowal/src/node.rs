@@ -94,7 +94,13 @@ impl NodeTrace {
         let trace = Trace::read(&rewritten.text[..])?;
         let answers = {
             let lines = trace.lines()?;
-            rewritten.answers.iter().filter_map(|&line| lines.place(line)).collect()
+            let is_answer = |&(pid, index): &(Pid, u64)| {
+                let line = lines.line(pid, index);
+                line.is_some_and(|line| rewritten.answers.binary_search(&line).is_ok())
+            };
+            let own =
+                |(pid, events): (Pid, &[Event])| (0..events.len() as u64).map(move |i| (pid, i));
+            trace.processes().flat_map(own).filter(is_answer).collect()
         };
         Ok(NodeTrace { trace, answers, is_wrapped: true })
     }
