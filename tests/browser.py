@@ -2,6 +2,7 @@
 import json
 import os
 import shutil
+import signal
 import subprocess
 import tempfile
 
@@ -16,14 +17,15 @@ class Browser:
     """A browser with one page. What it asks of the network is kept."""
 
     def __init__(self, chromium):
-        self.folder = tempfile.TemporaryDirectory()
+        # What the browser began may write a little longer than it lives.
+        self.folder = tempfile.TemporaryDirectory(ignore_cleanup_errors=True)
         (theirs_in, ours_out), (ours_in, theirs_out) = os.pipe(), os.pipe()
         # The browser takes its questions from descriptor 3, and answers on 4.
         words = [chromium, "--headless=new", "--no-sandbox", "--disable-gpu", "--remote-debugging-pipe",
                  f"--user-data-dir={self.folder.name}"]
         command = ["/bin/sh", "-c", f'exec "$@" 3<&{theirs_in} 4>&{theirs_out}', "sh", *words]
         self.process = subprocess.Popen(command, pass_fds=(theirs_in, theirs_out), stdout=subprocess.DEVNULL,
-                                        stderr=subprocess.DEVNULL)
+                                        stderr=subprocess.DEVNULL, start_new_session=True)
         os.close(theirs_in)
         os.close(theirs_out)
         self.questions, self.answers = os.fdopen(ours_out, "wb"), os.fdopen(ours_in, "rb")
@@ -33,7 +35,7 @@ class Browser:
         return self
 
     def __exit__(self, *_):
-        self.process.terminate()
+        os.killpg(self.process.pid, signal.SIGKILL)
         self.process.wait()
         self.questions.close()
         self.answers.close()
