@@ -17,7 +17,7 @@ class Browser:
     """A browser with one page. What it asks of the network is kept."""
 
     def __init__(self, chromium):
-        # What the browser began may write a little longer than it lives.
+        # Lets processes that the browser began write a little longer than it lives.
         self.folder = tempfile.TemporaryDirectory(ignore_cleanup_errors=True)
         (theirs_in, ours_out), (ours_in, theirs_out) = os.pipe(), os.pipe()
         # The browser takes its questions from descriptor 3, and answers on 4.

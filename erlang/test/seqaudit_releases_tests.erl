@@ -88,7 +88,7 @@ pair(Command, Application, {Node, _}) ->
     nomatch = binary:match(Watched, <<"no events came">>).
 
 %% Waits until the command has told of its second period, for which a busy machine needs a while.
-%% What the command of another pair said is removed first.
+%% Removes first what the command of another pair said.
 watched(Command, Watch, Said) ->
     shell(Command, ["rm -f ", Said, "; ", Watch, " >", Said, " 2>&1 & command=$!; seconds=0; "
                     "until grep -qs 'period 2: ' ", Said, " || [ $seconds = ",

@@ -1,6 +1,5 @@
--- What an act gives its actor: nothing but a receive, a set and a token that is put back changes
--- whose token it is and its label, and only a receive, a token that is put back and an answer
--- change last.
+-- Gifts of acts: nothing but a receive, a set and a token that is put back changes whose token it
+-- is and its label, and only a receive, a token that is put back and an answer change last.
 use Rattle.std.proofs.Common.{◌≡◌, ◌≢◌, ℕ, ◌⊎◌, ◌||◌, ◌&&◌, Bool, true, false, cond, Option, Some}
 use Rattle.std.proofs.Common.{None}
 use Rattle.std.proofs.Common.{is_some, option_map, inl, inr, refl, sym, ◌∙◌, ap, subst}

@@ -1,4 +1,4 @@
--- What a receive's hop claims is true: among the acts up to it, as many alike messages were
+-- The claim of a receive's hop is true: among the acts up to it, as many alike messages were
 -- received as were sent at most. So if each was reported when it was sent, the send that is as many
 -- alike ones after the first as the receive is came before it; and if there is none, one wasn't
 -- reported.

@@ -1,4 +1,4 @@
--- What a stamp's hop claims is true: between the receive that it names, or the event before its
+-- The claim of a stamp's hop is true: between the receive that it names, or the event before its
 -- row, and the stamp, nothing but what the premises exclude could have given the process another
 -- token, or another last.
 use Rattle.std.proofs.Common.{◌≡◌, ◌≢◌, ℕ, ◌<◌, ◌≤◌, ◌⊎◌, ◌==◌, ◌&&◌, ◌||◌, zero, suc, Bool}

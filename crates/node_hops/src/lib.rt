@@ -1,5 +1,5 @@
-//! What the events of a standard node follow: the hops from event to event that a trace tells of,
-//! and what they claim of each run of the node.
+//! Hops of a standard node: from event to event, as far as a trace tells of them, and what they
+//! claim of each run of the node.
 #![tactic(auto)]
 
 mod hop;

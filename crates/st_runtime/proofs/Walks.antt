@@ -1,5 +1,5 @@
--- What the cursors passed is what the acts so far touch. So where the walk ends with all cursors at
--- their ends, each log is what all acts touch: its entries are whole, and merged in this order.
+-- The cursors passed what the acts so far touch. So where the walk ends with all cursors at their
+-- ends, each log is what all acts touch: its entries are whole, and merged in this order.
 use Rattle.std.proofs.Common.{◌≡◌, ℕ, zero, suc, ◌<◌, Bool, true, false, cond, List, []}
 use Rattle.std.proofs.Common.{◌∷◌, ◌++◌, length, map, get_or, refl, sym, ◌∙◌, ap, subst, arith, inl}
 use Rattle.std.proofs.Common.{inr, ⊎_elim, ◌⊎◌}

@@ -211,7 +211,7 @@ impl<'a> Causes<'a> {
     }
 }
 
-/// What is known of the tokens of one process.
+/// The tokens of one process, as far as they are known.
 struct OwnLinks<'a> {
     trace: &'a NodeTrace,
     /// For each event what gives it, and what its token may have come from, if that was asked.

@@ -109,7 +109,7 @@ impl<'a> Judged<'a> {
         };
         let waiting = trace.unreceived();
         let explainer = Explainer::new(trace, names, &waiting);
-        // What the trace itself may explain isn't said to come from before it.
+        // Leaves out what the trace itself may explain.
         let from_before = trace.from_before(&finding)?.into_iter();
         let from_before = from_before.filter(|it| !explainer.has_source((it.0, it.1)));
         let mut earlier = Vec::new();
