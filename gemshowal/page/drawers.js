@@ -72,9 +72,7 @@ drawer("help", section => section.replaceChildren(
     "a line that ends in a bar: a message whose receive isn't in the trace",
     "dashed: unreported, as gemshowal complete adds it; its name has a ~",
     "?: what the event follows may be something else, or may not have been reported",
-    "a cause holds in each run without a reset that reports the trace, with a number behind it (1) if each receive "
-      + "of a token was reported, (2) if no process cleared or lost its token, began again and reported an "
-      + "earlier label again, (3) on a standard node, where a process keeps its token while it spawns; perhaps: it is so in the run that gemshowal complete finds",
+    "what an event follows rests on the lines whose numbers are behind it", ...data.rests_on,
     "\u25cf the chosen event; \u2191 its causes, blue; \u2193 its effects, orange",
     "by time: events by their nodes' clocks, with a scale; pauses take room, the longest up to 8 rows",
     "arrow keys, Page Up and Down, Home, End: go to another event",

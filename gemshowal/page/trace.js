@@ -49,25 +49,30 @@ export const sentence = row => {
   return self + " " + VERBS[rows.kind[row]] + " " + brief(row) + link;
 };
 
-// On which premises it rests what an event follows, by its grade; the legend has their words.
-const PREMISES = { c: "", 1: " (1)", 2: " (1, 2)", 3: " (3)", 4: " (1, 3)", 5: " (1, 2, 3)", p: "" };
+// On which premises it rests what an event follows, by the last one; the legend has their words.
+const PREMISES = { c: "", 2: " (1, 2)", 3: " (1, 2, 3)", 4: " (4)", 7: " (5, 6, 7)", p: "" };
 
-// In the words of `gemshowal chart`.
+// In the words of `gemshowal why`.
 export const causeText = row => {
-  const cause = rows.cause[row], had = rows.had[row], perhaps = rows.grade[row] === "p" ? "perhaps " : "";
-  const after = cause < 0 ? "" : perhaps + "after " + eventName(cause)
-    + (isPlain(cause) ? "" : ", which wasn't reported");
-  return { s: after, r: after,
-           l: perhaps + "begins label " + visible(labels[rows.label[row]]) + " here, or set it on its token"
-              + (had === undefined ? "" : "; it had last received " + eventName(had) + " of label "
-                 + visible(labels[rows.label[had]])),
-           b: perhaps + "begins here", o: perhaps + "begins here, or follows a message whose receive wasn't reported",
-           h: "nothing is known of what it follows" }[rows.how[row]] + PREMISES[rows.grade[row]]
-    + (isPlain(row) || rows.kind[row] === "h" ? "" : " (this event wasn't reported)");
+  const cause = rows.cause[row], others = rows.others[row] ?? [], perhaps = rows.grade[row] === "p" ? "perhaps " : "";
+  const after = of => "follows " + eventName(of) + (isPlain(of) ? "" : ", which wasn't reported");
+  const origin = of => of < 0 ? "begins this chain" : "follows " + eventName(of);
+  const labelOf = of => visible(labels[rows.label[of]]);
+  const premises = PREMISES[rows.grade[row]];
+  const follows = () => rows.kind[cause] === "h" ? "nobody reported the send that it follows" : "it " + perhaps + after(cause) + premises;
+  return {
+    s: follows, r: follows, b: () => "it " + perhaps + "begins this chain" + premises,
+    l: () => "it " + perhaps + "begins label " + labelOf(row) + ", or its process set that on its token; it had last received "
+      + eventName(others[0]) + " of label " + labelOf(others[0]) + premises,
+    e: () => "it " + origin(others[0]) + " or " + origin(others[1]) + ", as both had a token that fits" + premises,
+    m: () => "what it follows isn't known: " + (others[0] < 0 ? "before it " : "since " + eventName(others[0]) + " ")
+      + laneName(rows.lane[row]) + " took a token whose receive wasn't reported, put one back or spawned a process",
+    u: () => "nothing is known of what it follows",
+  }[rows.how[row]]() + (isPlain(row) || rows.kind[row] === "h" ? "" : " (this event wasn't reported)");
 };
 
 // Whether it isn't certain what an event follows. A receive that nobody reported follows its send.
-export const isDoubtful = row => rows.how[row] === "o" || rows.how[row] === "h"
+export const isDoubtful = row => "emu".includes(rows.how[row])
   || rows.grade[row] === "p" && (isPlain(row) || rows.kind[row] !== "r");
 
 // When each event happened; one without a time counts as the event above it does.

@@ -1,13 +1,13 @@
 //! The questions that a program asks of a trace, each with a result of its own type.
 
 use crate::device::Sink;
-use crate::{Act, Answer, CompleteError, Completion, Event, Finding, Hop, Never, Node};
-use crate::{OutOfMemory, PairError, Paired, Pid, Reach, Reason, Streams, Text, Trace, TOP};
+use crate::{Act, Answer, CompleteError, Completion, Event, Finding, Never, NodeHop, NodeHops};
+use crate::{OutOfMemory, Pid, Reason, Streams, Text, Trace, TOP};
 use lack_decide::CompleteFault;
 use st_library::alloc::Global;
 use st_library::rt::HostRuntime;
 use st_world::{StepFault, World};
-use std::collections::{BTreeMap, BTreeSet};
+use std::collections::{BTreeMap, BTreeSet, HashSet};
 use std::fmt::{self, Display, Formatter};
 use std::io::{self, Write};
 use thiserror::Error;
@@ -115,23 +115,32 @@ pub struct Because {
     /// The process that reported the event, and the event's number there.
     pub place: (Pid, u64),
     /// The event that it follows, or why none is known.
-    pub hop: Hop,
+    pub hop: NodeHop,
 }
 
 /// Returns the event at this place, the one that it follows, and so on back, as far as its label
-/// goes; nothing if no event is there.
+/// goes; nothing if no event is there. It ends before an event that it has already: in streams of
+/// which no order has each receive after its send, causes can go in a circle.
 ///
 /// # Guarantees
 ///
-/// Each hop holds in every run without a reset that reports the trace and meets the hop's
-/// [premises](Hop::premises).
-pub fn why(trace: &Trace, place: (Pid, u64)) -> Result<Vec<Because>, PairError> {
-    let paired = Paired::of(trace.streams())?;
-    let hops = paired.hops()?;
-    let because =
-        |&Node { place, .. }: &Node| Some(Because { place, hop: hops.hop(place.0, place.1)? });
-    let way = hops.way(Reach::LABEL, place)?;
-    Ok(way.as_ref().iter().filter_map(because).collect())
+/// Each hop holds in every run of a standard node without a reset that reports the trace and meets
+/// the hop's [premises](NodeHop::premises).
+pub fn why(trace: &Trace, place: (Pid, u64)) -> Result<Vec<Because>, OutOfMemory> {
+    let hops = NodeHops::of(trace.streams())?;
+    let (mut way, mut seen) = (Vec::new(), HashSet::new());
+    let mut next = Some(place);
+    while let Some(place) = next.filter(|&place| seen.insert(place)) {
+        let Some(event) = trace.streams().event(place.0, place.1) else { break };
+        let hop = hops.hop(place, &event);
+        next = match hop {
+            NodeHop::Sent(pid, index) => Some((pid, index)),
+            NodeHop::After(index) => Some((place.0, index)),
+            _ => None,
+        };
+        way.push(Because { place, hop });
+    }
+    Ok(way)
 }
 
 impl Trace {

@@ -1,9 +1,9 @@
-//! The events that each event follows, and the order of all events, as the proved libraries find
-//! them.
+//! The pairs of sends and receives, the order of all events, and the event that each one follows,
+//! as the proved libraries find them.
 
 use crate::{Event, Kind, Never, OutOfMemory, PairError, Partner, Pid, Streams, TOP};
 use lack_needs::{find_flaw, find_unfounded, Flaw};
-use node_why::{Hop, Node, Origins, Reach};
+use node_hops::NodeHop;
 use st_library::alloc::Global;
 use st_library::rt::HostRuntime;
 use st_order::Item;
@@ -46,11 +46,6 @@ impl<'a> Paired<'a> {
         Ok(high.map(|(pid, index)| (pid, index, Never::TooHigh)))
     }
 
-    /// Finds what each event follows.
-    pub fn hops(&self) -> Result<Hops<'_>, OutOfMemory> {
-        Ok(Hops(Origins::new(Global, self.streams, &self.pairing)?))
-    }
-
     /// Orders all events, with the sends that only their receives tell of. If a run without a reset
     /// reports the streams, each event comes after those that it follows.
     pub fn order(&self) -> Result<Vec<Item>, OutOfMemory> {
@@ -64,28 +59,17 @@ impl<'a> Paired<'a> {
     }
 }
 
-/// The events that each event of paired streams follows.
-pub struct Hops<'a>(Origins<'a>);
+/// The hops back from all events of streams, by the rules of a standard node.
+pub struct NodeHops<'a>(node_hops::NodeHops<'a>);
 
-impl Hops<'_> {
-    /// Returns what the event at this place follows, or `None` if no event is there.
-    pub fn hop(&self, pid: Pid, index: u64) -> Option<Hop> {
-        let event = self.0.event(pid, index)?;
-        Some(self.0.hop(pid, index, &event))
+impl<'a> NodeHops<'a> {
+    /// Finds the hops of these streams.
+    pub fn of(streams: &'a Streams) -> Result<NodeHops<'a>, OutOfMemory> {
+        Ok(NodeHops(node_hops::NodeHops::new(Global, streams)?))
     }
 
-    /// Returns what this event, which is at this place, follows.
-    pub fn hop_of(&self, pid: Pid, index: u64, event: &Event) -> Hop {
+    /// Returns the hop back from this event, which is at this place.
+    pub fn hop(&self, (pid, index): (Pid, u64), event: &Event) -> NodeHop {
         self.0.hop(pid, index, event)
-    }
-
-    /// Returns the event at this place, the event that it follows, and so on back.
-    pub fn way(&self, reach: Reach, place: (Pid, u64)) -> Result<impl AsRef<[Node]>, OutOfMemory> {
-        Ok(crate::List(node_why::way(Global, &self.0, reach, place)?))
-    }
-
-    /// Returns the event at this place, and after each event those that follow it.
-    pub fn tree(&self, reach: Reach, place: (Pid, u64)) -> Result<impl AsRef<[Node]>, OutOfMemory> {
-        Ok(crate::List(node_why::tree(Global, &self.0, reach, place)?))
     }
 }

@@ -7,7 +7,6 @@
 
 use crate::{Event, Kind, OutOfMemory, Pid, ReadError, Serial, Trace};
 use node_given::Way;
-use node_hops::NodeHop;
 use node_machine::Seen;
 use node_origins::EventOrigins;
 use node_streams::MessageContent;
@@ -69,16 +68,6 @@ impl NodeFinding {
             chosen.map(move |(_, index)| (pid, index)).collect::<Vec<_>>()
         };
         self.ways.iter().flat_map(own).collect()
-    }
-}
-
-/// The hops back from all events of a trace.
-pub struct NodeHops<'a>(node_hops::NodeHops<'a>);
-
-impl NodeHops<'_> {
-    /// Returns the hop back from this event, which is at this place.
-    pub fn hop(&self, (pid, index): (Pid, u64), event: &Event) -> NodeHop {
-        self.0.hop(pid, index, event)
     }
 }
 
@@ -151,23 +140,6 @@ impl NodeTrace {
         Ok(found)
     }
 
-    /// Finds how each event of a process is given, and what its token may have come from. Returns
-    /// `None` if a count is none that a serial of a node shows.
-    pub fn origins(&self, pid: Pid) -> Result<Option<(Vec<Way>, Vec<EventOrigins>)>, OutOfMemory> {
-        let seen = self.seen(pid, self.trace.streams().events(pid));
-        if seen.iter().any(|event| event.serial.this >= COUNTS) {
-            return Ok(None);
-        }
-        let ways = given(&seen)?;
-        let origins = node_origins::origins(Global, &seen)?.as_slice().to_vec();
-        Ok(Some((ways, origins)))
-    }
-
-    /// Finds the hops back from all events.
-    pub fn hops(&self) -> Result<NodeHops<'_>, OutOfMemory> {
-        Ok(NodeHops(node_hops::NodeHops::new(Global, self.trace.streams())?))
-    }
-
     /// Returns the send and the receive of each message of which both were reported: alike messages
     /// are received in order.
     pub fn pairs(&self) -> Vec<((Pid, u64), (Pid, u64))> {
@@ -194,14 +166,33 @@ impl NodeTrace {
     }
 
     fn seen(&self, pid: Pid, events: &[Event]) -> Vec<Seen> {
-        let seen = |(event, at): (&Event, u64)| Seen {
-            kind: event.kind,
-            label: event.label,
-            serial: event.serial,
-            answer: event.kind == Kind::Receive && self.is_answer((pid, at)),
-        };
-        events.iter().zip(0..).map(seen).collect()
+        seen(events, |index| self.is_answer((pid, index)))
     }
+}
+
+/// Finds how each event of a process is given, and what its token may have come from, by its events
+/// and by which receives answer a spawn. Returns `None` if a count is none that a serial of a node
+/// shows.
+pub fn origins(
+    events: &[Event],
+    is_answer: impl Fn(u64) -> bool,
+) -> Result<Option<(Vec<Way>, Vec<EventOrigins>)>, OutOfMemory> {
+    if events.iter().any(|event| event.serial.this >= COUNTS) {
+        return Ok(None);
+    }
+    let seen = seen(events, is_answer);
+    let origins = node_origins::origins(Global, &seen)?.as_slice().to_vec();
+    Ok(Some((given(&seen)?, origins)))
+}
+
+fn seen(events: &[Event], is_answer: impl Fn(u64) -> bool) -> Vec<Seen> {
+    let seen = |(event, index): (&Event, u64)| Seen {
+        kind: event.kind,
+        label: event.label,
+        serial: event.serial,
+        answer: event.kind == Kind::Receive && is_answer(index),
+    };
+    events.iter().zip(0..).map(seen).collect()
 }
 
 fn given(seen: &[Seen]) -> Result<Vec<Way>, OutOfMemory> {

@@ -110,6 +110,31 @@ def is_from_put_back(held, taken, event, events, i):
 Judged = namedtuple("Judged", "unsent cycle put_backs ungiven")
 
 
+# What an event follows: the kind of hop, the place that it names, and the premises that it rests on.
+Hop = namedtuple("Hop", "kind place premises")
+
+
+def hop(streams, source, place):
+    """The hop back from an event, as crates/node_hops defines it; what has moved names the event since which that was."""
+    pid, i = place
+    events, event = streams[pid], streams[pid][i]
+    if is_receive(event):
+        return Hop("after", source[place], [4]) if source[place] else Hop("unsent", None, [])
+    start = i
+    while start and not is_receive(events[start - 1]) and events[start - 1].prev == event.prev:
+        start -= 1
+    before = (pid, start - 1) if start else None
+    if before and is_receive(events[start - 1]) and events[start - 1].this == event.prev:
+        return Hop("after", before, [1, 2, 3]) if events[start - 1].label == event.label else Hop("other_label", before, [1, 2])
+    return Hop("begins", None, [1, 2]) if not start and event.prev == 0 else Hop("moved", before, [])
+
+
+def may_tokens_tell(events, i):
+    """Whether a stamp of one process may follow what the tokens tell that it had, and not what its hop says."""
+    since = max((at + 1 for at in range(i) if events[at].kind == "receive"), default=0)
+    return hop({0: events}, {}, (0, i)).kind == "moved" or "put back" in [way for at, way in ways(events).items() if since <= at <= i]
+
+
 def judge(streams):
     source = sources(streams)
     places = {(pid, i): way for pid, events in sorted(streams.items()) for i, way in ways(events).items()}

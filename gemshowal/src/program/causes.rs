@@ -1,46 +1,99 @@
-//! The cause of each event of a trace, and how sure it is, with the events that `complete` adds.
+//! What each event of a trace follows on a standard node, and how sure that is, with the events
+//! that `complete` adds.
 //!
-//! Nothing is found here. What an event follows comes from the proved hops of the trace's own
-//! events. Where these stop at an event that wasn't reported, the hops of the completed trace go
-//! on, which say what is so in one run of several: so that is said with `perhaps`.
+//! Nothing is found here. What a reported event follows comes from the proved hops, or, where a
+//! token was put back, from the proved origins. Where these stop at an event that wasn't reported,
+//! the hops of the completed trace go on, which say what is so in one run of several: so that is
+//! said with `perhaps`.
 
 use crate::audit;
 use crate::names::Names;
 use crate::reason::paired;
-use crate::spawns;
 use crate::view::{Kept, Place, Shown, View};
 use crate::Failure;
-use gemshowal::{Answer, Completion, Event, Hop, Hops, Item, Kind, Label, Never, OutOfMemory};
-use gemshowal::{Paired, Partner, Pid, Premises, Streams, Trace};
+use gemshowal::{origins, Answer, Event, EventOrigins, Item, Kind, Never, NodeHop, NodeHops};
+use gemshowal::{NodePremises, OutOfMemory, Paired, Partner, Pid, StampOrigin, Trace, Way};
 use std::borrow::Cow;
-use std::collections::HashMap;
+use std::collections::{HashMap, HashSet};
 
 #[derive(Clone, Copy, Debug, PartialEq, Eq)]
 pub(crate) enum Grade {
-    /// Holds in every run without a reset that reports the trace.
+    /// Holds in every run of a standard node without a reset that reports the trace.
     Certain,
-    /// Holds in each of these runs that meets the premises.
-    Under(Premises),
-    /// Holds of the request of a spawn in each of these runs that meets the premises, and of what
-    /// its process did after the answer by the rules of a standard node.
-    Kept(Premises),
+    /// Holds in each of these runs that meets the premises with these numbers.
+    Under(&'static [u8]),
     /// Holds in the run that `complete` finds.
     Perhaps,
+}
+
+/// The premises where a token was put back, or a spawn moved the counters.
+const OWN_TOKENS: Grade = Grade::Under(&[5, 6, 7]);
+
+impl Grade {
+    fn of(hop: NodeHop) -> Grade {
+        match hop.premises() {
+            NodePremises::Nothing => Grade::Certain,
+            NodePremises::KeptCounters => Grade::Under(&[1, 2]),
+            NodePremises::KeptToken => Grade::Under(&[1, 2, 3]),
+            NodePremises::SendsReported => Grade::Under(&[4]),
+        }
+    }
+
+    pub(crate) fn premises(self) -> &'static [u8] {
+        match self {
+            Grade::Under(premises) => premises,
+            Grade::Certain | Grade::Perhaps => &[],
+        }
+    }
 }
 
 /// The cause of an event. An item is a place among the events that are shown, the added ones among
 /// them.
 #[derive(Clone, Copy, Debug, PartialEq, Eq)]
 pub(crate) enum Cause {
+    /// The send of a receive, or the receive that brought the token of a send or print. A hidden
+    /// send is one that wasn't reported, and that no completion adds.
     After(Item),
-    /// The event's process began its label there, or set it on its token, after this receive of
-    /// another label.
-    OtherLabel(Item),
-    Begins,
-    /// The event follows nothing, or a message whose receive nobody reported.
-    BeginsOrUnreported,
-    /// The cause isn't known: the event is a send that only its receive tells of.
+    /// Its process made the token, or set its label; it had taken this token last.
+    Begins(Option<Item>),
+    /// One of two, and there may be more: a receive, or the process itself.
+    Either(Option<Item>, Option<Item>),
+    /// Something moved the counters of its process after this event of it, and nothing that was
+    /// reported tells what.
+    Moved(Option<Item>),
+    /// Nothing is known: the event is a send that only its receive tells of, or one that the
+    /// completion adds.
     Unknown,
+}
+
+impl Cause {
+    fn of(hop: NodeHop, (pid, index): Place) -> Cause {
+        let own = |index| Item::Reported(pid, index);
+        match hop {
+            NodeHop::Sent(from, index) => Cause::After(Item::Reported(from, index)),
+            NodeHop::Unsent => Cause::After(Item::Hidden(pid, index)),
+            NodeHop::After(index) => Cause::After(own(index)),
+            NodeHop::OtherLabel(index, _) => Cause::Begins(Some(own(index))),
+            NodeHop::Begins => Cause::Begins(None),
+            NodeHop::Moved(before) => Cause::Moved(before.checked_sub(1).map(own)),
+        }
+    }
+
+    /// Returns the same of other items.
+    fn map(self, with: impl Fn(Item) -> Item) -> Cause {
+        match self {
+            Cause::After(item) => Cause::After(with(item)),
+            Cause::Begins(had) => Cause::Begins(had.map(with)),
+            Cause::Either(one, other) => Cause::Either(one.map(&with), other.map(&with)),
+            Cause::Moved(since) => Cause::Moved(since.map(with)),
+            Cause::Unknown => Cause::Unknown,
+        }
+    }
+
+    /// Returns whether the event follows something that wasn't reported, or may do so.
+    pub(crate) fn is_open(self) -> bool {
+        matches!(self, Cause::After(Item::Hidden(..)) | Cause::Moved(_))
+    }
 }
 
 #[derive(Clone, Copy, Debug, PartialEq, Eq)]
@@ -50,7 +103,9 @@ pub(crate) struct Link {
 }
 
 impl Link {
-    pub(crate) fn after(&self) -> Option<Item> {
+    const UNKNOWN: Link = Link { cause: Cause::Unknown, grade: Grade::Certain };
+
+    pub(crate) fn after(self) -> Option<Item> {
         match self.cause {
             Cause::After(item) => Some(item),
             _ => None,
@@ -58,45 +113,134 @@ impl Link {
     }
 }
 
-/// The trace with the events that `complete` adds, if it adds any.
-struct Whole<'a> {
-    completion: &'a Completion,
-    hops: Hops<'a>,
-    paired: &'a Paired<'a>,
+/// Finds the receives that answer a spawn. The messages tell it, so without names there are none.
+pub(crate) fn answers(trace: &Trace, names: &Names) -> HashSet<Place> {
+    let is_answer = |&(place, _): &(Place, &Event)| is_answer(trace, names, place);
+    trace.events().filter(is_answer).map(|(place, _)| place).collect()
 }
 
-#[derive(Clone, Copy, Debug, Default, PartialEq, Eq)]
-pub(crate) struct Added {
-    /// The sends whose receive was reported, so they happened.
-    pub(crate) certain: u64,
-    pub(crate) sends: u64,
-    pub(crate) receives: u64,
+/// Returns whether the event at this place is the answer of a spawn, right behind the request.
+fn is_answer(trace: &Trace, names: &Names, (pid, index): Place) -> bool {
+    let event = |index| trace.streams().event(pid, index);
+    let request = index.checked_sub(1).and_then(event);
+    request.zip(event(index)).is_some_and(|(request, answer)| {
+        answer.kind == Kind::Receive
+            && request.kind == Kind::Send
+            && request.to == Some(answer.from)
+            && names.is_spawned(answer.value)
+    })
 }
 
+/// The causes of the events of a trace, by what was reported alone.
+pub(crate) struct Links {
+    links: HashMap<Pid, Vec<Link>>,
+    /// Tells whether each hop leads to an event that was reported, so that a completion adds
+    /// nothing.
+    are_closed: bool,
+}
+
+impl Links {
+    pub(crate) fn of(
+        trace: &Trace,
+        is_answer: impl Fn(Place) -> bool,
+    ) -> Result<Links, OutOfMemory> {
+        let hops = NodeHops::of(trace.streams())?;
+        let mut found = Links { links: HashMap::new(), are_closed: true };
+        for (pid, events) in trace.processes() {
+            let is_answer = |index| is_answer((pid, index));
+            let mut tokens = Tokens { origins: origins(events, is_answer)?, ..Tokens::default() };
+            let link = |(event, index): (&Event, u64)| {
+                let place = (pid, index);
+                let hop = hops.hop(place, event);
+                let own = Link { cause: Cause::of(hop, place), grade: Grade::of(hop) };
+                found.are_closed &= !own.cause.is_open();
+                tokens.note(place, event.kind, is_answer(index));
+                tokens.link(place, own)
+            };
+            found.links.insert(pid, events.iter().zip(0..).map(link).collect());
+        }
+        Ok(found)
+    }
+
+    pub(crate) fn of_view(view: &View<'_>) -> Result<Links, OutOfMemory> {
+        Links::of(view.trace, |place| is_answer(view.trace, view.names, place))
+    }
+
+    fn get(&self, (pid, index): Place) -> Link {
+        let link = self.links.get(&pid).and_then(|own| own.get(index as usize));
+        link.copied().unwrap_or(Link::UNKNOWN)
+    }
+}
+
+/// The tokens of one process, as far as they are known.
+#[derive(Default)]
+struct Tokens {
+    /// For each event what gives it, and what its token may have come from, if that was asked.
+    origins: Option<(Vec<Way>, Vec<EventOrigins>)>,
+    /// The receive that took a token last.
+    last: Option<Item>,
+    /// Tells whether a token was put back since, as counts show.
+    is_put_back: bool,
+}
+
+impl Tokens {
+    fn note(&mut self, (pid, index): Place, kind: Kind, is_answer: bool) {
+        if kind != Kind::Receive {
+            let way = self.origins.as_ref().and_then(|(ways, _)| ways.get(index as usize));
+            self.is_put_back |= matches!(way, Some(Way::PutBack(_)));
+        } else if !is_answer {
+            self.last = Some(Item::Reported(pid, index));
+            self.is_put_back = false;
+        }
+    }
+
+    /// Returns the link of an event whose hop makes this link. The premises of a hop don't hold
+    /// where a token was put back.
+    fn link(&self, place: Place, own: Link) -> Link {
+        let is_asked = self.is_put_back || matches!(own.cause, Cause::Moved(_));
+        let cause = if is_asked { self.cause(place) } else { None };
+        cause.map_or(own, |cause| Link { cause, grade: OWN_TOKENS })
+    }
+
+    /// Returns the cause of a send or print, if the tokens that its process had tell it.
+    fn cause(&self, (pid, index): Place) -> Option<Cause> {
+        let (ways, origins) = self.origins.as_ref()?;
+        let receive = |origin| match origin {
+            StampOrigin::Home => None,
+            StampOrigin::Follows(index) => Some(Item::Reported(pid, index as u64)),
+        };
+        match *origins.get(index as usize)? {
+            _ if ways.get(index as usize) == Some(&Way::Ungiven) => None,
+            EventOrigins::Receive | EventOrigins::Unknown => None,
+            EventOrigins::One(origin) => {
+                Some(receive(origin).map_or(Cause::Begins(self.last), Cause::After))
+            }
+            EventOrigins::Several(one, other) => Some(Cause::Either(receive(one), receive(other))),
+        }
+    }
+}
+
+/// The causes of a trace's events, with those of the completed trace where what was reported stops.
 pub(crate) struct Causes<'a> {
     shown: Shown<'a>,
+    links: &'a Links,
     never: Option<(Pid, u64, Never)>,
-    hops: Hops<'a>,
-    paired: &'a Paired<'a>,
-    whole: Option<Whole<'a>>,
-    /// The requests of the spawns from whose answers sends and prints go on.
-    requests: HashMap<Place, Place>,
+    /// The pairs of all events that are shown, if they were asked for.
+    paired: Option<&'a Paired<'a>>,
+    /// The hops of all events, if a completion adds some.
+    completed: Option<NodeHops<'a>>,
 }
 
 /// Does something with the causes of a trace, unless its events can't be paired. Those of its own
-/// events alone are taken if no run reports the trace, if they are all that an event follows, or if
-/// they are enough.
+/// events alone are taken if no run reports the trace, or if they are all that an event follows.
 pub(crate) fn with_causes<T>(
     view: &View<'_>,
-    is_enough: impl Fn(&Causes<'_>) -> bool,
+    links: &Links,
     run: impl FnOnce(&Causes<'_>) -> Result<T, Failure>,
 ) -> Result<T, Failure> {
     let paired = paired(view)?;
-    let (never, hops) = (paired.refusal()?, paired.hops()?);
-    let shown = Shown::reported(view);
-    let requests = spawns::requests(view);
-    let own = Causes { shown, never, hops, paired: &paired, whole: None, requests };
-    if never.is_some() || is_enough(&own) || own.are_reported() {
+    let own = Causes::paired(view, links, &paired)?;
+    if own.never.is_some() || links.are_closed {
         return run(&own);
     }
     let completion = match gemshowal::complete(view.trace)? {
@@ -104,8 +248,9 @@ pub(crate) fn with_causes<T>(
         _ => return run(&own),
     };
     let Some(all) = Paired::if_possible(completion.streams())? else { return run(&own) };
-    let whole = Some(Whole { completion: &completion, hops: all.hops()?, paired: &all });
-    run(&Causes { shown: Shown::completed(view, &completion), whole, ..own })
+    let completed = Some(NodeHops::of(completion.streams())?);
+    let shown = Shown::completed(view, &completion);
+    run(&Causes { shown, paired: Some(&all), completed, ..own })
 }
 
 /// Does something with the causes of a trace. If no run without a reset reports it, that is done
@@ -113,10 +258,10 @@ pub(crate) fn with_causes<T>(
 /// are. If there are none, or one can't be paired, it is done for the whole, unless that can't be.
 pub(crate) fn with_each<T>(
     whole: &View<'_>,
-    is_enough: impl Fn(&Causes<'_>) -> bool,
     mut run: impl FnMut(&Causes<'_>, Option<(usize, usize)>) -> Result<T, Failure>,
 ) -> Result<Vec<T>, Failure> {
-    let done = with_causes(whole, &is_enough, |causes| match causes.never() {
+    let links = Links::of_view(whole)?;
+    let done = with_causes(whole, &links, |causes| match causes.never() {
         None => run(causes, None).map(Some),
         Some(_) => Ok(None),
     });
@@ -127,13 +272,13 @@ pub(crate) fn with_each<T>(
     }
     let parts = audit::parts(whole)?;
     if !are_paired(&parts)? {
-        return with_causes(whole, is_enough, |causes| Ok(vec![run(causes, None)?]));
+        return with_causes(whole, &links, |causes| Ok(vec![run(causes, None)?]));
     }
     let mut all = Vec::new();
     for ((kept, part), which) in parts.iter().zip(1..) {
         let view = whole.part(part, kept, false);
         let run = |causes: &Causes<'_>| run(causes, Some((which, parts.len())));
-        all.push(with_causes(&view, &is_enough, run)?);
+        all.push(with_causes(&view, &Links::of_view(&view)?, run)?);
     }
     Ok(all)
 }
@@ -147,58 +292,48 @@ fn are_paired(parts: &[(Kept, Trace)]) -> Result<bool, OutOfMemory> {
     Ok(!parts.is_empty())
 }
 
-impl Causes<'_> {
-    /// Says why no run without a reset reports the trace, if none does: then causes mean nothing.
+impl<'a> Causes<'a> {
+    /// Returns the causes of a trace's own events, which needn't have pairs.
+    pub(crate) fn alone(view: &'a View<'a>, links: &'a Links) -> Causes<'a> {
+        let shown = Shown::reported(view);
+        Causes { shown, links, never: None, paired: None, completed: None }
+    }
+
+    pub(crate) fn paired(
+        view: &'a View<'a>,
+        links: &'a Links,
+        paired: &'a Paired<'a>,
+    ) -> Result<Causes<'a>, OutOfMemory> {
+        let never = paired.refusal()?;
+        Ok(Causes { never, paired: Some(paired), ..Causes::alone(view, links) })
+    }
+
+    /// Says why no run without a reset reports the trace, if none does and there are pairs.
     pub(crate) fn never(&self) -> Option<(Pid, u64, Never)> {
         self.never
     }
 
-    /// Returns whether it is known of each event what it follows, and that was reported, so that a
-    /// completion adds nothing.
-    fn are_reported(&self) -> bool {
-        let is_open = |hop| matches!(hop, Hop::Unsent | Hop::BeginsOrUnreported);
-        self.trace().processes().all(|(pid, events)| {
-            (0..).zip(events).all(|(index, event)| {
-                !is_open(self.hops.hop_of(pid, index, event))
-                    || self.requests.contains_key(&(pid, index))
-            })
-        })
+    /// Returns the events that are shown, by process.
+    pub(crate) fn items(&self) -> impl Iterator<Item = Item> + '_ {
+        let own =
+            |(pid, events): (Pid, &[Event])| (0..events.len() as u64).map(move |at| (pid, at));
+        self.shown.processes().flat_map(own).map(|(pid, index)| Item::Reported(pid, index))
     }
 
-    pub(crate) fn streams(&self) -> &Streams {
-        self.shown.streams
-    }
-
-    /// Returns the events that are shown, each after its cause if the trace has a run.
-    pub(crate) fn order(&self) -> Result<Vec<Item>, OutOfMemory> {
-        self.all().order()
-    }
-
-    /// Returns the pairs of all events that are shown.
-    fn all(&self) -> &Paired<'_> {
-        self.whole.as_ref().map_or(self.paired, |whole| whole.paired)
-    }
-
-    pub(crate) fn added(&self) -> Added {
-        let mut added = Added::default();
-        let Some(whole) = &self.whole else { return added };
-        for (pid, index, event) in gemshowal::added(whole.completion) {
-            let is_known = self.message(Item::Reported(pid, index)).is_some();
-            match event.kind {
-                Kind::Receive => added.receives += 1,
-                Kind::Send | Kind::Print if is_known => added.certain += 1,
-                Kind::Send | Kind::Print => added.sends += 1,
-            }
-        }
-        added
+    /// Returns the events that are shown, each after its cause if a run of the manual's machine has
+    /// the trace. Without pairs there are none.
+    pub(crate) fn ordered(&self) -> Result<Vec<(Item, Event)>, OutOfMemory> {
+        let Some(paired) = self.paired else { return Ok(Vec::new()) };
+        let with_event = |item| Some((item, self.event(item)?));
+        Ok(paired.order()?.into_iter().filter_map(with_event).collect())
     }
 
     /// Returns the item of the event with this place in the whole trace, if it is here.
     pub(crate) fn item_at(&self, (pid, number): Place) -> Option<Item> {
-        Some(self.item((pid, self.view().index(pid, number)?)))
+        Some(self.shown_item((pid, self.view().index(pid, number)?)))
     }
 
-    fn item(&self, (pid, index): Place) -> Item {
+    fn shown_item(&self, (pid, index): Place) -> Item {
         let told = self.shown.told(pid).get(index as usize).copied();
         Item::Reported(pid, told.unwrap_or(index))
     }
@@ -210,7 +345,7 @@ impl Causes<'_> {
     }
 
     pub(crate) fn reported(&self, item: Item) -> Option<Place> {
-        match (item, &self.whole) {
+        match (item, &self.completed) {
             (Item::Hidden(..), _) => None,
             (Item::Reported(pid, index), None) => Some((pid, index)),
             (Item::Reported(pid, index), Some(_)) => {
@@ -224,7 +359,7 @@ impl Causes<'_> {
     /// there is none.
     pub(crate) fn event(&self, item: Item) -> Option<Event> {
         let (pid, index) = item.place();
-        let event = self.streams().event(pid, index)?;
+        let event = self.shown.streams.event(pid, index)?;
         Some(match item {
             Item::Reported(..) => event,
             Item::Hidden(..) => Event { kind: Kind::Send, ..event },
@@ -233,17 +368,17 @@ impl Causes<'_> {
 
     /// Returns the message of an event as its value, or `None` if neither end was reported.
     pub(crate) fn message(&self, item: Item) -> Option<u64> {
-        let is_known = match (self.reported(item), item, &self.whole) {
-            (Some(_), ..) | (_, Item::Hidden(..), _) | (.., None) => true,
-            _ => self.other_end(item).is_some_and(|end| self.reported(end).is_some()),
-        };
+        let is_reported = |item| self.reported(item).is_some();
+        let is_known = matches!(item, Item::Hidden(..))
+            || is_reported(item)
+            || self.other_end(item).is_some_and(is_reported);
         self.event(item).filter(|_| is_known).map(|event| event.value)
     }
 
     /// Returns the other end of the message of an event, if that is shown too.
     pub(crate) fn other_end(&self, item: Item) -> Option<Item> {
         let (pid, index) = item.place();
-        match (item, self.all().partner((pid, index), self.event(item)?.kind)) {
+        match (item, self.partner((pid, index), self.event(item)?.kind)) {
             (Item::Hidden(..), _) => Some(Item::Reported(pid, index)),
             (_, Partner::Send(pid, index) | Partner::Receive(pid, index)) => {
                 Some(Item::Reported(pid, index))
@@ -253,63 +388,43 @@ impl Causes<'_> {
         }
     }
 
+    /// Returns what the event of this kind at this place among those that are shown pairs with.
+    pub(crate) fn partner(&self, place: Place, kind: Kind) -> Partner {
+        self.paired.map_or(Partner::Nobody, |paired| paired.partner(place, kind))
+    }
+
+    /// Returns what an event follows. If that wasn't reported, and the completion adds it, it is
+    /// certain of a send, whose receive was reported.
     pub(crate) fn link(&self, item: Item) -> Link {
-        let certain = |cause| Link { cause, grade: Grade::Certain };
-        let Item::Reported(pid, index) = item else {
-            return certain(Cause::Unknown);
+        let Some(place) = self.reported(item) else {
+            let cause = self.completed_cause(item);
+            return cause.map_or(Link::UNKNOWN, |cause| Link { cause, grade: Grade::Perhaps });
         };
-        let all = self.whole.as_ref().and_then(|whole| whole.hops.hop(pid, index));
-        let place = self.reported(item);
-        let own = place.and_then(|(pid, index)| self.hops.hop(pid, index));
-        let request = place.and_then(|place| self.requests.get(&place).copied());
-        match (own, request, all) {
-            (Some(Hop::BeginsOrUnreported), Some(request), _) => self.kept_link(request),
-            (Some(hop), _, all) => self.own_link(item, hop, all),
-            (None, _, Some(hop)) => Link { cause: in_completion(pid, hop), grade: Grade::Perhaps },
-            (None, _, None) => certain(Cause::Unknown),
+        let own = self.links.get(place);
+        let is_send = matches!(own.cause, Cause::After(_));
+        match self.completed_cause(item).filter(|_| own.cause.is_open()) {
+            Some(cause @ Cause::After(_)) if is_send => Link { cause, ..own },
+            Some(cause @ Cause::After(_)) => Link { cause, grade: Grade::Perhaps },
+            _ => Link { cause: own.cause.map(|item| self.in_shown(item)), ..own },
         }
     }
 
-    /// Returns the cause of a send or print whose process kept the token of this request.
-    fn kept_link(&self, request: Place) -> Link {
-        let link = self.link(self.item(request));
-        let grade = match link.grade {
-            Grade::Certain => Grade::Kept(Premises::Neither),
-            Grade::Under(premises) => Grade::Kept(premises),
-            other => other,
-        };
-        Link { grade, ..link }
+    /// Returns what an event follows in the completed trace.
+    fn completed_cause(&self, item: Item) -> Option<Cause> {
+        let Item::Reported(pid, index) = item else { return None };
+        let hop = self.completed.as_ref()?.hop((pid, index), &self.event(item)?);
+        Some(match hop {
+            NodeHop::Unsent | NodeHop::Moved(_) => Cause::Unknown,
+            hop => Cause::of(hop, (pid, index)),
+        })
     }
 
-    /// Returns the cause of a reported event, by its hop among the trace's own events, and its hop
-    /// among all.
-    fn own_link(&self, item: Item, hop: Hop, all: Option<Hop>) -> Link {
-        let (pid, _) = item.place();
-        let grade = match hop.premises() {
-            Premises::Neither => Grade::Certain,
-            premises => Grade::Under(premises),
-        };
-        let cause = match (hop, all) {
-            (Hop::Sent(from, index), _) => Cause::After(self.item((from, index))),
-            (Hop::After(index) | Hop::AfterOneLabel(index), _) => {
-                Cause::After(self.item((pid, index)))
-            }
-            (Hop::OtherLabel(index, _), _) => Cause::OtherLabel(self.item((pid, index))),
-            (Hop::Unsent, Some(Hop::Sent(from, index))) => {
-                Cause::After(Item::Reported(from, index))
-            }
-            (Hop::Unsent, _) => Cause::After(hidden(item)),
-            (Hop::Begins, _) => Cause::Begins,
-            (Hop::BeginsOrUnreported, Some(hop @ (Hop::After(_) | Hop::AfterOneLabel(_)))) => {
-                return Link { cause: in_completion(pid, hop), grade: Grade::Perhaps };
-            }
-            (Hop::BeginsOrUnreported, _) => Cause::BeginsOrUnreported,
-        };
-        Link { cause, grade }
-    }
-
-    pub(crate) fn label(&self, item: Item) -> Option<Label> {
-        Some(self.event(item)?.label)
+    /// Returns the item here of one of the trace's own streams.
+    fn in_shown(&self, item: Item) -> Item {
+        match (item, self.shown_item(item.place())) {
+            (Item::Hidden(..), Item::Reported(pid, index)) => Item::Hidden(pid, index),
+            (_, shown) => shown,
+        }
     }
 
     pub(crate) fn actor(&self, item: Item) -> Pid {
@@ -344,31 +459,15 @@ impl Causes<'_> {
         self.shown.process(pid)
     }
 
-    pub(crate) fn names(&self) -> &Names {
+    pub(crate) fn names(&self) -> &'a Names {
         self.view().names
     }
 
-    pub(crate) fn trace(&self) -> &Trace {
+    pub(crate) fn trace(&self) -> &'a Trace {
         self.view().trace
     }
 
-    pub(crate) fn view(&self) -> &View<'_> {
+    pub(crate) fn view(&self) -> &'a View<'a> {
         self.shown.view
-    }
-}
-
-/// Returns the send that only this receive tells of.
-fn hidden(receive: Item) -> Item {
-    let (pid, index) = receive.place();
-    Item::Hidden(pid, index)
-}
-
-fn in_completion(pid: Pid, hop: Hop) -> Cause {
-    match hop {
-        Hop::Sent(from, index) => Cause::After(Item::Reported(from, index)),
-        Hop::After(index) | Hop::AfterOneLabel(index) => Cause::After(Item::Reported(pid, index)),
-        Hop::OtherLabel(index, _) => Cause::OtherLabel(Item::Reported(pid, index)),
-        Hop::Begins => Cause::Begins,
-        Hop::BeginsOrUnreported | Hop::Unsent => Cause::BeginsOrUnreported,
     }
 }

@@ -42,8 +42,7 @@ pub(crate) fn run(args: &Args, task: Task<'_>) -> Result<Status, Failure> {
         (label, _) => Some(names.find_label(&trace, label.as_deref())?),
     };
     let whole = View::whole(&trace, &names);
-    let all = |_: &Causes<'_>| false;
-    let told = with_each(&whole, all, |causes, part| {
+    let are_shown = with_each(&whole, |causes, part| {
         let found = Chart::of(causes, label)?;
         if found.iter().any(Chart::is_long) {
             return Err(Failure::LongChart(input.line_name().into()));
@@ -52,11 +51,9 @@ pub(crate) fn run(args: &Args, task: Task<'_>) -> Result<Status, Failure> {
             svg::write(&part_file(file, part), causes, chart)?;
         }
         write(causes, part, &found, out)?;
-        let grades = found.iter().flat_map(|chart| &chart.rows).map(|row| row.link.grade);
-        Ok((!found.is_empty(), words::chart_note(grades)))
+        Ok(!found.is_empty())
     })?;
-    told.iter().find_map(|(_, note)| *note).into_iter().for_each(|note| notes.say(note));
-    Ok(if told.iter().any(|(is_any, _)| *is_any) { Status::Yes } else { Status::No })
+    Ok(if are_shown.contains(&true) { Status::Yes } else { Status::No })
 }
 
 /// Names the file for the drawing of a part: `shop-2.svg`.
@@ -95,7 +92,8 @@ fn write(
         }
         chart.write(causes, out)?;
     }
-    Ok(())
+    let links = charts.iter().flat_map(|chart| &chart.rows).map(|row| row.link);
+    words::rests_on(links).iter().try_for_each(|line| writeln!(out, "{line}"))
 }
 
 impl Chart {
@@ -105,33 +103,17 @@ impl Chart {
 
     /// Makes the charts of this label, or of all labels, by rising label.
     pub(crate) fn of(causes: &Causes<'_>, label: Option<Label>) -> Result<Vec<Chart>, Failure> {
-        let mut items: BTreeMap<u32, Vec<(Item, Event)>> = BTreeMap::new();
-        for item in causes.order()? {
-            if let Some(event) = causes
-                .event(item)
-                .filter(|event| label.is_none_or(|label| label.0 == event.label.0))
-            {
-                items.entry(event.label.0).or_default().push((item, event));
+        let mut events: BTreeMap<u32, Vec<(Item, Event)>> = BTreeMap::new();
+        for (item, event) in causes.ordered()? {
+            if label.is_none_or(|label| label == event.label) {
+                events.entry(event.label.0).or_default().push((item, event));
             }
         }
-        Ok(items
-            .into_iter()
-            .map(|(label, items)| Chart::with(causes, Label(label), items))
-            .collect())
-    }
-
-    fn with(causes: &Causes<'_>, label: Label, items: Vec<(Item, Event)>) -> Chart {
-        let named = |(_, event): &(Item, Event)| [Some(event.from), event.to];
-        let lanes: BTreeSet<Pid> = items.iter().flat_map(named).flatten().collect();
-        let lanes: Vec<Pid> = lanes.into_iter().collect();
-        let lane = |pid: Pid| lanes.binary_search(&pid).unwrap_or_default();
-        let row = |(item, event): (Item, Event)| {
-            let actor = causes.actor(item);
-            let other = event.to.map(|to| lane(if actor == to { event.from } else { to }));
-            Row { item, event, link: causes.link(item), lane: lane(actor), other }
+        let chart = |(label, events)| {
+            let (lanes, rows) = lanes_and_rows(causes, events);
+            Chart { label: Label(label), lanes, rows }
         };
-        let rows = items.into_iter().map(row).collect();
-        Chart { label, lanes, rows }
+        Ok(events.into_iter().map(chart).collect())
     }
 
     /// Writes the rows as text: a mark for each lane, the event's name, what it is and what it
@@ -149,7 +131,8 @@ impl Chart {
             let (marks, name) = (self.marks(causes, row), name(row));
             let (kind, serial) = (kind_word(row.event.kind), gemshowal::Text(row.event.serial));
             let message = short(&words::message(causes, row.item), MESSAGE);
-            let follows = words::follows(causes, row.item, row.link) + &took(causes, row.item);
+            let follows =
+                words::follows(causes, row.item, "it", row.link) + &took(causes, row.item);
             writeln!(
                 out,
                 "{marks}  {name:width$}{time:>wide$}  {kind:<8}{serial} {message}  {follows}"
@@ -175,6 +158,24 @@ impl Chart {
         };
         (0..self.lanes.len()).flat_map(|lane| [' ', ' ', ' ', of_lane(lane)]).collect()
     }
+}
+
+/// Returns the processes of some events, by rising pid, and a row for each event.
+pub(crate) fn lanes_and_rows(
+    causes: &Causes<'_>,
+    events: Vec<(Item, Event)>,
+) -> (Vec<Pid>, Vec<Row>) {
+    let ends = events.iter().flat_map(|(_, event)| [Some(event.from), event.to]);
+    let lanes: BTreeSet<Pid> = ends.flatten().collect();
+    let lanes: Vec<Pid> = lanes.into_iter().collect();
+    let lane = |pid: Pid| lanes.binary_search(&pid).unwrap_or_default();
+    let row = |(item, event): (Item, Event)| {
+        let actor = causes.actor(item);
+        let other = event.to.map(|to| lane(if actor == to { event.from } else { to }));
+        Row { item, event, link: causes.link(item), lane: lane(actor), other }
+    };
+    let rows = events.into_iter().map(row).collect();
+    (lanes, rows)
 }
 
 fn time(causes: &Causes<'_>, item: Item) -> String {

@@ -27,7 +27,6 @@ mod output;
 mod page;
 mod pieces;
 mod reason;
-mod spawns;
 mod stats;
 mod svg;
 mod times;

@@ -7,7 +7,7 @@ use crate::output::Output;
 use crate::reason::paired;
 use crate::view::View;
 use crate::{Failure, Status, Task};
-use gemshowal::{Event, Hop, Hops, Kind, Label, Paired, Partner, Pid, Text, Trace};
+use gemshowal::{Event, Kind, Label, NodeHop, NodeHops, Paired, Partner, Pid, Text, Trace};
 use serde::Serialize;
 use std::collections::{BTreeMap, HashMap};
 use std::io::{self, Write};
@@ -22,7 +22,7 @@ pub(crate) fn run(task: Task<'_>) -> Result<Status, Failure> {
             .map(|(pid, events)| Process::of(pid, events, &names))
             .collect(),
         pairs: pairs(&trace, &paired, &names),
-        labels: Depths::of(&trace, paired.hops()?).labels(&names),
+        labels: Depths::of(&trace, NodeHops::of(trace.streams())?).labels(&names),
     };
     if json {
         out.report("counted", &stats)?;
@@ -153,7 +153,7 @@ fn pairs(trace: &Trace, paired: &Paired<'_>, names: &Names) -> Vec<Pair> {
 /// follows.
 struct Depths<'a> {
     trace: &'a Trace,
-    hops: Hops<'a>,
+    hops: NodeHops<'a>,
     /// The depth of each send, by process and index.
     sent: HashMap<Pid, Vec<u64>>,
     /// The number of a label's messages at a depth.
@@ -162,14 +162,14 @@ struct Depths<'a> {
 
 impl<'a> Depths<'a> {
     /// Takes the sends by rising counts: what a send follows has a lower count.
-    fn of(trace: &'a Trace, hops: Hops<'a>) -> Depths<'a> {
+    fn of(trace: &'a Trace, hops: NodeHops<'a>) -> Depths<'a> {
         let sent = trace.processes().map(|(pid, events)| (pid, vec![0; events.len()])).collect();
         let mut depths = Depths { trace, hops, sent, widths: HashMap::new() };
         let mut sends = Vec::new();
         for ((pid, index), event) in trace.events() {
             match event.kind {
                 Kind::Send => sends.push((event.serial.this, pid, index)),
-                Kind::Receive if depths.hops.hop(pid, index) == Some(Hop::Unsent) => {
+                Kind::Receive if depths.hops.hop((pid, index), event) == NodeHop::Unsent => {
                     *depths.widths.entry((event.label.0, 1)).or_default() += 1;
                 }
                 Kind::Receive | Kind::Print => {}
@@ -184,10 +184,8 @@ impl<'a> Depths<'a> {
 
     fn send(&mut self, pid: Pid, index: u64) {
         let Some(event) = self.trace.streams().event(pid, index) else { return };
-        let depth = match self.hops.hop(pid, index) {
-            Some(Hop::After(receive) | Hop::AfterOneLabel(receive)) => {
-                1 + self.received(pid, receive)
-            }
+        let depth = match self.hops.hop((pid, index), &event) {
+            NodeHop::After(receive) => 1 + self.received(pid, receive),
             _ => 1,
         };
         if let Some(own) = self.sent.get_mut(&pid).and_then(|own| own.get_mut(index as usize)) {
@@ -199,8 +197,9 @@ impl<'a> Depths<'a> {
     /// Returns the depth of the message of a receive; one that nobody reported to be sent begins a
     /// way.
     fn received(&self, pid: Pid, index: u64) -> u64 {
-        match self.hops.hop(pid, index) {
-            Some(Hop::Sent(from, send)) => {
+        let event = self.trace.streams().event(pid, index);
+        match event.map(|event| self.hops.hop((pid, index), &event)) {
+            Some(NodeHop::Sent(from, send)) => {
                 let own = self.sent.get(&from).and_then(|own| own.get(send as usize));
                 own.copied().unwrap_or(1)
             }

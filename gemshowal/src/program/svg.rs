@@ -6,7 +6,7 @@
 //! chart has no receive. Prints are diamonds. An event of which it isn't sure what it follows has a
 //! question mark. A text that is shortened next to a mark is whole in its tooltip.
 
-use crate::causes::{Cause, Causes, Grade};
+use crate::causes::{Cause, Causes, Grade, Link};
 use crate::chart::{short, Chart, Row};
 use crate::object::kind_word;
 use crate::output::keep;
@@ -187,13 +187,13 @@ impl<'a> Drawing<'a> {
         draw: impl FnOnce(&mut String) -> fmt::Result,
     ) -> fmt::Result {
         let (kind, serial) = (kind_word(row.event.kind), gemshowal::Text(row.event.serial));
-        let follows = words::follows(self.causes, row.item, row.link);
+        let follows = words::follows(self.causes, row.item, "it", row.link);
         let whole = match self.causes.message(row.item) {
             Some(value) => self.causes.names().value(value).into_owned(),
             None => words::message(self.causes, row.item),
         };
         let name = self.names.get(number).map_or("", |name| name);
-        let tip = format!("{name}: {kind} {serial}, {follows}\n{whole}");
+        let tip = format!("{name}: {kind} {serial}, {follows}\n{whole}{}", premises(row.link));
         write!(out, "<g><title>{}</title>", Xml(&tip))?;
         draw(out)?;
         writeln!(out, "</g>")
@@ -207,7 +207,7 @@ impl<'a> Drawing<'a> {
     /// its send.
     fn is_doubtful(&self, row: &Row) -> bool {
         let may_follow = self.is_reported(row) || row.event.kind == Kind::Send;
-        may_follow && (row.link.grade == Grade::Perhaps || is_open(row.link.cause))
+        may_follow && (row.link.grade == Grade::Perhaps || is_unsure(row.link.cause))
     }
 
     fn receive(&self, row: &Row) -> Option<(usize, &'a Row)> {
@@ -279,9 +279,17 @@ impl<'a> Drawing<'a> {
     }
 }
 
-/// Returns whether nothing is named that an event follows, and it may follow something.
-fn is_open(cause: Cause) -> bool {
-    matches!(cause, Cause::BeginsOrUnreported | Cause::Unknown)
+/// Returns whether an event may follow something, and not one event alone is named.
+fn is_unsure(cause: Cause) -> bool {
+    matches!(cause, Cause::Either(..) | Cause::Moved(_) | Cause::Unknown)
+}
+
+/// Returns the lines that say on what a link rests, if it rests on something.
+fn premises(link: Link) -> String {
+    match link.grade {
+        Grade::Certain => String::new(),
+        _ => words::rests_on([link].into_iter()).iter().map(|line| format!("\n{line}")).collect(),
+    }
 }
 
 fn line((x, y): (usize, usize), (to_x, to_y): (usize, usize)) -> String {

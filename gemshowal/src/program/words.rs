@@ -1,15 +1,64 @@
-//! The sentences that charts, pages and times have in common: what an event is, what it follows, and
-//! how sure that is. Each is in one place here.
+//! The sentences that charts, pages, exports and `why` have in common: what an event is, what it
+//! follows, and what that rests on. Each is in one place here.
 
 use crate::causes::{Cause, Causes, Grade, Link};
 use crate::moment::moment;
 use crate::reason::Against;
 use crate::view::count;
-use gemshowal::Item;
+use gemshowal::{Item, Kind};
 
 const UNKNOWN: &str = "an unknown message";
 
-fn unreported(causes: &Causes<'_>, item: Item) -> &'static str {
+const RUNS: &str =
+    "this holds in each run of a standard node without a reset that reports the trace";
+pub(crate) const PREMISES: [&str; 7] = [
+    "if in between, or before a beginning, its process took no token whose receive wasn't reported",
+    "if there it put no token back, and spawned no process",
+    "if there it made no token, and set no label",
+    "if each send of such a message was reported",
+    "if the process of the send or print reported each of its sends, prints and receives of tokens",
+    "if it put back only tokens that it had held",
+    "if each label that it gave to a token was new to it, and it sent or printed with that label \
+     before it received it",
+];
+const PERHAPS: &str =
+    "perhaps: it is so in the run that gemshowal complete finds, and another may \
+     have something else there";
+
+impl Grade {
+    /// Returns the numbers of the premises: `1, 2`.
+    pub(crate) fn list(self) -> String {
+        self.premises().iter().map(u8::to_string).collect::<Vec<_>>().join(", ")
+    }
+
+    /// Returns the numbers of the premises, to be put after what rests on them.
+    pub(crate) fn numbers(self) -> String {
+        match self.list() {
+            none if none.is_empty() => none,
+            list => format!(" ({list})"),
+        }
+    }
+
+    pub(crate) fn perhaps(self) -> &'static str {
+        match self {
+            Grade::Perhaps => "perhaps ",
+            Grade::Certain | Grade::Under(_) => "",
+        }
+    }
+}
+
+/// Returns the lines that say on what these links rest.
+pub(crate) fn rests_on(links: impl Iterator<Item = Link>) -> Vec<String> {
+    let grades: Vec<Grade> = links.map(|link| link.grade).collect();
+    let rests_on = |premise| grades.iter().any(|grade| grade.premises().contains(&premise));
+    let premises = (1..).zip(PREMISES).filter(|&(premise, _)| rests_on(premise));
+    let premises = premises.map(|(premise, line)| format!("({premise}) {line}"));
+    let perhaps = grades.contains(&Grade::Perhaps).then(|| PERHAPS.to_owned());
+    [RUNS.to_owned()].into_iter().chain(premises).chain(perhaps).collect()
+}
+
+/// Returns what is said after the name of an event that wasn't reported.
+pub(crate) fn unreported(causes: &Causes<'_>, item: Item) -> &'static str {
     if causes.reported(item).is_some() {
         ""
     } else {
@@ -25,29 +74,45 @@ pub(crate) fn message(causes: &Causes<'_>, item: Item) -> String {
 }
 
 pub(crate) fn label(causes: &Causes<'_>, item: Item) -> String {
-    causes.label(item).map(|label| causes.names().label(label).into_owned()).unwrap_or_default()
+    let event = causes.event(item);
+    event.map(|event| causes.names().label(event.label).into_owned()).unwrap_or_default()
 }
 
-/// Says what an event follows, in a few words to be put after it: `after shop#1`.
-pub(crate) fn follows(causes: &Causes<'_>, item: Item, link: Link) -> String {
-    let perhaps = if link.grade == Grade::Perhaps { "perhaps " } else { "" };
+/// Says what an event follows, in a sentence that names it so: `shop#1 follows shop#0 (1, 2, 3)`.
+pub(crate) fn follows(causes: &Causes<'_>, item: Item, name: &str, link: Link) -> String {
+    let (perhaps, numbers) = (link.grade.perhaps(), link.grade.numbers());
     match link.cause {
-        Cause::After(cause) => {
-            let unreported = unreported(causes, cause);
-            format!("{perhaps}after {}{unreported}", causes.name(cause))
+        Cause::After(Item::Hidden(..)) => format!("nobody reported the send that {name} follows"),
+        Cause::After(other) => {
+            let (cause, unreported) = (causes.name(other), unreported(causes, other));
+            format!("{name} {perhaps}follows {cause}{unreported}{numbers}")
         }
-        Cause::OtherLabel(had) => format!(
-            "{perhaps}begins label {} here, or set it on its token; it had last received {} of \
-             label {}",
+        Cause::Begins(None) => format!("{name} {perhaps}begins this chain{numbers}"),
+        Cause::Begins(Some(had)) => format!(
+            "{name} {perhaps}begins label {}, or its process set that on its token; it had last \
+             received {} of label {}{numbers}",
             label(causes, item),
             causes.name(had),
             label(causes, had)
         ),
-        Cause::Begins => format!("{perhaps}begins here"),
-        Cause::BeginsOrUnreported => {
-            format!("{perhaps}begins here, or follows a message whose receive wasn't reported")
+        Cause::Either(one, other) => {
+            let origin = |origin: Option<Item>| match origin {
+                Some(item) => format!("follows {}", causes.name(item)),
+                None => "begins this chain".into(),
+            };
+            let (one, other) = (origin(one), origin(other));
+            format!("{name} {one} or {other}, as both had a token that fits{numbers}")
         }
-        Cause::Unknown => "nothing is known of what it follows".into(),
+        Cause::Moved(since) => {
+            let since = since.map(|event| format!("since {}", causes.name(event)));
+            format!(
+                "what {name} follows isn't known: {} {} took a token whose receive wasn't \
+                 reported, put one back or spawned a process",
+                since.as_deref().unwrap_or("before it"),
+                causes.process(causes.actor(item))
+            )
+        }
+        Cause::Unknown => format!("nothing is known of what {name} follows"),
     }
 }
 
@@ -65,24 +130,23 @@ pub(crate) fn headline(causes: &Causes<'_>) -> String {
     let own = causes.trace().streams();
     let events = count(own.total(), "event");
     let processes = count(own.pids().len() as u64, "process");
-    let added = causes.added();
-    let certain = (added.certain > 0).then(|| count(added.certain, "send"));
-    let sends = (added.sends > 0).then(|| count(added.sends, "send"));
-    let receives = (added.receives > 0).then(|| count(added.receives, "receive"));
+    let added = causes.items().filter(|&item| causes.reported(item).is_none());
+    let kind = |item| Some((causes.event(item)?.kind, causes.message(item).is_some()));
+    let added: Vec<(Kind, bool)> = added.filter_map(kind).collect();
+    let counted = |is_counted: fn(&(Kind, bool)) -> bool, thing| {
+        let number = added.iter().filter(|it| is_counted(it)).count() as u64;
+        (number > 0).then(|| count(number, thing))
+    };
+    // A send whose receive was reported happened.
+    let certain = counted(|&(kind, is_known)| kind != Kind::Receive && is_known, "send");
+    let sends = counted(|&(kind, is_known)| kind != Kind::Receive && !is_known, "send");
+    let receives = counted(|&(kind, _)| kind == Kind::Receive, "receive");
     let probable: Vec<String> = sends.into_iter().chain(receives).collect();
     let probable = (!probable.is_empty()).then(|| format!("probably {}", probable.join(" and ")));
     let added: Vec<String> = certain.into_iter().chain(probable).collect();
     let with = if added.is_empty() { "" } else { ", with " };
     let behind = if added.is_empty() { "" } else { " that nobody reported" };
     format!("fits: {events} of {processes}{with}{}{behind}", added.join(" and "))
-}
-
-pub(crate) fn chart_note(grades: impl Iterator<Item = Grade>) -> Option<&'static str> {
-    let is_under = |grade| matches!(grade, Grade::Under(_) | Grade::Kept(_));
-    grades.into_iter().any(is_under).then_some(
-        "note: what a send or print follows holds if its process reported each receive of a token \
-         and began no label twice; gemshowal why says of which event that is needed",
-    )
 }
 
 /// Says which part between supposed resets is looked at.

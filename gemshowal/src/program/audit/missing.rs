@@ -2,9 +2,8 @@
 //! them.
 
 use crate::names::Names;
-use crate::spawns::counter_behind;
 use crate::view::{Place, Shown};
-use gemshowal::{Event, Hop, Hops, Kind, OutOfMemory, Paired, Partner, Pid};
+use gemshowal::{Event, Kind, NodeHop, NodeHops, OutOfMemory, Paired, Partner, Pid};
 use std::collections::{BTreeSet, HashMap, HashSet};
 
 #[derive(Clone, Copy, Debug)]
@@ -57,7 +56,7 @@ fn place_of((_, _, pid, index): Turn) -> Place {
 struct Finder<'a> {
     shown: &'a Shown<'a>,
     paired: &'a Paired<'a>,
-    hops: Hops<'a>,
+    hops: NodeHops<'a>,
     /// The reported sends without a receive, by receiver and count, with their labels.
     unreceived: HashMap<(Pid, u64), Vec<(u32, Turn)>>,
     /// The counts of sends that only their receives tell of, or that nobody knows, by sender.
@@ -71,7 +70,7 @@ struct Finder<'a> {
 
 impl Missing {
     pub(super) fn find(shown: &Shown<'_>, paired: &Paired<'_>) -> Result<Missing, OutOfMemory> {
-        let hops = paired.hops()?;
+        let hops = NodeHops::of(shown.streams)?;
         let mut finder = Finder {
             shown,
             paired,
@@ -176,7 +175,7 @@ impl Finder<'_> {
         turn: Turn,
         newest: Option<u64>,
     ) -> Option<Place> {
-        if self.hops.hop(place.0, place.1) != Some(Hop::BeginsOrUnreported) {
+        if !matches!(self.hops.hop(place, event), NodeHop::Moved(_)) {
             return None;
         }
         let prev = event.serial.prev;
@@ -247,6 +246,12 @@ impl Finder<'_> {
         let open = self.open.into_iter().map(|(_, place)| place).collect();
         Missing { lacks, waiting, open, counters: self.counters }
     }
+}
+
+/// Returns the counter of a process behind the answer of a spawn with this count: OTP moves it to
+/// 16 times the count, and 15.
+fn counter_behind(answer: u64) -> Option<u64> {
+    answer.checked_mul(16)?.checked_add(15)
 }
 
 #[derive(Clone, Debug, Default)]

@@ -13,6 +13,7 @@ mod span;
 pub(crate) mod work;
 
 use crate::args::{Export, Target};
+use crate::causes::{Causes, Links};
 use crate::output::{Notes, Output};
 use crate::reason::{paired, Against};
 use crate::view::View;
@@ -34,14 +35,16 @@ pub(crate) fn run(args: &Export, task: Task<'_>) -> Result<Status, Failure> {
         Err(Failure::Never(no)) => return Ok(nothing(notes, no.headline)),
         paired => paired?,
     };
+    let links = Links::of_view(&view)?;
+    let causes = Causes::paired(&view, &links, &paired)?;
     // The order of all events isn't that of each process then. A graph needs no order.
-    let refusal = paired.refusal()?.filter(|_| args.target != Target::Dot);
+    let refusal = causes.never().filter(|_| args.target != Target::Dot);
     if let Some((pid, index, never @ Never::Late(_))) = refusal {
         let against = Against::by_complete(pid, index, never);
         return Ok(nothing(notes, against.headline(&view)));
     }
     let label = args.label.as_deref().map(|label| names.find_label(&trace, Some(label)));
-    let scene = Scene::new(&trace, &names, &paired, label.transpose()?)?;
+    let scene = Scene::new(&causes, label.transpose()?);
     if scene.events().next().is_none() {
         return Ok(nothing(notes, format_args!("no: {name}: there is no event to be drawn")));
     }

@@ -7,11 +7,13 @@ use super::nothing;
 use super::scene::{Place, Scene};
 use super::span::{About, Span, Spans};
 use super::work as kind;
+use crate::causes::Grade;
 use crate::names::Line;
 use crate::output::{Notes, Output};
 use crate::view::short;
+use crate::words::{self, PREMISES};
 use crate::{Failure, Status};
-use gemshowal::{Event, Hop, Kind, Label, Partner, Pid, Premises, Text};
+use gemshowal::{Event, Item, Kind, Label, Partner, Pid, Text};
 use std::collections::BTreeMap;
 use std::io::{self, Write};
 
@@ -125,8 +127,9 @@ impl Writer<'_> {
         let (scene, place) = (self.spans.scene, span.place);
         put_attribute(line, "", "erlang.label", &scene.names.label(event.label));
         if span.about == About::Label {
-            put_attribute(line, ",", "seqaudit.premise_1", FIRST);
-            put_attribute(line, ",", "seqaudit.premise_2", SECOND);
+            for (premise, number) in PREMISES.into_iter().zip(1..) {
+                put_attribute(line, ",", &format!("seqaudit.premise_{number}"), premise);
+            }
             return;
         }
         put_attribute(line, ",", "erlang.message", &short(&scene.names.value(event.value)));
@@ -204,36 +207,6 @@ fn service(scene: &Scene<'_>, pid: Pid) -> String {
     registered.map_or_else(|| scene.node(pid), str::to_owned)
 }
 
-fn follows(scene: &Scene<'_>, (pid, _): Place, hop: Hop) -> String {
-    match hop {
-        Hop::After(index) | Hop::AfterOneLabel(index) => scene.name((pid, index)),
-        Hop::OtherLabel(index, label) => format!(
-            "it begins its label here, or set it on its token; it had last received {} of label {}",
-            scene.name((pid, index)),
-            scene.names.label(label)
-        ),
-        Hop::Begins => "it begins here".into(),
-        Hop::BeginsOrUnreported => {
-            "it begins here, or follows a message whose receive wasn't reported".into()
-        }
-        Hop::Sent(from, index) => scene.name((from, index)),
-        Hop::Unsent => "a send that wasn't reported".into(),
-    }
-}
-
-/// The premises of a hop, apart from that of no reset.
-const FIRST: &str = "each receive of a token was reported";
-const SECOND: &str =
-    "no process cleared or lost its token, began again and reported an earlier label again";
-
-fn premises(hop: Hop) -> Option<&'static str> {
-    match hop.premises() {
-        Premises::Neither => None,
-        Premises::First => Some("1"),
-        Premises::Both => Some("1, 2"),
-    }
-}
-
 fn put_attribute(line: &mut Line<'_>, before: &str, key: &str, value: &str) {
     line.text(before).text("{\"key\":\"").text(key).text("\",\"value\":{\"stringValue\":");
     line.string(value).text("}}");
@@ -245,10 +218,14 @@ fn put_flag(line: &mut Line<'_>, key: &str, value: bool) {
 }
 
 /// Appends what an event follows, and the premises of that.
-fn put_cause(line: &mut Line<'_>, scene: &Scene<'_>, place: Place) {
-    let Some(hop) = scene.hop(place) else { return };
-    put_attribute(line, ",", "seqaudit.follows", &follows(scene, place, hop));
-    if let Some(words) = premises(hop) {
-        put_attribute(line, ",", "seqaudit.premises", words);
+fn put_cause(line: &mut Line<'_>, scene: &Scene<'_>, (pid, index): Place) {
+    let link = scene.link((pid, index));
+    let follows = match link.after() {
+        Some(item @ Item::Reported(..)) => scene.causes.name(item),
+        _ => words::follows(scene.causes, Item::Reported(pid, index), "it", link),
+    };
+    put_attribute(line, ",", "seqaudit.follows", &follows);
+    if let Grade::Under(_) = link.grade {
+        put_attribute(line, ",", "seqaudit.premises", &link.grade.list());
     }
 }

@@ -1,28 +1,24 @@
 //! The events that are drawn of a trace, and their names.
 
+use crate::causes::{Causes, Link};
 use crate::names::Names;
 use crate::view::short;
 pub(super) use crate::view::Place;
-use gemshowal::{Event, Hop, Hops, Item, Kind, Label, OutOfMemory, Paired, Partner, Pid, Trace};
+use gemshowal::{Event, Item, Kind, Label, OutOfMemory, Partner, Pid, Trace};
 
 pub(super) struct Scene<'a> {
     pub(super) trace: &'a Trace,
     pub(super) names: &'a Names,
-    pub(super) label: Option<Label>,
-    paired: &'a Paired<'a>,
-    hops: Hops<'a>,
+    pub(super) causes: &'a Causes<'a>,
+    label: Option<Label>,
     /// The number of the first event of each process among all events.
     starts: Vec<usize>,
     names_labels: bool,
 }
 
 impl<'a> Scene<'a> {
-    pub(super) fn new(
-        trace: &'a Trace,
-        names: &'a Names,
-        paired: &'a Paired<'a>,
-        label: Option<Label>,
-    ) -> Result<Scene<'a>, OutOfMemory> {
+    pub(super) fn new(causes: &'a Causes<'a>, label: Option<Label>) -> Scene<'a> {
+        let (trace, names) = (causes.trace(), causes.names());
         let lengths = trace.processes().map(|(_, events)| events.len());
         let starts = lengths.scan(0, |next, len| {
             let start = *next;
@@ -33,8 +29,7 @@ impl<'a> Scene<'a> {
         let mut labels = trace.events().map(|(_, event)| event.label);
         let first = labels.next();
         let names_labels = label.is_none() && labels.any(|label| Some(label) != first);
-        let hops = paired.hops()?;
-        Ok(Scene { trace, names, label, paired, hops, starts, names_labels })
+        Scene { trace, names, causes, label, starts, names_labels }
     }
 
     pub(super) fn has(&self, event: &Event) -> bool {
@@ -47,8 +42,8 @@ impl<'a> Scene<'a> {
 
     /// Returns the events that are drawn, each after those that it follows.
     pub(super) fn in_order(&self) -> Result<Vec<Place>, OutOfMemory> {
-        let order = self.paired.order()?;
-        let reported = order.into_iter().filter_map(|item| match item {
+        let order = self.causes.ordered()?;
+        let reported = order.into_iter().filter_map(|(item, _)| match item {
             Item::Reported(pid, index) => Some((pid, index)),
             Item::Hidden(..) => None,
         });
@@ -66,7 +61,7 @@ impl<'a> Scene<'a> {
     }
 
     pub(super) fn partner(&self, place: Place, event: &Event) -> Partner {
-        self.paired.partner(place, event.kind)
+        self.causes.partner(place, event.kind)
     }
 
     /// Returns whether the event at this place is a receive whose send nobody reported.
@@ -74,8 +69,8 @@ impl<'a> Scene<'a> {
         matches!(self.partner(place, event), Partner::NoSend)
     }
 
-    pub(super) fn hop(&self, (pid, index): Place) -> Option<Hop> {
-        self.hops.hop(pid, index)
+    pub(super) fn link(&self, (pid, index): Place) -> Link {
+        self.causes.link(Item::Reported(pid, index))
     }
 
     pub(super) fn count_messages(&self) -> usize {

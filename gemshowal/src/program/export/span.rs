@@ -2,15 +2,15 @@
 //!
 //! A label is one span, from its first event to its last: nothing of it is outside, so that a
 //! message whose send wasn't reported has its place too. Below it are the messages and the work of
-//! processes. What a message follows is what the proved hop says. A span is below the nearest one
-//! on the way back from it that doesn't end before it; the one that it follows directly is linked
-//! if it is below another.
+//! processes. A span is below the nearest one on the way back from it that doesn't end before it;
+//! the one that it follows directly is linked if it is below another.
 
 use super::scene::{Place, Scene};
 use super::work::{role, Calls, Role};
 use super::work::{Work, Works};
+use crate::causes::Cause;
 use crate::Failure;
-use gemshowal::{Event, Hop, Kind, Label, Partner};
+use gemshowal::{Event, Kind, Label, Partner};
 use std::collections::BTreeMap;
 
 /// The kinds of spans, by the number that `opentelemetry/proto/trace/v1` has for such a kind.
@@ -195,8 +195,8 @@ impl<'a> Spans<'a> {
 
     /// Finds the span of the receive that an event's process had under another label before it.
     pub(super) fn of_other_label(&self, place: Place) -> Option<u32> {
-        match self.scene.hop(place)? {
-            Hop::OtherLabel(index, _) => self.begun((place.0, index)),
+        match self.scene.link(place).cause {
+            Cause::Begins(Some(had)) => self.begun(had.place()),
             _ => None,
         }
     }

@@ -2,10 +2,10 @@
 //! as terms tell them: a request has a reference, and its reply has the same one.
 //!
 //! A process that waits for the reply to its own call goes on with what it did before, so the
-//! receive of that reply begins nothing. What a stamp follows is what the proved hop says.
+//! receive of that reply begins nothing.
 
 use super::scene::{Place, Scene};
-use gemshowal::{Hop, Kind, Pid};
+use gemshowal::{Item, Kind, Pid};
 use std::borrow::Cow;
 use std::collections::HashMap;
 
@@ -55,11 +55,8 @@ impl Works {
 
     /// Finds the work that a send or print belongs to: that of the receive that it follows.
     fn at_stamp(&mut self, scene: &Scene<'_>, (pid, index): Place, value: u64) -> Option<u32> {
-        let before = match scene.hop((pid, index))? {
-            Hop::After(before) | Hop::AfterOneLabel(before) => before,
-            _ => return None,
-        };
-        let number = self.number_of(scene, (pid, before))?;
+        let receive = scene.link((pid, index)).after().map(Item::place)?;
+        let number = self.number_of(scene, receive)?;
         let work = self.all.get_mut(number as usize)?;
         work.last = index;
         let request = scene.event(work.receive).and_then(|event| role(scene, event.value));

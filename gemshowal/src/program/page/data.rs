@@ -1,10 +1,11 @@
 //! The data of a page: the events of a trace, a list for each thing that is known of them.
 
 use crate::causes::{Cause, Causes, Grade, Link};
+use crate::chart::{lanes_and_rows, Row};
 use crate::names::{Messages, Names, Times};
 use crate::times::{self as durations, Durations};
 use crate::words;
-use gemshowal::{Event, Item, Kind, Label, Pid, Premises, Text};
+use gemshowal::{Event, Item, Kind, Label, Pid, Text};
 use serde::Serialize;
 use std::collections::{BTreeMap, BTreeSet, HashMap};
 use std::hash::Hash;
@@ -30,6 +31,8 @@ pub(super) struct Data {
     /// The length to which messages are cut, if they are.
     most: Option<usize>,
     limit: usize,
+    /// The lines that say on what the causes rest.
+    rests_on: Vec<String>,
     terms: Vec<Term>,
     /// The number of the only label that is shown at first.
     only: Option<usize>,
@@ -71,10 +74,10 @@ struct Rows {
     kind: String,
     /// A digit an event: whether it was reported.
     plain: String,
-    /// A letter an event: follows its send, or a receive; another label, begins, open, or hidden.
+    /// A letter an event, for what it follows: its send, a receive, another label, either of two;
+    /// it begins; its counters moved; or nothing is known.
     how: String,
-    /// A sign an event: certain, premise 1, premises 1 and 2, the same each with premise 3, or
-    /// perhaps.
+    /// A sign an event: certain, perhaps, or the number of the last premise.
     grade: String,
     label: Vec<usize>,
     /// The number of the message; -1 if nobody knows it.
@@ -84,8 +87,9 @@ struct Rows {
     at: Vec<String>,
     /// The row of the event that it follows, or -1.
     cause: Vec<i64>,
-    /// For each event that begins another label, the row of the last receive.
-    had: BTreeMap<usize, usize>,
+    /// The rows of the other events that a sentence names, -1 for none: the last receive before
+    /// another label, either of two, and the event since which the counters moved.
+    others: BTreeMap<usize, Vec<i64>>,
     time: Option<Vec<Option<i64>>>,
 }
 
@@ -108,23 +112,18 @@ impl<T: Copy + Eq + Hash> Numbers<T> {
 impl Data {
     pub(super) fn of(
         causes: &Causes<'_>,
-        items: &[Item],
+        events: Vec<(Item, Event)>,
         title: &str,
         only: Option<Label>,
         messages: &Messages,
     ) -> Data {
         let (names, times) = (causes.names(), causes.names().times());
-        let events: Vec<(Item, Event)> =
-            items.iter().filter_map(|&item| Some((item, causes.event(item)?))).collect();
-        let pids: BTreeSet<Pid> =
-            events.iter().flat_map(|(_, event)| [Some(event.from), event.to]).flatten().collect();
-        let labels: BTreeSet<u32> = events.iter().map(|(_, event)| event.label.0).collect();
+        let (lanes, rows) = lanes_and_rows(causes, events);
+        let labels: BTreeSet<u32> = rows.iter().map(|row| row.event.label.0).collect();
         let values: BTreeSet<u64> =
-            events.iter().filter_map(|&(item, _)| causes.message(item)).collect();
+            rows.iter().filter_map(|row| causes.message(row.item)).collect();
         let most = messages.most(&values, names, CHARACTERS);
-        let numbers = (Numbers::of(pids.iter().copied()), Numbers::of(labels.iter().copied()));
-        let rows =
-            Rows::of(causes, &events, &numbers.0, &numbers.1, &Numbers::of(values.iter().copied()));
+        let numbers = Numbers::of(labels.iter().copied());
         Data {
             title: title.into(),
             headline: words::headline(causes),
@@ -138,11 +137,12 @@ impl Data {
             durations: times.map_or_else(Vec::new, |times| tables(causes, names, times)),
             most,
             limit: CHARACTERS,
+            rests_on: words::rests_on(rows.iter().map(|row| row.link)),
             terms: values.iter().map(|&value| Term::of(value, names, messages, most)).collect(),
-            only: only.and_then(|label| numbers.1.get(label.0)),
-            lanes: pids.iter().map(|&pid| Lane::of(causes, pid)).collect(),
+            only: only.and_then(|label| numbers.get(label.0)),
+            lanes: lanes.iter().map(|&pid| Lane::of(causes, pid)).collect(),
             labels: labels.iter().map(|&label| names.label(Label(label)).into_owned()).collect(),
-            rows,
+            rows: Rows::of(causes, &rows, &numbers, &Numbers::of(values.iter().copied())),
         }
     }
 }
@@ -170,19 +170,16 @@ impl Term {
 impl Rows {
     fn of(
         causes: &Causes<'_>,
-        events: &[(Item, Event)],
-        lanes: &Numbers<Pid>,
+        chart: &[Row],
         labels: &Numbers<u32>,
         values: &Numbers<u64>,
     ) -> Rows {
-        let places = Numbers::of(events.iter().map(|&(item, _)| item));
+        let places = Numbers::of(chart.iter().map(|row| row.item));
         let times = causes.names().times();
         let mut rows = Rows { time: times.map(|_| Vec::new()), ..Rows::default() };
-        for (number, &(item, ref event)) in events.iter().enumerate() {
-            let (actor, link) = (causes.actor(item), causes.link(item));
-            let other = event.to.map(|to| if to == actor { event.from } else { to });
-            rows.lane.push(lanes.get(actor).unwrap_or_default());
-            rows.other.push(lanes.or_none(other));
+        for (number, &Row { item, ref event, link, lane, other }) in chart.iter().enumerate() {
+            rows.lane.push(lane);
+            rows.other.push(other.map_or(-1, |lane| lane as i64));
             rows.kind.push(kind(item, event.kind));
             rows.plain.push(if causes.reported(item).is_some() { '1' } else { '0' });
             rows.how.push(how(event.kind, link));
@@ -192,8 +189,10 @@ impl Rows {
             rows.serial.push(format!("{},{}", event.serial.prev, event.serial.this));
             rows.at.push(causes.number(item));
             rows.cause.push(places.or_none(link.after()));
-            if let Cause::OtherLabel(had) = link.cause {
-                rows.had.extend(places.get(had).map(|had| (number, had)));
+            let others: Vec<i64> =
+                others(link.cause).into_iter().map(|other| places.or_none(other)).collect();
+            if !others.is_empty() {
+                rows.others.insert(number, others);
             }
             if let (Some(column), Some(times)) = (&mut rows.time, times) {
                 column.push(causes.place(item).and_then(|place| times.of_event(place)));
@@ -216,21 +215,27 @@ fn how(kind: Kind, link: Link) -> char {
     match link.cause {
         Cause::After(_) if kind == Kind::Receive => 's',
         Cause::After(_) => 'r',
-        Cause::OtherLabel(_) => 'l',
-        Cause::Begins => 'b',
-        Cause::BeginsOrUnreported => 'o',
-        Cause::Unknown => 'h',
+        Cause::Begins(None) => 'b',
+        Cause::Begins(Some(_)) => 'l',
+        Cause::Either(..) => 'e',
+        Cause::Moved(_) => 'm',
+        Cause::Unknown => 'u',
+    }
+}
+
+fn others(cause: Cause) -> Vec<Option<Item>> {
+    match cause {
+        Cause::Begins(Some(had)) => vec![Some(had)],
+        Cause::Either(one, other) => vec![one, other],
+        Cause::Moved(since) => vec![since],
+        Cause::After(_) | Cause::Begins(None) | Cause::Unknown => Vec::new(),
     }
 }
 
 fn grade(grade: Grade) -> char {
     match grade {
-        Grade::Certain | Grade::Under(Premises::Neither) => 'c',
-        Grade::Under(Premises::First) => '1',
-        Grade::Under(Premises::Both) => '2',
-        Grade::Kept(Premises::Neither) => '3',
-        Grade::Kept(Premises::First) => '4',
-        Grade::Kept(Premises::Both) => '5',
+        Grade::Certain => 'c',
+        Grade::Under(premises) => premises.last().map_or('c', |&last| char::from(b'0' + last)),
         Grade::Perhaps => 'p',
     }
 }

@@ -8,7 +8,7 @@
 mod data;
 
 use crate::args::Page as Args;
-use crate::causes::{with_causes, Causes};
+use crate::causes::{with_causes, Links};
 use crate::output::keep;
 use crate::view::View;
 use crate::{Failure, Status, Task};
@@ -27,12 +27,10 @@ pub(crate) fn run(args: &Args, task: Task<'_>) -> Result<Status, Failure> {
     let label = args.label.as_deref().map(|label| names.find_label(&trace, Some(label)));
     let label = label.transpose()?;
     let whole = View::whole(&trace, &names);
-    let all = |_: &Causes<'_>| false;
-    with_causes(&whole, all, |causes| {
-        let items = causes.order()?;
+    with_causes(&whole, &Links::of_view(&whole)?, |causes| {
         let messages = input.messages(|value| names.has_value(value))?;
         let title = input.title();
-        let data = Data::of(causes, &items, &title, label, &messages);
+        let data = Data::of(causes, causes.ordered()?, &title, label, &messages);
         let page = page(&title, &serde_json::to_string(&data)?);
         match &args.out {
             Some(file) => keep(file, page.as_bytes())?,
