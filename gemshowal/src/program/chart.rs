@@ -5,10 +5,10 @@ use crate::args::Chart as Args;
 use crate::causes::{with_each, Causes, Link};
 use crate::object::kind_word;
 use crate::output::Output;
-use crate::view::View;
+use crate::view::{ends, View};
 use crate::{moment, svg, words, Failure, Status, Task};
 use gemshowal::{Event, Item, Kind, Label, Pid};
-use std::collections::{BTreeMap, BTreeSet};
+use std::collections::BTreeMap;
 use std::io::{self, Write};
 use std::path::{Path, PathBuf};
 
@@ -165,9 +165,7 @@ pub(crate) fn lanes_and_rows(
     causes: &Causes<'_>,
     events: Vec<(Item, Event)>,
 ) -> (Vec<Pid>, Vec<Row>) {
-    let ends = events.iter().flat_map(|(_, event)| [Some(event.from), event.to]);
-    let lanes: BTreeSet<Pid> = ends.flatten().collect();
-    let lanes: Vec<Pid> = lanes.into_iter().collect();
+    let lanes = ends(events.iter().map(|(_, event)| event));
     let lane = |pid: Pid| lanes.binary_search(&pid).unwrap_or_default();
     let row = |(item, event): (Item, Event)| {
         let actor = causes.actor(item);

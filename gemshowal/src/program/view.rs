@@ -4,7 +4,7 @@
 use crate::names::Names;
 use gemshowal::{Completion, Event, Kind, Pid, Streams, Trace};
 use std::borrow::Cow;
-use std::collections::{BTreeMap, HashMap};
+use std::collections::{BTreeMap, BTreeSet, HashMap};
 
 /// The greatest number of a message's characters in a sentence or a drawing.
 const CHARACTERS: usize = 80;
@@ -159,6 +159,12 @@ impl<'a> Shown<'a> {
             self.view.names.label(event.label)
         )
     }
+}
+
+/// Returns the processes that events are from or to, by rising pid.
+pub(crate) fn ends<'a>(events: impl Iterator<Item = &'a Event>) -> Vec<Pid> {
+    let ends = events.flat_map(|event| [Some(event.from), event.to]).flatten();
+    ends.collect::<BTreeSet<_>>().into_iter().collect()
 }
 
 pub(crate) fn short(text: &str) -> Cow<'_, str> {

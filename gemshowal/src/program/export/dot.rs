@@ -6,7 +6,6 @@ use super::scene::{Place, Scene};
 use crate::object::kind_word;
 use crate::output::Output;
 use gemshowal::{Event, Partner, Pid};
-use std::collections::HashMap;
 use std::io::{self, Write};
 
 /// The style of an edge between a send and its receive.
@@ -14,15 +13,12 @@ const MESSAGE: &str = " [color=blue]";
 const OPEN_MESSAGE: &str = " [color=blue, style=dashed]";
 
 pub(super) fn write(scene: &Scene<'_>, out: &mut Output) -> io::Result<()> {
-    let lanes: HashMap<Pid, usize> = scene.lanes().into_iter().zip(1..).collect();
     writeln!(out, "digraph trace {{\n    newrank=true;\n    node [shape=box];")?;
-    for (pid, events) in scene.trace.processes() {
-        if let Some(&lane) = lanes.get(&pid) {
-            write_process(scene, out, lane, pid, events)?;
-        }
+    for (pid, events) in scene.trace.processes().filter(|&(pid, _)| scene.lane(pid) > 0) {
+        write_process(scene, out, pid, events)?;
     }
     for (place, event) in scene.events() {
-        write_message(scene, out, &lanes, place, event)?;
+        write_message(scene, out, place, event)?;
     }
     writeln!(out, "}}")
 }
@@ -30,11 +26,10 @@ pub(super) fn write(scene: &Scene<'_>, out: &mut Output) -> io::Result<()> {
 fn write_process(
     scene: &Scene<'_>,
     out: &mut Output,
-    lane: usize,
     pid: Pid,
     events: &[Event],
 ) -> io::Result<()> {
-    let name = quoted(&scene.names.process(pid));
+    let (lane, name) = (scene.lane(pid), quoted(&scene.names.process(pid)));
     writeln!(out, "    subgraph cluster_{lane} {{\n        label=\"{name}\";")?;
     let mut before: Option<u64> = None;
     for (index, event) in (0..).zip(events).filter(|(_, event)| scene.has(event)) {
@@ -53,17 +48,15 @@ fn write_process(
 fn write_message(
     scene: &Scene<'_>,
     out: &mut Output,
-    lanes: &HashMap<Pid, usize>,
     (pid, index): Place,
     event: &Event,
 ) -> io::Result<()> {
-    let lane = |pid: Pid| lanes.get(&pid).copied().unwrap_or(0);
-    let own = lane(pid);
+    let own = scene.lane(pid);
     let (node, open) = (format!("e{own}_{index}"), format!("u{own}_{index}"));
     match scene.partner((pid, index), event) {
         Partner::Nobody | Partner::Receive(..) => Ok(()),
         Partner::Send(from, sent) => {
-            writeln!(out, "    e{}_{sent} -> {node}{MESSAGE};", lane(from))
+            writeln!(out, "    e{}_{sent} -> {node}{MESSAGE};", scene.lane(from))
         }
         Partner::NoReceive => writeln!(
             out,

@@ -14,31 +14,25 @@ use std::io::{self, Write};
 
 pub(super) fn write(scene: &Scene<'_>, out: &mut Output) -> Result<(), Failure> {
     let order = scene.in_order()?;
-    let lanes: HashMap<Pid, usize> = scene.lanes().into_iter().zip(1..).collect();
-    let diagram = Diagram { scene, lanes, overtaken: overtaken(scene, &order) };
+    let diagram = Diagram { scene, overtaken: overtaken(scene, &order) };
     writeln!(out, "sequenceDiagram")?;
-    for (pid, number) in scene.lanes().into_iter().zip(1..) {
+    for (&pid, number) in scene.lanes.iter().zip(1..) {
         writeln!(out, "    participant P{number} as {}", called(scene, pid))?;
     }
-    let is_unsent =
-        |&place: &Place| scene.event(place).is_some_and(|event| scene.is_unsent(place, event));
-    if order.iter().any(is_unsent) {
+    if order.iter().any(|&(place, event)| scene.is_unsent(place, event)) {
         writeln!(out, "    participant U as not reported")?;
     }
-    for place in order {
-        if let Some(event) = scene.event(place) {
-            diagram.write_event(out, place, event)?;
-        }
+    for (place, event) in order {
+        diagram.write_event(out, place, event)?;
     }
     Ok(())
 }
 
 /// Finds the sends after which their process did something else before the receive.
-fn overtaken(scene: &Scene<'_>, order: &[Place]) -> HashSet<Place> {
+fn overtaken(scene: &Scene<'_>, order: &[(Place, &Event)]) -> HashSet<Place> {
     let mut last = HashMap::new();
     let mut overtaken = HashSet::new();
-    for &place in order {
-        let Some(event) = scene.event(place) else { continue };
+    for &(place, event) in order {
         if let Partner::Send(from, sent) = scene.partner(place, event) {
             if last.get(&from) != Some(&sent) {
                 overtaken.insert((from, sent));
@@ -51,7 +45,6 @@ fn overtaken(scene: &Scene<'_>, order: &[Place]) -> HashSet<Place> {
 
 struct Diagram<'a> {
     scene: &'a Scene<'a>,
-    lanes: HashMap<Pid, usize>,
     overtaken: HashSet<Place>,
 }
 
@@ -59,8 +52,8 @@ impl Diagram<'_> {
     /// Writes the line of an event. A send whose arrow is in its place has none.
     fn write_event(&self, out: &mut Output, place: Place, event: &Event) -> io::Result<()> {
         let content = plain(&self.scene.content(event));
-        let from = self.lane(event.from);
-        let to = event.to.map_or(0, |to| self.lane(to));
+        let from = self.scene.lane(event.from);
+        let to = event.to.map_or(0, |to| self.scene.lane(to));
         match self.scene.partner(place, event) {
             Partner::Receive(..) if !self.overtaken.contains(&place) => Ok(()),
             Partner::Nobody | Partner::Receive(..) if event.kind == Kind::Print => {
@@ -82,10 +75,6 @@ impl Diagram<'_> {
             }
             Partner::Send(..) => writeln!(out, "    P{from}->>P{to}: {content}"),
         }
-    }
-
-    fn lane(&self, pid: Pid) -> usize {
-        self.lanes.get(&pid).copied().unwrap_or(0)
     }
 }
 

@@ -4,7 +4,7 @@
 //! A short slice is an event. Around those of a process are what it did for a message, from its
 //! receive to the last stamp that follows it, and its calls, from the request to the reply.
 
-use super::scene::{Place, Scene};
+use super::scene::{Place, Scene, Table};
 use super::work as kind;
 use super::work::{Calls, Works};
 use crate::names::Line;
@@ -127,7 +127,7 @@ impl Writer<'_> {
             self.put_process(line, lane.pid);
             line.text("\"}}");
         })?;
-        let times = self.clock.of_process(self.scene, lane.pid);
+        let times = self.clock.times.of_process(self.scene, lane.pid);
         let mut enclosing = enclosing.into_iter().peekable();
         for (index, event) in (0..).zip(events) {
             while let Some(slice) = enclosing.next_if(|slice| slice.first == index) {
@@ -225,7 +225,7 @@ impl Writer<'_> {
 
     /// Appends an end of the arrow of a message, if both ends are drawn.
     fn put_flow(&self, line: &mut Line<'_>, lane: Lane, place: Place, partner: Partner, time: f64) {
-        let has_time = |other| self.clock.at(self.scene, other).is_some();
+        let has_time = |other| self.clock.times.get(self.scene, other).is_some();
         let (phase, sent, end) = match partner {
             Partner::Receive(pid, index) if has_time((pid, index)) => ("s", place, "}"),
             Partner::Send(pid, index) if has_time((pid, index)) => {
@@ -279,14 +279,14 @@ fn process(pid: Pid) -> u64 {
 /// With measured ones: nanoseconds after the first event, and at least one more than the event
 /// before in its process, so that two of one time are still told apart.
 #[derive(Debug)]
-pub(super) struct Clock {
+struct Clock {
     /// The time of each event; none if it has no time or isn't drawn.
-    times: Vec<Option<i64>>,
-    pub(super) is_measured: bool,
+    times: Table<i64>,
+    is_measured: bool,
 }
 
 impl Clock {
-    pub(super) fn of(scene: &Scene<'_>) -> Result<Clock, OutOfMemory> {
+    fn of(scene: &Scene<'_>) -> Result<Clock, OutOfMemory> {
         let is_measured = scene.names.times().is_some();
         let mut counts: Vec<u64> = Vec::new();
         if !is_measured {
@@ -294,48 +294,39 @@ impl Clock {
             counts.sort_unstable();
             counts.dedup();
         }
-        let times = vec![None; scene.trace.streams().total() as usize];
-        let mut clock = Clock { times, is_measured };
+        let mut clock = Clock { times: Table::of(scene), is_measured };
         let mut last = vec![i64::MIN; scene.trace.streams().pids().len()];
-        for place in scene.in_order()? {
+        for (place, event) in scene.in_order()? {
             let own = scene.trace.streams().place_of(place.0).and_then(|it| last.get_mut(it));
             let Some(own) = own else { continue };
             let earliest = own.saturating_add(1);
-            if let Some(time) = clock.next(scene, place, &counts, earliest) {
+            if let Some(time) = clock.next(scene, place, event, &counts, earliest) {
                 *own = time;
-                clock.set(scene, place, time);
+                clock.times.set(scene, place, Some(time));
             }
         }
         Ok(clock)
     }
 
-    fn next(&self, scene: &Scene<'_>, place: Place, counts: &[u64], earliest: i64) -> Option<i64> {
+    fn next(
+        &self,
+        scene: &Scene<'_>,
+        place: Place,
+        event: &Event,
+        counts: &[u64],
+        earliest: i64,
+    ) -> Option<i64> {
         if self.is_measured {
             return scene.time(place).map(|time| time.max(earliest));
         }
-        let event = scene.event(place)?;
         let rank = counts.partition_point(|&other| other < event.serial.this) as i64;
         let behind_send = match scene.partner(place, event) {
-            Partner::Send(pid, index) => self.at(scene, (pid, index)).map_or(0, |sent| sent + 1),
+            Partner::Send(pid, index) => {
+                self.times.get(scene, (pid, index)).map_or(0, |sent| sent + 1)
+            }
             _ => 0,
         };
         let by_count = 2 * rank + i64::from(event.kind == Kind::Receive);
         Some(by_count.max(behind_send).max(earliest))
-    }
-
-    fn set(&mut self, scene: &Scene<'_>, place: Place, time: i64) {
-        if let Some(own) = scene.number(place).and_then(|number| self.times.get_mut(number)) {
-            *own = Some(time);
-        }
-    }
-
-    pub(super) fn of_process(&self, scene: &Scene<'_>, pid: Pid) -> &[Option<i64>] {
-        let start = scene.number((pid, 0)).unwrap_or(self.times.len());
-        let own = self.times.get(start..).unwrap_or_default();
-        own.get(..scene.trace.streams().len(pid) as usize).unwrap_or_default()
-    }
-
-    pub(super) fn at(&self, scene: &Scene<'_>, place: Place) -> Option<i64> {
-        *self.times.get(scene.number(place)?)?
     }
 }

@@ -2,8 +2,8 @@
 
 use crate::causes::{Causes, Link};
 use crate::names::Names;
-use crate::view::short;
 pub(super) use crate::view::Place;
+use crate::view::{ends, short};
 use gemshowal::{Event, Item, Kind, Label, OutOfMemory, Partner, Pid, Trace};
 
 pub(super) struct Scene<'a> {
@@ -13,6 +13,8 @@ pub(super) struct Scene<'a> {
     label: Option<Label>,
     /// The number of the first event of each process among all events.
     starts: Vec<usize>,
+    /// The processes that an event which is drawn is from or to, by rising pid.
+    pub(super) lanes: Vec<Pid>,
     names_labels: bool,
 }
 
@@ -29,7 +31,14 @@ impl<'a> Scene<'a> {
         let mut labels = trace.events().map(|(_, event)| event.label);
         let first = labels.next();
         let names_labels = label.is_none() && labels.any(|label| Some(label) != first);
-        Scene { trace, names, causes, label, starts, names_labels }
+        let mut scene = Scene { trace, names, causes, label, starts, lanes: vec![], names_labels };
+        scene.lanes = ends(scene.events().map(|(_, event)| event));
+        scene
+    }
+
+    /// Returns the number of a process's lane, from 1; 0 if it has none.
+    pub(super) fn lane(&self, pid: Pid) -> usize {
+        self.lanes.binary_search(&pid).map_or(0, |at| at + 1)
     }
 
     pub(super) fn has(&self, event: &Event) -> bool {
@@ -41,13 +50,13 @@ impl<'a> Scene<'a> {
     }
 
     /// Returns the events that are drawn, each after those that it follows.
-    pub(super) fn in_order(&self) -> Result<Vec<Place>, OutOfMemory> {
-        let order = self.causes.ordered()?;
-        let reported = order.into_iter().filter_map(|(item, _)| match item {
-            Item::Reported(pid, index) => Some((pid, index)),
+    pub(super) fn in_order(&self) -> Result<Vec<(Place, &'a Event)>, OutOfMemory> {
+        let reported = |(item, _)| match item {
+            Item::Reported(pid, index) => Some(((pid, index), self.event((pid, index))?)),
             Item::Hidden(..) => None,
-        });
-        Ok(reported.filter(|&place| self.event(place).is_some_and(|it| self.has(it))).collect())
+        };
+        let order = self.causes.ordered()?.into_iter().filter_map(reported);
+        Ok(order.filter(|(_, event)| self.has(event)).collect())
     }
 
     pub(super) fn event(&self, (pid, index): Place) -> Option<&'a Event> {
@@ -82,15 +91,6 @@ impl<'a> Scene<'a> {
         self.events().filter(is_message).count()
     }
 
-    /// Returns the processes that an event which is drawn is from or to, by rising pid.
-    pub(super) fn lanes(&self) -> Vec<Pid> {
-        let ends = self.events().flat_map(|(_, event)| [Some(event.from), event.to]);
-        let mut pids: Vec<Pid> = ends.flatten().collect();
-        pids.sort_unstable();
-        pids.dedup();
-        pids
-    }
-
     /// Returns the term of an event in short, or its value and its counts.
     pub(super) fn content(&self, event: &Event) -> String {
         let label = match self.names_labels {
@@ -121,5 +121,32 @@ impl<'a> Scene<'a> {
 
     pub(super) fn time(&self, place: Place) -> Option<i64> {
         self.names.times()?.of_event(place)
+    }
+}
+
+/// A value for some events of a scene.
+#[derive(Debug)]
+pub(super) struct Table<T>(Vec<Option<T>>);
+
+impl<T: Copy> Table<T> {
+    pub(super) fn of(scene: &Scene<'_>) -> Table<T> {
+        Table(vec![None; scene.trace.streams().total() as usize])
+    }
+
+    pub(super) fn get(&self, scene: &Scene<'_>, place: Place) -> Option<T> {
+        *self.0.get(scene.number(place)?)?
+    }
+
+    pub(super) fn set(&mut self, scene: &Scene<'_>, place: Place, value: Option<T>) {
+        if let Some(own) = scene.number(place).and_then(|number| self.0.get_mut(number)) {
+            *own = value;
+        }
+    }
+
+    /// Returns the values of a process's events.
+    pub(super) fn of_process(&self, scene: &Scene<'_>, pid: Pid) -> &[Option<T>] {
+        let own = self.0.get(scene.number((pid, 0)).unwrap_or(self.0.len())..);
+        let count = scene.trace.streams().len(pid) as usize;
+        own.and_then(|own| own.get(..count)).unwrap_or_default()
     }
 }

@@ -23,17 +23,16 @@ pub(super) fn write(
     notes: &mut Notes,
 ) -> Result<Status, Failure> {
     let order = scene.in_order()?;
-    let lanes = scene.lanes();
-    if order.len().saturating_mul(lanes.len()) > MOST_COUNTS {
+    if order.len().saturating_mul(scene.lanes.len()) > MOST_COUNTS {
         notes.say(format_args!(
             "note: {name}: the clocks of its events may have more than {MOST_COUNTS} counts; \
              export a part (gemshowal cut), or take --as perfetto"
         ));
         return Ok(Status::Long);
     }
-    let hosts: Vec<String> = lanes.iter().map(|&pid| host(scene, pid)).collect();
+    let hosts: Vec<String> = scene.lanes.iter().map(|&pid| host(scene, pid)).collect();
     let quoted: Vec<String> = hosts.iter().map(|host| format!("{host:?}:")).collect();
-    each_clock(scene, &lanes, &order, |lane, event, clock| {
+    each_clock(scene, &order, |lane, event, clock| {
         out.put(|line| {
             put_words(line, scene, event);
             line.text("\n").text(hosts.get(lane).map_or("", |host| host)).text(" ");
@@ -50,15 +49,13 @@ pub(super) fn write(
 
 fn each_clock(
     scene: &Scene<'_>,
-    lanes: &[Pid],
-    order: &[Place],
+    order: &[(Place, &Event)],
     mut run: impl FnMut(usize, &Event, &Clock) -> io::Result<()>,
 ) -> io::Result<()> {
-    let mut clocks = vec![Clock::new(); lanes.len()];
+    let mut clocks = vec![Clock::new(); scene.lanes.len()];
     let mut sent = HashMap::<Place, Clock>::new();
-    for &place in order {
-        let lane = lanes.binary_search(&place.0);
-        let (Some(event), Ok(lane)) = (scene.event(place), lane) else { continue };
+    for &(place, event) in order {
+        let Ok(lane) = scene.lanes.binary_search(&place.0) else { continue };
         let clock = &mut clocks[lane];
         for (other, count) in sent.remove(&place).unwrap_or_default() {
             let own = count_of(clock, other);

@@ -5,9 +5,8 @@
 //! processes. A span is below the nearest one on the way back from it that doesn't end before it;
 //! the one that it follows directly is linked if it is below another.
 
-use super::scene::{Place, Scene};
-use super::work::{role, Calls, Role};
-use super::work::{Work, Works};
+use super::scene::{Place, Scene, Table};
+use super::work::{role, Calls, Role, Work, Works};
 use crate::causes::Cause;
 use crate::Failure;
 use gemshowal::{Event, Kind, Label, Partner};
@@ -49,7 +48,7 @@ pub(super) struct Spans<'a> {
     pub(super) all: Vec<Span>,
     labels: BTreeMap<u32, u32>,
     /// For each event the number of the span that it begins.
-    begun: Vec<Option<u32>>,
+    begun: Table<u32>,
     pub(super) prints: Vec<(u32, Place)>,
 }
 
@@ -57,26 +56,22 @@ impl<'a> Spans<'a> {
     pub(super) fn of(scene: &'a Scene<'a>) -> Result<Spans<'a>, Failure> {
         let calls = Calls::of(scene);
         let works = Works::of(scene, &calls);
-        let begun = vec![None; scene.trace.streams().total() as usize];
-        let (all, labels, prints) = (Vec::new(), BTreeMap::new(), Vec::new());
+        let (begun, labels) = (Table::of(scene), BTreeMap::new());
+        let (all, prints) = (Vec::new(), Vec::new());
         let mut spans = Spans { scene, calls, works, all, labels, begun, prints };
         let order = scene.in_order()?;
         spans.add_labels(&order);
-        for place in order {
-            if let Some(event) = scene.event(place) {
-                spans.add(place, event);
-            }
+        for (place, event) in order {
+            spans.add(place, event);
         }
         spans.prints.sort_by_key(|&(span, _)| span);
         Ok(spans)
     }
 
     /// Adds a span for each label that has an event with a time.
-    fn add_labels(&mut self, order: &[Place]) {
-        for &place in order {
-            let Some((event, time)) = self.scene.event(place).zip(self.scene.time(place)) else {
-                continue;
-            };
+    fn add_labels(&mut self, order: &[(Place, &Event)]) {
+        for &(place, event) in order {
+            let Some(time) = self.scene.time(place) else { continue };
             let next = self.all.len() as u32;
             let number = *self.labels.entry(event.label.0).or_insert(next);
             match self.all.get_mut(number as usize) {
@@ -102,7 +97,7 @@ impl<'a> Spans<'a> {
             Kind::Send => self.message(place, event),
             Kind::Receive => self.work(place, event),
             Kind::Print => {
-                let span = self.natural_parent(place, event).filter(|_| self.has_time(place));
+                let span = self.scene.time(place).and(self.natural_parent(place, event));
                 self.prints.extend(span.map(|span| (span, place)));
                 None
             }
@@ -111,16 +106,9 @@ impl<'a> Spans<'a> {
         let Some(follows) = self.natural_parent(place, event) else { return };
         let parent = self.that_ends_no_earlier(follows, event.label, end);
         let follows = Some(follows).filter(|&follows| Some(follows) != parent);
-        let number = self.all.len() as u32;
-        if let Some(begun) = self.scene.number(place).and_then(|it| self.begun.get_mut(it)) {
-            *begun = Some(number);
-        }
+        self.begun.set(self.scene, place, Some(self.all.len() as u32));
         let label = event.label;
         self.all.push(Span { about, place, label, start, end, parent, follows });
-    }
-
-    fn has_time(&self, place: Place) -> bool {
-        self.scene.time(place).is_some()
     }
 
     /// Finds the span of a send: to the receive of the reply if that is known, else to the end of
@@ -136,7 +124,7 @@ impl<'a> Spans<'a> {
         let got = receive.and_then(|receive| self.scene.time(receive));
         let start = self.scene.time(place).or(got)?;
         let work = receive.and_then(|receive| self.works.at(self.scene, receive));
-        let done = work.and_then(|(_, work)| self.end(work)).or(got);
+        let done = work.and_then(|work| self.end(work)).or(got);
         let is_call = matches!(role(self.scene, event.value), Some(Role::Request(_)));
         let reply = self.calls.reply(place).and_then(|reply| self.scene.time(reply));
         let about = if is_call { About::Call } else { About::Message };
@@ -145,10 +133,7 @@ impl<'a> Spans<'a> {
 
     /// Finds the span of a receive, unless it is that of a reply.
     fn work(&self, place: Place, event: &Event) -> Option<(About, i64, i64)> {
-        let (_, work) = self.works.at(self.scene, place)?;
-        if work.receive != place {
-            return None;
-        }
+        let work = self.works.at(self.scene, place).filter(|work| work.receive == place)?;
         let end = self.end(work);
         let start = self.scene.time(place).or(end)?;
         let is_call = matches!(role(self.scene, event.value), Some(Role::Request(_)));
@@ -171,14 +156,14 @@ impl<'a> Spans<'a> {
             Partner::Send(pid, index) => self.begun((pid, index)),
             _ => {
                 let work = self.works.at(self.scene, place).filter(|_| event.kind != Kind::Receive);
-                work.and_then(|(_, work)| self.begun(work.receive))
+                work.and_then(|work| self.begun(work.receive))
             }
         };
         before.or_else(|| self.labels.get(&event.label.0).copied())
     }
 
     pub(super) fn begun(&self, place: Place) -> Option<u32> {
-        *self.begun.get(self.scene.number(place)?)?
+        self.begun.get(self.scene, place)
     }
 
     /// Finds the nearest span from this one on up that doesn't end before this time, of this label.

@@ -4,12 +4,10 @@
 //! A process that waits for the reply to its own call goes on with what it did before, so the
 //! receive of that reply begins nothing.
 
-use super::scene::{Place, Scene};
+use super::scene::{Place, Scene, Table};
 use gemshowal::{Item, Kind, Pid};
 use std::borrow::Cow;
 use std::collections::HashMap;
-
-const NONE: u32 = u32::MAX;
 
 #[derive(Clone, Copy, Debug)]
 pub(super) struct Work {
@@ -23,21 +21,18 @@ pub(super) struct Work {
 #[derive(Debug)]
 pub(super) struct Works {
     pub(super) all: Vec<Work>,
-    of: Vec<u32>,
+    of: Table<u32>,
 }
 
 impl Works {
     pub(super) fn of(scene: &Scene<'_>, calls: &Calls) -> Works {
-        let count = scene.trace.streams().total() as usize;
-        let mut works = Works { all: Vec::new(), of: vec![NONE; count] };
+        let mut works = Works { all: Vec::new(), of: Table::of(scene) };
         for (place, event) in scene.events() {
             let work = match event.kind {
                 Kind::Receive => works.at_receive(scene, calls, place),
                 Kind::Send | Kind::Print => works.at_stamp(scene, place, event.value),
             };
-            if let Some(of) = scene.number(place).and_then(|number| works.of.get_mut(number)) {
-                *of = work.unwrap_or(NONE);
-            }
+            works.of.set(scene, place, work);
         }
         works
     }
@@ -45,7 +40,7 @@ impl Works {
     /// Finds the work that a receive belongs to. It begins one, unless it is a reply.
     fn at_receive(&mut self, scene: &Scene<'_>, calls: &Calls, receive: Place) -> Option<u32> {
         match calls.request(receive) {
-            Some(request) => self.number_of(scene, request),
+            Some(request) => self.of.get(scene, request),
             None => {
                 self.all.push(Work { receive, last: receive.1, reply: None });
                 u32::try_from(self.all.len() - 1).ok()
@@ -56,7 +51,7 @@ impl Works {
     /// Finds the work that a send or print belongs to: that of the receive that it follows.
     fn at_stamp(&mut self, scene: &Scene<'_>, (pid, index): Place, value: u64) -> Option<u32> {
         let receive = scene.link((pid, index)).after().map(Item::place)?;
-        let number = self.number_of(scene, receive)?;
+        let number = self.of.get(scene, receive)?;
         let work = self.all.get_mut(number as usize)?;
         work.last = index;
         let request = scene.event(work.receive).and_then(|event| role(scene, event.value));
@@ -69,14 +64,8 @@ impl Works {
         Some(number)
     }
 
-    fn number_of(&self, scene: &Scene<'_>, place: Place) -> Option<u32> {
-        let number = *self.of.get(scene.number(place)?)?;
-        (number != NONE).then_some(number)
-    }
-
-    pub(super) fn at(&self, scene: &Scene<'_>, place: Place) -> Option<(usize, &Work)> {
-        let number = self.number_of(scene, place)? as usize;
-        Some((number, self.all.get(number)?))
+    pub(super) fn at(&self, scene: &Scene<'_>, place: Place) -> Option<&Work> {
+        self.all.get(self.of.get(scene, place)? as usize)
     }
 
     pub(super) fn of_process(&self, pid: Pid) -> impl Iterator<Item = &Work> {
