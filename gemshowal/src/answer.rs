@@ -167,6 +167,22 @@ impl Trace {
         verdict.map(Some).map_err(|_| OutOfMemory)
     }
 
+    /// Makes a trace that lists these processes, without acts, of events of theirs, each process's
+    /// in their order.
+    pub fn of_events(
+        listed: BTreeSet<Pid>,
+        events: impl IntoIterator<Item = (Pid, Event)>,
+    ) -> Result<Trace, OutOfMemory> {
+        let mut draft = st_core::Draft::new(Global);
+        for pid in listed {
+            draft.open(pid).map_err(|_| OutOfMemory)?;
+        }
+        for (pid, event) in events {
+            draft.add(pid, event).map_err(|_| OutOfMemory)?;
+        }
+        draft.close().map(Trace::of_streams).map_err(|_| OutOfMemory)
+    }
+
     /// Returns a part of the trace: the events at these rising indices of each process. The part
     /// lists these processes, and those that the events name.
     pub fn part(&self, kept: &BTreeMap<Pid, Vec<u64>>) -> Result<Trace, OutOfMemory> {
@@ -181,14 +197,7 @@ impl Trace {
             listed
                 .extend([Some(event.from), event.to].into_iter().flatten().filter(|&it| it != pid));
         }
-        let mut draft = st_core::Draft::new(Global);
-        for pid in listed {
-            draft.open(pid).map_err(|_| OutOfMemory)?;
-        }
-        for (pid, &event) in events() {
-            draft.add(pid, event).map_err(|_| OutOfMemory)?;
-        }
-        draft.close().map(Trace::of_streams).map_err(|_| OutOfMemory)
+        Trace::of_events(listed, events().map(|(pid, &event)| (pid, event)))
     }
 }
 
