@@ -24,6 +24,9 @@ const SHOWN: Range<i64> = -(1 << 59)..1 << 59;
 /// The number of counts that a serial can show.
 pub const COUNTS: u64 = 1 << 60;
 
+/// What the bits of a clock can be that a serial hides.
+const UPPERS: Range<u64> = 0..1 << (u64::BITS - COUNTS.trailing_zeros());
+
 /// The number of a process's events from which the upper bits of its first clock are told: they
 /// matter at each greater count that it receives.
 const FRONT: usize = 1_000;
@@ -135,7 +138,10 @@ impl NodeTrace {
             let first = ways.iter().position(|&way| way != Way::Receive);
             let Some(first) = first.filter(|&at| ways[at] == Way::Ungiven) else { continue };
             let seen = self.seen(pid, self.trace.streams().events(pid));
-            found.extend(given_from_before(&seen, first)?.map(|ways| (pid, first as u64, ways)));
+            // Counters that haven't wrapped have no bits that a serial hides.
+            let uppers = if self.is_wrapped { UPPERS } else { 0..1 };
+            let given = given_from_before(&seen, first, uppers)?;
+            found.extend(given.map(|ways| (pid, first as u64, ways)));
         }
         Ok(found)
     }
@@ -177,10 +183,10 @@ pub fn origins(
     events: &[Event],
     is_answer: impl Fn(u64) -> bool,
 ) -> Result<Option<(Vec<Way>, Vec<EventOrigins>)>, OutOfMemory> {
-    if events.iter().any(|event| event.serial.this >= COUNTS) {
+    let seen = seen(events, is_answer);
+    if !are_shown(&seen) {
         return Ok(None);
     }
-    let seen = seen(events, is_answer);
     let origins = node_origins::origins(Global, &seen)?.as_slice().to_vec();
     Ok(Some((given(&seen)?, origins)))
 }
@@ -195,17 +201,32 @@ fn seen(events: &[Event], is_answer: impl Fn(u64) -> bool) -> Vec<Seen> {
     events.iter().zip(0..).map(seen).collect()
 }
 
+/// Returns whether serials of a node show all counts of these events.
+fn are_shown(seen: &[Seen]) -> bool {
+    seen.iter().all(|event| event.serial.prev.max(event.serial.this) < COUNTS)
+}
+
+/// Returns what gives each event; nothing gives those of a process with a count that no serial of a
+/// node shows.
 fn given(seen: &[Seen]) -> Result<Vec<Way>, OutOfMemory> {
-    Ok(node_given::given(Global, seen)?.as_slice().to_vec())
+    if are_shown(seen) {
+        return Ok(node_given::given(Global, seen)?.as_slice().to_vec());
+    }
+    let way = |event: &Seen| if event.kind == Kind::Receive { Way::Receive } else { Way::Ungiven };
+    Ok(seen.iter().map(way).collect())
 }
 
 /// Returns what gives each event of a process if its counters go on from before the first of them,
 /// so that they lead to its first stamp. The upper bits of the clock, which no serial shows, are
 /// those with which the fewest of the stamps soon after it are ungiven.
-fn given_from_before(seen: &[Seen], first: usize) -> Result<Option<Vec<Way>>, OutOfMemory> {
+fn given_from_before(
+    seen: &[Seen],
+    first: usize,
+    uppers: Range<u64>,
+) -> Result<Option<Vec<Way>>, OutOfMemory> {
     let front = &seen[..seen.len().min(first + FRONT)];
     let mut best: Option<(usize, u64)> = None;
-    for upper in 0..1 << (u64::BITS - COUNTS.trailing_zeros()) {
+    for upper in uppers {
         let ways = given_after(past(seen, first, upper), front)?;
         let ungiven = ways.iter().filter(|&&way| way == Way::Ungiven).count();
         if ways[first] == Way::Plain && best.is_none_or(|(least, _)| ungiven < least) {

@@ -99,9 +99,15 @@ def sentences(program):
         got = program.run(("audit",), text.replace(old, new, 1))
         is_right = got.status == (0 if named is None else 2) and (named or b"") in got.complaint
         yield Check(f"audit of a wrapped trace: {what}", None if is_right or named is None and got.status == 2 else str(got))
-    for words in (("--acts", "acts.txt"), ("--each-label",), ("--label", "1"), ("--proved",)):
+    for words, said in ((("--label", "1"), b"cut: 4 of 5 events; the cut leaves nothing open\nfits: 4 events of 2 processes; nothing else is known to be missing\n"),
+                        (("--process", OTHER), b"cut: 1 of 5 events; the cut leaves nothing open\nfits: 1 event of 1 process; nothing else is known to be missing\n"),
+                        (("--each-label",), b"1: fits: 4 events of 2 processes; nothing else is known to be missing\n2: fits: 1 event of 1 process; ")):
+        got = program.run(("audit", *words), spawn(other=[line("print", 0, 1, OTHER, label=2)]))
+        is_right = got.status == 0 and got.output.startswith(said)
+        yield Check(f"audit {words[0]} of a wrapped trace", None if is_right else str(got))
+    for words in (("--acts", "acts.txt"), ("--proved",), ("--second",)):
         got = program.run(("audit", *words), spawn())
-        is_right = got.status == 2 and b"as a whole" in got.complaint and not got.output
+        is_right = got.status == 2 and b"without --acts, --proved" in got.complaint and not got.output
         yield Check(f"audit {words[0]} of a wrapped trace", None if is_right else str(got))
 
 

@@ -111,14 +111,6 @@ pub(crate) struct Audit {
     pub(crate) conditions: Conditions,
 }
 
-impl Audit {
-    /// Returns whether the whole trace is asked for, and nothing but the answer.
-    pub(crate) fn is_of_all(&self) -> bool {
-        let asks_more = self.acts.is_some() || self.proved || self.second || self.each_label;
-        !asks_more && self.conditions.are_none()
-    }
-}
-
 #[derive(clap::Args)]
 pub(crate) struct Complete {
     #[command(flatten)]

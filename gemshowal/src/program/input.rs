@@ -2,7 +2,7 @@
 
 use crate::names::{self, Messages, Names};
 use crate::output::{own_file, Notes};
-use crate::{lint, Failure};
+use crate::{causes, lint, Failure};
 use flate2::read::MultiGzDecoder;
 use gemshowal::{NodeTrace, ReadError, Trace, WRAPPED};
 use std::fs::{self, File};
@@ -66,6 +66,17 @@ impl Input {
         let rest = self.take();
         self.reader = Box::new(Cursor::new(front).chain(rest));
         Ok(is_wrapped)
+    }
+
+    /// Reads a trace as one of a standard node, whether its counters have wrapped or not, and the
+    /// names that the files next to it give it.
+    pub(crate) fn read_node(&mut self, notes: &mut Notes) -> Result<(NodeTrace, Names), Failure> {
+        if self.is_wrapped()? {
+            return self.read_wrapped(notes);
+        }
+        let (trace, names) = self.read(notes)?;
+        let answers = causes::answers(&trace, &names);
+        Ok((NodeTrace::new(trace, answers), names))
     }
 
     /// Reads a trace whose counters have wrapped, and the names that the files next to it give it.

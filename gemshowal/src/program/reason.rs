@@ -51,10 +51,12 @@ impl Against {
     }
 
     pub(crate) fn no(&self, view: &View<'_>) -> No {
-        No { headline: self.headline(view), refused: self.refused(view) }
+        No { headline: self.headline(view), refused: self.refused(view, false) }
     }
 
-    pub(crate) fn refused(&self, view: &View<'_>) -> Refused {
+    /// Shows the events, what it means that they don't go together, and what to look at: tokens that
+    /// were put back and resets too, unless the rules of a standard node have been asked.
+    pub(crate) fn refused(&self, view: &View<'_>, is_asked: bool) -> Refused {
         let shown = Shown::reported(view);
         let places = [Some(self.place), self.other()].into_iter().flatten();
         let with_event = |place: Place| Some((place, shown.streams.event(place.0, place.1)?));
@@ -64,11 +66,13 @@ impl Against {
             fields: Fields::new(view.names, event),
             what: shown.sentence(event),
         };
+        let mut look_at = causes(self.never, &events).to_vec();
+        look_at.retain(|cause| !is_asked || !MOVES_COUNTERS.contains(cause));
         Refused {
             reason: self.word(),
             found: places.iter().zip(&events).map(found).collect(),
             meaning: meaning(self.never),
-            look_at: causes(self.never, &events).join("; "),
+            look_at: look_at.join("; "),
         }
     }
 }
@@ -173,6 +177,8 @@ const RESET_BEFORE: &str = "seq_trace:reset_trace/0 before the event";
 const TWO_RUNS: &str = "files of two runs converted as one";
 const COLLECTED_TWICE: &str =
     "events that were collected twice, by a second tracer or by files of the same run";
+/// The causes that the rules of a standard node know of.
+const MOVES_COUNTERS: [&str; 5] = [PUT_BACK, PUT_BACK_EARLY, RESET, RESET_BEFORE, TWO_RUNS];
 const OTHER_ORDER: &str = "events of one process that are in another order than they happened in";
 const CHANGED: &str = "a file that was changed";
 const WRONG_PROCESS: &str =

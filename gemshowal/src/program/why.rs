@@ -2,12 +2,12 @@
 
 use crate::args::Why;
 use crate::audit::headline_of_node;
-use crate::causes::{answers, with_causes, Cause, Causes, Grade, Link, Links};
+use crate::causes::{with_causes, Cause, Causes, Grade, Link, Links};
 use crate::object::{kind_word, object, Number};
 use crate::output::Output;
 use crate::view::View;
 use crate::{words, Failure, Status, Task};
-use gemshowal::{Item, Kind, LineNumbers, NodeTrace, Text};
+use gemshowal::{Item, Kind, LineNumbers, Text};
 use serde::ser::{SerializeMap, Serializer};
 use serde::Serialize;
 use std::collections::{HashMap, HashSet};
@@ -18,13 +18,7 @@ const INDENT: usize = 16;
 
 pub(crate) fn run(args: &Why, task: Task<'_>) -> Result<Status, Failure> {
     let Task { json, input, out, notes } = task;
-    let (trace, names) = if input.is_wrapped()? {
-        input.read_wrapped(notes)?
-    } else {
-        let (trace, names) = input.read(notes)?;
-        let answers = answers(&trace, &names);
-        (NodeTrace::new(trace, answers), names)
-    };
+    let (trace, names) = input.read_node(notes)?;
     let place = names.find_event(trace.trace(), &args.event)?;
     let (headline, is_never) = headline_of_node(&trace, &names)?;
     let links = Links::of(trace.trace(), |place| trace.is_answer(place))?;

@@ -1,106 +1,67 @@
-//! The audit of a trace whose counters have wrapped, by the laws of a standard node: they ask
-//! nothing of the order of counts.
+//! What the rules of a standard node say of a trace. They ask nothing of the order of counts, so
+//! counters may wrap, and a token that is put back may move them anywhere.
 
-use super::sentences::{listed, not_received, write_all, write_counters, write_losses};
-use super::unexplained::{serial_text, Explainer};
-use crate::args::Audit;
+use super::lives;
+use super::unexplained::Explainer;
+use super::walk::{walk, Run};
 use crate::names::Names;
-use crate::object::{Number, Place as PlaceObject};
-use crate::output::Output;
-use crate::times::summary;
-use crate::view::{count, grouped, Place};
-use crate::{Failure, Status, Task};
-use gemshowal::{
-    signed, Event, Kind, MessageContent, NodeFinding, NodeTrace, Pid, Serial, Way, COUNTS,
-};
+use crate::view::{Kept, Place};
+use crate::Failure;
+use gemshowal::{Event, Kind, MessageContent, NodeFinding, NodeTrace, Pid, Serial, Way, COUNTS};
 use serde::Serialize;
 use std::collections::{HashMap, HashSet};
-use std::io::{self, Write};
-
-/// The premise of what no run has: an unreported send can stand for an alike one.
-const FINAL: &str = "this holds if each send of a token was reported";
-
-/// The part of the answer that isn't proved.
-const NOT_PROVED: &str =
-    "This answer is not proved: gemshowal is a plain build of proved sources, \
-     and how it reads this version, and its words, are only tested.";
-
-pub(super) fn run(args: &Audit, task: Task<'_>) -> Result<Status, Failure> {
-    let Task { json, input, out, notes } = task;
-    if !args.is_of_all() {
-        return Err(Failure::Wrapped(input.line_name().into()));
-    }
-    let (trace, names) = input.read_wrapped(notes)?;
-    let judged = Judged::of(&trace, &names)?;
-    if json {
-        out.report(judged.said().word(), &judged.object())?;
-    } else {
-        judged.write(out)?;
-    }
-    Ok(if judged.said().fits() { Status::Yes } else { Status::No })
-}
-
-/// Returns the first line of the audit, and whether it says that no run of the node has the trace.
-pub(crate) fn headline_of_node(
-    trace: &NodeTrace,
-    names: &Names,
-) -> Result<(String, bool), Failure> {
-    let judged = Judged::of(trace, names)?;
-    Ok((judged.headline(), judged.said() == Said::Never))
-}
 
 #[derive(Clone, Copy, Debug)]
-struct PutBack {
-    /// The send or print that shows it.
-    place: Place,
+pub(super) struct PutBack {
+    /// The send or print that shows it, or the receive of an unreported send that does.
+    pub(super) place: Place,
     /// The event right before which it was put back.
-    before: Place,
-    token: Serial,
+    pub(super) before: Place,
+    pub(super) token: Serial,
     /// The last earlier event that has the token, unless the process only made it.
-    of: Option<Place>,
+    pub(super) of: Option<Place>,
+    pub(super) is_hidden: bool,
 }
 
 #[derive(Clone, Copy, Debug, PartialEq, Eq)]
-enum Said {
-    Empty,
+pub(super) enum Verdict {
     Fits,
     /// It fits if something wasn't reported.
     Unexplained,
     Never,
 }
 
-impl Said {
-    fn fits(self) -> bool {
-        matches!(self, Said::Fits | Said::Unexplained)
-    }
-
-    fn word(self) -> &'static str {
-        match self {
-            Said::Empty => "empty",
-            Said::Fits => "fits",
-            Said::Unexplained => "unexplained",
-            Said::Never => "never",
-        }
-    }
+/// What the run that was found has besides what was reported.
+#[derive(Clone, Copy, Debug, Serialize)]
+pub(super) struct Found {
+    pub(super) sends: u64,
+    pub(super) receives: u64,
+    pub(super) counts: u64,
 }
 
-struct Judged<'a> {
-    trace: &'a NodeTrace,
-    names: &'a Names,
-    finding: NodeFinding,
-    put_backs: Vec<PutBack>,
+#[derive(Clone, Debug, Default)]
+pub(super) struct Judged {
+    pub(super) put_backs: Vec<PutBack>,
     /// The sends and prints that nothing their process had gives.
-    ungiven: Vec<Place>,
+    pub(super) ungiven: Vec<Place>,
     /// The first send or print of each process whose counter goes on from before the trace.
-    earlier: Vec<Place>,
+    pub(super) earlier: Vec<Place>,
+    pub(super) unsent: Vec<Place>,
     /// The receives of messages that were sent less often than received.
-    doubled: Vec<Place>,
+    pub(super) doubled: Vec<Place>,
+    /// The sends and prints before which a token was put back, but that may be earlier ones of
+    /// their process, collected twice.
+    pub(super) copies: Vec<Place>,
+    pub(super) cycle: Vec<Place>,
     /// The sends whose receive wasn't reported.
-    waiting: Vec<Place>,
+    pub(super) waiting: Vec<Place>,
+    /// A run that was found, if a kind of events wasn't reported.
+    pub(super) found: Option<Found>,
 }
 
-impl<'a> Judged<'a> {
-    fn of(trace: &'a NodeTrace, names: &'a Names) -> Result<Judged<'a>, Failure> {
+impl Judged {
+    /// Judges a trace of which each send, receive and print was reported.
+    pub(super) fn of(trace: &NodeTrace, names: &Names) -> Result<Judged, Failure> {
         let mut finding = trace.audit()?;
         let sent: HashSet<MessageContent> =
             trace.events(Kind::Send).map(|(_, event)| MessageContent::of(event)).collect();
@@ -120,193 +81,100 @@ impl<'a> Judged<'a> {
             }
         }
         Ok(Judged {
-            trace,
-            names,
             put_backs: put_backs(trace, &finding),
             ungiven: finding.places(|way| way == Way::Ungiven),
             earlier,
             doubled: finding.unsent.iter().copied().filter(is_sent).collect(),
+            unsent: finding.unsent,
+            cycle: finding.cycle,
             waiting,
-            finding,
+            ..Judged::default()
         })
     }
 
-    fn said(&self) -> Said {
-        if self.trace.trace().streams().total() == 0 {
-            Said::Empty
-        } else if !self.finding.cycle.is_empty() || !self.doubled.is_empty() {
-            Said::Never
-        } else if !self.ungiven.is_empty() || !self.finding.unsent.is_empty() {
-            Said::Unexplained
-        } else {
-            Said::Fits
-        }
-    }
-
-    fn headline(&self) -> String {
-        match self.said() {
-            Said::Empty => "nothing to audit: the trace has no events".into(),
-            Said::Never if self.doubled.is_empty() => format!(
-                "doesn't fit: in no order of the events does each receive come after its send, \
-                 because of {}",
-                self.listed(&self.finding.cycle)
-            ),
-            Said::Never => format!(
-                "doesn't fit: messages were received more often than they were sent: {}",
-                self.listed(&self.doubled)
-            ),
-            Said::Unexplained => {
-                format!("fits if something wasn't reported: {}", self.unexplained())
-            }
-            Said::Fits => format!(
-                "fits: {}{}{}{}",
-                self.size(),
-                self.beginnings(),
-                self.missing(),
-                self.tokens()
-            ),
-        }
-    }
-
-    fn size(&self) -> String {
-        let streams = self.trace.trace().streams();
-        let processes = streams.pids().len() as u64;
-        format!("{} of {}", count(streams.total(), "event"), count(processes, "process"))
-    }
-
-    fn beginnings(&self) -> String {
-        match self.earlier.len() as u64 {
-            0 => String::new(),
-            1 => "; the counter of 1 process goes on from before".into(),
-            more => format!("; the counters of {more} processes go on from before"),
-        }
-    }
-
-    fn missing(&self) -> String {
-        match self.waiting.len() {
-            0 if self.names.losses().is_empty() => "; nothing is known to be missing".into(),
-            0 => "; nothing else is known to be missing".into(),
-            _ => {
-                let sends = self.waiting.iter().filter_map(|&place| event_at(self.trace, place));
-                format!("; {}", not_received(self.names, &sends.collect::<Vec<_>>()))
+    /// Judges a trace of which the manual's machine has no run. If a kind of events wasn't reported,
+    /// a run is looked for that has such events.
+    pub(super) fn partial(trace: &NodeTrace, names: &Names) -> Result<Judged, Failure> {
+        let mut judged = Judged::of(trace, names)?;
+        let lacks = |kind| trace.events(kind).next().is_none();
+        let is_partial = [Kind::Send, Kind::Receive, Kind::Print].into_iter().any(lacks)
+            && trace.trace().events().all(|(_, event)| event.serial.this < COUNTS);
+        if judged.verdict() != Verdict::Fits && is_partial {
+            let run = walk(trace, |event| names.is_spawned(event.value));
+            if run.stuck.is_empty() && lives::has_run(trace, &run)? {
+                judged = Judged::found(trace, run);
+            } else if !run.stuck.is_empty() && (lacks(Kind::Send) || lacks(Kind::Receive)) {
+                judged = Judged { ungiven: run.stuck, ..Judged::default() };
             }
         }
+        judged.copies = copies(trace, names, &judged.put_backs);
+        Ok(judged)
     }
 
-    fn tokens(&self) -> String {
-        match self.put_backs.len() {
-            0 => String::new(),
-            1 => "; 1 token was put back".into(),
-            more => format!("; {} were put back", count(more as u64, "token")),
+    fn found(trace: &NodeTrace, run: Run) -> Judged {
+        let sends = trace.events(Kind::Receive).count() - trace.pairs().len();
+        let mut waiting = trace.unreceived();
+        waiting.retain(|send| !run.received.contains(send));
+        Judged {
+            earlier: run.earlier,
+            found: Some(Found {
+                sends: sends as u64,
+                receives: run.received.len() as u64,
+                counts: run.silent,
+            }),
+            put_backs: run.put_backs,
+            waiting,
+            ..Judged::default()
         }
     }
 
-    fn unexplained(&self) -> String {
-        let mut said = Vec::new();
-        if !self.ungiven.is_empty() {
-            let stamps = self.trace.events(Kind::Send).chain(self.trace.events(Kind::Print));
-            said.push(format!(
-                "{} of {} {} explained by what was",
-                grouped(self.ungiven.len() as u64),
-                count(stamps.count() as u64, "serial"),
-                if self.ungiven.len() == 1 { "isn't" } else { "aren't" }
-            ));
-        }
-        match self.finding.unsent.len() {
-            0 => {}
-            1 => said.push("1 receive has no reported send".into()),
-            more => said.push(format!("{} have no reported send", count(more as u64, "receive"))),
-        }
-        said.join(", and ")
-    }
-
-    fn write(&self, out: &mut Output) -> Result<(), Failure> {
-        writeln!(out, "{}", self.headline())?;
-        if self.said() == Said::Never {
-            writeln!(out, "{FINAL}")?;
-        }
-        self.write_unexplained(out)?;
-        write_counters(&self.counters(), out)?;
-        write_all(out, &self.put_backs, |put_back| self.sentence(put_back))?;
-        write_losses(self.names.losses(), out)?;
-        if let Some(times) = self.names.times() {
-            writeln!(out, "{}", summary(self.trace.trace(), times))?;
-        }
-        writeln!(out, "{NOT_PROVED}")?;
-        Ok(())
-    }
-
-    fn write_unexplained(&self, out: &mut Output) -> io::Result<()> {
-        let explainer = Explainer::new(self.trace, self.names, &self.waiting);
-        write_all(out, &self.ungiven, |&place| {
-            format!("{}: {}", self.stamp(place), explainer.explanation(place))
-        })?;
-        write_all(out, &self.finding.unsent, |&place| {
-            format!("{}: {}", self.names.event(place), explainer.unsent(place))
-        })
-    }
-
-    /// Returns the processes whose counter goes on from before the trace, with its count.
-    fn counters(&self) -> Vec<(String, String)> {
-        let counter = |&place: &Place| {
-            let stamp = event_at(self.trace, place)?.serial.this;
-            let stood = signed(stamp.wrapping_sub(1) % COUNTS);
-            Some((self.names.process(place.0).into_owned(), stood.to_string()))
+    /// Returns the judgement on a part of the trace.
+    pub(super) fn part(&self, kept: &Kept) -> Judged {
+        let mut part = self.clone();
+        let has = |&(pid, index): &Place| {
+            kept.get(&pid).is_some_and(|own| own.binary_search(&index).is_ok())
         };
-        self.earlier.iter().filter_map(counter).collect()
+        part.put_backs.retain(|it| has(&it.place));
+        let Judged { ungiven, earlier, unsent, doubled, copies, cycle, waiting, .. } = &mut part;
+        for places in [ungiven, earlier, unsent, doubled, copies, cycle, waiting] {
+            places.retain(has);
+        }
+        part
     }
 
-    fn stamp(&self, place: Place) -> String {
-        let serial = event_at(self.trace, place).map(|event| serial_text(event.serial));
-        format!("{} {}", self.names.event(place), serial.unwrap_or_default())
-    }
-
-    fn sentence(&self, put_back: &PutBack) -> String {
-        let PutBack { place, before, token, of } = *put_back;
-        let token = match of {
-            Some(of) => format!("the token of {}", self.names.event(of)),
-            None => format!("a token that it had made, {},", serial_text(token)),
-        };
-        let place_name = self.names.event(place);
-        if before == place {
-            format!("{place_name}: {token} was put back")
+    pub(super) fn verdict(&self) -> Verdict {
+        if !self.cycle.is_empty() || !self.doubled.is_empty() {
+            Verdict::Never
+        } else if !self.ungiven.is_empty() || !self.unsent.is_empty() {
+            Verdict::Unexplained
+        } else if !self.copies.is_empty() {
+            Verdict::Never
         } else {
-            format!("{place_name}: {token} was put back before {}", self.names.event(before))
-        }
-    }
-
-    fn listed(&self, places: &[Place]) -> String {
-        listed(places, |&place| self.names.event(place), "more")
-    }
-
-    fn object(&self) -> Object<'_> {
-        let explainer = Explainer::new(self.trace, self.names, &self.waiting);
-        let place = |&place: &Place| PlaceObject::new(self.names, place);
-        let places = |places: &[Place]| places.iter().map(place).collect();
-        Object {
-            law: "node",
-            fits: self.said().fits(),
-            headline: self.headline(),
-            events: Number(self.trace.trace().streams().total()),
-            processes: self.trace.trace().streams().pids().len(),
-            put_backs: self.put_backs.iter().map(|it| PutBackObject::new(self, it)).collect(),
-            unexplained: self
-                .ungiven
-                .iter()
-                .map(|it| UnexplainedObject { place: place(it), why: explainer.explanation(*it) })
-                .collect(),
-            earlier: places(&self.earlier),
-            unsent: places(&self.finding.unsent),
-            cycle: places(&self.finding.cycle),
-            waiting: places(&self.waiting),
-            losses: self.names.losses(),
-            proved: "not asked",
+            Verdict::Fits
         }
     }
 }
 
 pub(super) fn event_at(trace: &NodeTrace, (pid, index): Place) -> Option<Event> {
     trace.trace().streams().event(pid, index)
+}
+
+/// Finds the sends and prints that show a put-back and are as an earlier one of their process, if
+/// the node gave them no other time.
+fn copies(trace: &NodeTrace, names: &Names, put_backs: &[PutBack]) -> Vec<Place> {
+    let time = |place| names.times()?.of_event(place);
+    let key = |(place, event): (Place, &Event)| {
+        (event.kind as u8, MessageContent::of(event), time(place))
+    };
+    let mut seen = HashSet::new();
+    let again: HashSet<Place> = trace
+        .trace()
+        .events()
+        .filter(|&(place, event)| event.kind != Kind::Receive && !seen.insert(key((place, event))))
+        .map(|(place, _)| place)
+        .collect();
+    let shown = put_backs.iter().filter(|it| !it.is_hidden).map(|it| it.place);
+    shown.filter(|place| again.contains(place)).collect()
 }
 
 fn put_backs(trace: &NodeTrace, finding: &NodeFinding) -> Vec<PutBack> {
@@ -327,8 +195,8 @@ fn put_backs_of(trace: &NodeTrace, pid: Pid, ways: &[Way]) -> Vec<PutBack> {
                 continue;
             }
         };
-        let of = of.map(|of| (pid, of));
-        found.push(PutBack { place: (pid, index), before: (pid, before), token, of });
+        let (place, before, of) = ((pid, index), (pid, before), of.map(|of| (pid, of)));
+        found.push(PutBack { place, before, token, of, is_hidden: false });
         tokens.note(event.serial, index, false);
     }
     found
@@ -360,50 +228,4 @@ impl Tokens {
         self.earlier.extend(self.last.take());
         self.last = (!is_answer).then_some(((serial.prev, serial.this), index));
     }
-}
-
-#[derive(Serialize)]
-struct Object<'a> {
-    law: &'static str,
-    fits: bool,
-    headline: String,
-    events: Number,
-    processes: usize,
-    put_backs: Vec<PutBackObject>,
-    unexplained: Vec<UnexplainedObject>,
-    earlier: Vec<PlaceObject>,
-    unsent: Vec<PlaceObject>,
-    cycle: Vec<PlaceObject>,
-    waiting: Vec<PlaceObject>,
-    losses: &'a [String],
-    proved: &'static str,
-}
-
-#[derive(Serialize)]
-struct PutBackObject {
-    #[serde(flatten)]
-    place: PlaceObject,
-    serial: String,
-    before: PlaceObject,
-    #[serde(skip_serializing_if = "Option::is_none")]
-    of: Option<PlaceObject>,
-}
-
-impl PutBackObject {
-    fn new(judged: &Judged<'_>, put_back: &PutBack) -> PutBackObject {
-        let place = |place| PlaceObject::new(judged.names, place);
-        PutBackObject {
-            place: place(put_back.place),
-            serial: serial_text(put_back.token),
-            before: place(put_back.before),
-            of: put_back.of.map(place),
-        }
-    }
-}
-
-#[derive(Serialize)]
-struct UnexplainedObject {
-    #[serde(flatten)]
-    place: PlaceObject,
-    why: String,
 }

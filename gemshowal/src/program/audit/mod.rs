@@ -1,5 +1,7 @@
 //! The command `audit`: whether the events of a trace fit together, and what is missing.
 
+mod judged;
+mod lives;
 mod missing;
 mod others;
 mod outcome;
@@ -8,22 +10,23 @@ mod report;
 mod resets;
 mod sentences;
 mod unexplained;
-mod wrapped;
-
-pub(crate) use outcome::{Outcome, Said};
-pub(crate) use wrapped::headline_of_node;
+mod walk;
 
 use crate::args::Audit;
 use crate::input::Input;
+use crate::names::Names;
 use crate::output::Output;
 use crate::times::summary;
 use crate::view::{Kept, View};
-use crate::{Failure, Status, Task};
-use gemshowal::{CertificateError, CompleteError, MessageContent, OutOfMemory, Trace};
+use crate::{causes, Failure, Status, Task};
+use gemshowal::{CertificateError, MessageContent, NodeTrace, OutOfMemory, Trace};
+use judged::{Judged, Verdict};
 use missing::Missing;
 use others::Comparison;
+use outcome::{Outcome, Said};
 use report::Part;
 use sentences::{write_losses, Sentences};
+use std::cell::OnceCell;
 use std::collections::HashSet;
 use std::fs::File;
 use std::io::{BufWriter, Write};
@@ -33,26 +36,32 @@ use std::path::Path;
 /// each time.
 const PARTS: usize = 100;
 
-/// The part of an answer that isn't proved.
-const NOT_PROVED: &str =
-    "This answer is not proved: gemshowal is a plain build of proved sources, \
-     and its words are only tested; --proved asks the proved programs.";
-
 pub(crate) fn run(args: &Audit, task: Task<'_>) -> Result<Status, Failure> {
-    if task.input.is_wrapped()? {
-        return wrapped::run(args, task);
-    }
     let Task { json, input, out, notes } = task;
-    let (trace, names) = input.read(notes)?;
-    let whole = View::whole(&trace, &names);
+    let (node, names) = input.read_node(notes)?;
+    let whole = View::whole(node.trace(), &names);
     let kept = region::kept(&args.conditions, &whole)?;
-    let Some(kept) = kept else {
-        return Auditor { args, json, cut: None, view: &whole, input, word: input.word() }.run(out);
+    let part = kept.as_ref().map(|kept| node.trace().part(kept)).transpose()?;
+    let cut = kept.as_ref().map(|kept| region::note(&whole, kept)).transpose()?;
+    let view = match (&part, &kept) {
+        (Some(part), Some(kept)) => whole.part(part, kept, true),
+        _ => whole,
     };
-    let part = trace.part(&kept)?;
-    let view = whole.part(&part, &kept, true);
-    let cut = region::note(&whole, &kept)?;
-    Auditor { args, json, cut: Some(cut), view: &view, input, word: input.word() }.run(out)
+    let (kept, word) = (kept.as_ref(), input.word());
+    let judged = OnceCell::new();
+    Auditor { args, json, cut, view: &view, node: &node, kept, judged, input, word }.run(out)
+}
+
+/// Returns the first line of the judgement by the rules of a standard node, and whether it says
+/// that no run of the node has the trace.
+pub(crate) fn headline_of_node(
+    trace: &NodeTrace,
+    names: &Names,
+) -> Result<(String, bool), Failure> {
+    let judged = Judged::of(trace, names)?;
+    let view = View::whole(trace.trace(), names);
+    let headline = sentences::of_node(trace, &view, &judged).headline();
+    Ok((headline, judged.verdict() == Verdict::Never))
 }
 
 struct Auditor<'a> {
@@ -61,6 +70,11 @@ struct Auditor<'a> {
     /// The sentence about a cut, if a part of the trace was cut out.
     cut: Option<String>,
     view: &'a View<'a>,
+    /// The whole trace, and the events of it that are looked at, unless all are.
+    node: &'a NodeTrace,
+    kept: Option<&'a Kept>,
+    /// The judgement on the whole trace.
+    judged: OnceCell<Judged>,
     input: &'a Input,
     /// The trace's name on a command line.
     word: String,
@@ -69,8 +83,15 @@ struct Auditor<'a> {
 struct Audited<'a> {
     outcome: &'a Outcome,
     missing: Missing,
-    /// The parts between possible resets, if the trace doesn't fit and a reset may explain it.
-    parts: Vec<(Kept, Part)>,
+    resets: Resets,
+}
+
+/// Resets that would explain the trace, or tokens that were put back.
+#[derive(Default)]
+struct Resets {
+    places: Vec<String>,
+    /// The number of tokens that wouldn't have been put back then, if the trace fits.
+    put_backs: Option<u64>,
 }
 
 /// Returns whether an event is twice in the trace, and its node gave the two no different times.
@@ -105,7 +126,7 @@ impl Auditor<'_> {
         if self.args.each_label {
             return report::write_each(self, out);
         }
-        let outcome = Outcome::of(self.view.trace)?;
+        let outcome = self.outcome(self.view.trace, self.kept)?;
         if let Some(path) = &self.args.acts {
             self.write_acts(&outcome, path)?;
         }
@@ -123,25 +144,59 @@ impl Auditor<'_> {
         })
     }
 
-    /// Audits the trace, and if it doesn't fit the parts between possible resets, each by itself.
-    fn audited<'a>(&self, outcome: &'a Outcome) -> Result<Audited<'a>, CompleteError> {
-        let missing = outcome.missing(&outcome.shown(self.view))?;
-        let audited = |(kept, trace): (Kept, Trace)| {
-            let part = self.part(&trace, &kept, self.view.is_cut)?;
-            Ok((kept, part))
-        };
-        let parts = match &outcome.said {
-            Said::Never(against) if against.allows_reset() => {
-                parts(self.view)?.into_iter().map(audited).collect::<Result<_, CompleteError>>()?
-            }
-            _ => Vec::new(),
-        };
-        Ok(Audited { outcome, missing, parts })
+    fn outcome(&self, trace: &Trace, kept: Option<&Kept>) -> Result<Outcome, Failure> {
+        Outcome::of(trace, self.node.is_wrapped(), || {
+            let judged = match self.judged.get() {
+                Some(judged) => judged,
+                None => {
+                    let judge = if self.node.is_wrapped() { Judged::of } else { Judged::partial };
+                    let judged = judge(self.node, self.view.names)?;
+                    self.judged.get_or_init(|| judged)
+                }
+            };
+            Ok(kept.map_or_else(|| judged.clone(), |kept| judged.part(kept)))
+        })
     }
 
-    fn part(&self, trace: &Trace, kept: &Kept, is_cut: bool) -> Result<Part, CompleteError> {
-        let view = self.view.part(trace, kept, is_cut);
-        let outcome = Outcome::of(trace)?;
+    fn audited<'a>(&self, outcome: &'a Outcome) -> Result<Audited<'a>, Failure> {
+        let missing = outcome.missing(&outcome.shown(self.view))?;
+        let resets = match (&outcome.said, &outcome.judged, &self.cut) {
+            (Said::Never(against), Some(judged), None)
+                if against.allows_reset() || judged.verdict() == Verdict::Fits =>
+            {
+                self.resets(judged)?
+            }
+            _ => Resets::default(),
+        };
+        Ok(Audited { outcome, missing, resets })
+    }
+
+    /// Finds resets between which each part fits by itself, with fewer tokens put back than in the
+    /// whole.
+    fn resets(&self, judged: &Judged) -> Result<Resets, Failure> {
+        let whole = match judged.verdict() {
+            Verdict::Fits => Some(judged.put_backs.len()),
+            Verdict::Unexplained | Verdict::Never => None,
+        };
+        let (mut kept, mut needed) = (Vec::new(), 0);
+        for (own, part) in parts(self.view)? {
+            let answers = causes::answers(&part, self.view.names);
+            let node = NodeTrace::new(part, answers);
+            let judge = || Judged::partial(&node, self.view.names);
+            let outcome = Outcome::of(node.trace(), false, judge)?;
+            needed += outcome.judged.as_ref().map_or(0, |judged| judged.put_backs.len());
+            if !outcome.is_fit() || whole.is_some_and(|whole| needed >= whole) {
+                return Ok(Resets::default());
+            }
+            kept.push(own);
+        }
+        let put_backs = whole.map(|whole| (whole - needed) as u64);
+        Ok(Resets { places: report::resets(self.view, &kept), put_backs })
+    }
+
+    fn part(&self, trace: &Trace, kept: &Kept) -> Result<Part, Failure> {
+        let view = self.view.part(trace, kept, true);
+        let outcome = self.outcome(trace, Some(kept))?;
         let shown = outcome.shown(&view);
         let missing = outcome.missing(&shown)?;
         Ok(Part::new(&self.sentences(&outcome, &shown, &missing)))
@@ -152,6 +207,7 @@ impl Auditor<'_> {
         let file = || File::create(path).map(BufWriter::new).map_err(unkept);
         let mut file = match &outcome.said {
             Said::Never(_) => return Ok(()),
+            Said::Nothing => return Err(Failure::Wrapped(self.input.line_name().into())),
             Said::Fits(fits) => {
                 let trace = outcome.ranked.as_ref().unwrap_or(self.view.trace);
                 let mut file = file()?;
@@ -184,15 +240,17 @@ impl Auditor<'_> {
         }
         writeln!(out, "{}", sentences.headline())?;
         sentences.write_details(out)?;
-        if !audited.parts.is_empty() {
-            report::write_parts(self.view, &audited.parts, out)?;
+        sentences.write_resets(&audited.resets, out)?;
+        if self.args.acts.is_some() && audited.outcome.judged.is_some() {
+            writeln!(out, "No acts are written: the manual's machine has no run of it.")?;
         }
         write_losses(self.view.names.losses(), out)?;
         if let (Some(times), None) = (self.view.names.times(), &self.cut) {
             writeln!(out, "{}", summary(self.view.trace, times))?;
         }
         if others.is_empty() {
-            writeln!(out, "{NOT_PROVED}")?;
+            let is_of_node = audited.outcome.judged.is_some() && audited.outcome.is_fit();
+            writeln!(out, "{}", sentences::not_proved(self.node.is_wrapped(), is_of_node))?;
         }
         others.iter().try_for_each(|other| writeln!(out, "{other}"))?;
         Ok(())
@@ -205,6 +263,7 @@ impl Auditor<'_> {
         missing: &'a Missing,
     ) -> Sentences<'a> {
         let is_lossy = !self.view.names.losses().is_empty();
-        Sentences { outcome, shown, missing, is_lossy, name: &self.word }
+        let node = self.node;
+        Sentences { outcome, node, shown, missing, is_lossy, name: &self.word }
     }
 }

@@ -24,6 +24,8 @@ pub(super) enum Asked {
 #[derive(Debug)]
 pub(super) struct Comparison {
     pub(super) asked: Asked,
+    /// What is confirmed, if they agree.
+    what: &'static str,
     command: String,
     difference: Option<String>,
 }
@@ -53,8 +55,9 @@ impl Display for Comparison {
             Some(how) => write!(f, "{differ}: {command} {how}."),
             None => write!(
                 f,
-                "This answer is confirmed by {others} ({command}); words and names are gemshowal's \
-                 own, and only tested."
+                "{} is confirmed by {others} ({command}); words and names are gemshowal's own, and \
+                 only tested.",
+                self.what
             ),
         }
     }
@@ -66,13 +69,14 @@ pub(super) fn ask(
     outcome: &Outcome,
     name: &str,
 ) -> Result<Vec<Comparison>, Failure> {
-    let proved = args.proved.then(|| proved_question(trace, outcome)?.compare(Asked::Proved));
+    let proved = args.proved.then(|| proved_question(trace, outcome, name)?.compare(Asked::Proved));
     let second = args.second.then(|| second_question(trace, outcome, name)?.compare(Asked::Second));
     proved.into_iter().chain(second).collect()
 }
 
 /// A text for another program, and what that program does if it agrees.
 struct Question {
+    what: &'static str,
     program: PathBuf,
     command: &'static str,
     text: Vec<u8>,
@@ -80,18 +84,20 @@ struct Question {
     status: i32,
 }
 
-fn proved_question(trace: &Trace, outcome: &Outcome) -> Result<Question, Failure> {
+/// Says what the other programs are asked: they know the manual's machine alone.
+fn what(outcome: &Outcome) -> &'static str {
+    match outcome.said {
+        Said::Never(_) if outcome.is_fit() => "That the manual's machine has no run of it",
+        _ => "This answer",
+    }
+}
+
+fn proved_question(trace: &Trace, outcome: &Outcome, name: &str) -> Result<Question, Failure> {
     let asked = outcome.ranked.as_ref().unwrap_or(trace);
-    let mut program = program("SEQTOOL", "seqtool", "make program builds the proved one")?;
-    check_version(&program)?;
     let (mut text, mut answer) = (Vec::new(), Vec::new());
     let is_standard = gemshowal::write_streams(&mut text, asked.streams())?;
     let (command, status) = match &outcome.said {
         Said::Fits(fits) => {
-            if is_standard {
-                program =
-                    self::program("SEQAUDIT", "seqaudit", "make program builds the proved one")?;
-            }
             asked.write_fits(&mut answer, fits)?;
             ("audit", 0)
         }
@@ -104,13 +110,18 @@ fn proved_question(trace: &Trace, outcome: &Outcome) -> Result<Question, Failure
             trace.write_never(&mut answer, pid, index, against.never)?;
             ("complete", 1)
         }
+        Said::Nothing => return Err(Failure::Wrapped(name.into())),
     };
-    Ok(Question { program, command, text, answer, status })
+    let mut program = program("SEQTOOL", "seqtool", "make program builds the proved one")?;
+    check_version(&program)?;
+    if command == "audit" && is_standard {
+        program = self::program("SEQAUDIT", "seqaudit", "make program builds the proved one")?;
+    }
+    Ok(Question { what: what(outcome), program, command, text, answer, status })
 }
 
 /// Asks about acts of a run if there are some, since the second checker looks for none.
 fn second_question(trace: &Trace, outcome: &Outcome, name: &str) -> Result<Question, Failure> {
-    let program = program("SEQCHECK", "seqcheck", "make -C coq builds it")?;
     let mut text = Vec::new();
     let (is_standard, command, status) = match &outcome.said {
         Said::Fits(fits) => {
@@ -123,7 +134,9 @@ fn second_question(trace: &Trace, outcome: &Outcome, name: &str) -> Result<Quest
             (written.map_err(|error| Failure::of_acts(error, name))?, "check", 0)
         }
         Said::Never(_) => (gemshowal::write_streams(&mut text, trace.streams())?, "never", 1),
+        Said::Nothing => return Err(Failure::Wrapped(name.into())),
     };
+    let program = program("SEQCHECK", "seqcheck", "make -C coq builds it")?;
     if !is_standard {
         return Err(Failure::LargeForSecond(name.into()));
     }
@@ -132,9 +145,9 @@ fn second_question(trace: &Trace, outcome: &Outcome, name: &str) -> Result<Quest
             let (pid, index) = against.place;
             format!("never {} {index} {}\n", Text(pid), against.word()).into()
         }
-        Said::Fits(_) | Said::Completed(_) => yes(&text)?,
+        Said::Fits(_) | Said::Completed(_) | Said::Nothing => yes(&text)?,
     };
-    Ok(Question { program, command, text, answer, status })
+    Ok(Question { what: what(outcome), program, command, text, answer, status })
 }
 
 /// Returns the yes of `seqaudit check` about a text with acts that this program's checker accepts.
@@ -153,7 +166,7 @@ fn yes(text: &[u8]) -> Result<Vec<u8>, Failure> {
 impl Question {
     /// Asks the program, and compares its bytes and its status with the expected ones.
     fn compare(&self, asked: Asked) -> Result<Comparison, Failure> {
-        let Question { program, command, text, answer, status } = self;
+        let Question { program, command, text, answer, status, .. } = self;
         let mut child = Command::new(program)
             .arg(command)
             .stdin(Stdio::piped())
@@ -174,7 +187,8 @@ impl Question {
             Some(code) => Some(format!("ends with status {code}, not {status}")),
             None => Some("was ended by a signal".into()),
         };
-        Ok(Comparison { asked, command: format!("{} {command}", program.display()), difference })
+        let command = format!("{} {command}", program.display());
+        Ok(Comparison { asked, what: self.what, command, difference })
     }
 }
 

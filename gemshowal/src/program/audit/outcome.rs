@@ -1,41 +1,62 @@
 //! The outcome of an audit, as the proved libraries find it.
 
+use super::judged::{Judged, Verdict};
 use super::missing::Missing;
 use crate::reason::Against;
 use crate::view::{Shown, View};
+use crate::Failure;
 use gemshowal::{Answer, AuditError, CompleteError, Completion, Fits, OutOfMemory, Paired, Trace};
 
-pub(crate) struct Outcome {
-    pub(crate) said: Said,
+pub(super) struct Outcome {
+    pub(super) said: Said,
     /// The trace with the ranks of its counts, if acts were found for these alone.
-    pub(crate) ranked: Option<Trace>,
+    pub(super) ranked: Option<Trace>,
+    /// What the rules of a standard node say, if no run of the manual's machine was found.
+    pub(super) judged: Option<Judged>,
 }
 
-pub(crate) enum Said {
+/// What the manual's machine says.
+pub(super) enum Said {
     Fits(Fits),
     /// A run has the trace with events that nobody reported.
     Completed(Completion),
     Never(Against),
+    /// It isn't asked, as counters have wrapped.
+    Nothing,
 }
 
 impl Outcome {
-    /// Looks for a run. Counts that begin high are replaced by their ranks, and what needs events
-    /// that nobody reported is completed.
-    pub(crate) fn of(trace: &Trace) -> Result<Outcome, CompleteError> {
+    /// Looks for a run, and if the manual's machine has none asks for the judgement by the rules of
+    /// a standard node.
+    pub(super) fn of(
+        trace: &Trace,
+        is_wrapped: bool,
+        judged: impl FnOnce() -> Result<Judged, Failure>,
+    ) -> Result<Outcome, Failure> {
+        let (said, ranked) =
+            if is_wrapped { (Said::Nothing, None) } else { Outcome::by_machine(trace)? };
+        let is_judged = matches!(said, Said::Never(_) | Said::Nothing);
+        let judged = is_judged.then(judged).transpose()?;
+        Ok(Outcome { said, ranked, judged })
+    }
+
+    /// Counts that begin high are replaced by their ranks, and what needs events that nobody
+    /// reported is completed.
+    fn by_machine(trace: &Trace) -> Result<(Said, Option<Trace>), CompleteError> {
         match gemshowal::audit(trace) {
-            Ok(fits) => return Ok(Outcome { said: Said::Fits(fits), ranked: None }),
+            Ok(fits) => return Ok((Said::Fits(fits), None)),
             Err(AuditError::Memory(error)) => return Err(error.into()),
             Err(AuditError::Unfit(unfit)) => {
                 if let Some(never) = unfit.never() {
                     let against = Against::by_complete(unfit.pid, unfit.index, never);
-                    return Ok(Outcome { said: Said::Never(against), ranked: None });
+                    return Ok((Said::Never(against), None));
                 }
             }
         }
         let (ranked, is_other) = trace.renumbered()?;
         if is_other {
             match gemshowal::audit(&ranked) {
-                Ok(fits) => return Ok(Outcome { said: Said::Fits(fits), ranked: Some(ranked) }),
+                Ok(fits) => return Ok((Said::Fits(fits), Some(ranked))),
                 Err(AuditError::Memory(error)) => return Err(error.into()),
                 Err(AuditError::Unfit(_)) => {}
             }
@@ -46,31 +67,40 @@ impl Outcome {
                 Said::Never(Against::by_complete(pid, index, never))
             }
         };
-        Ok(Outcome { said, ranked: None })
+        Ok((said, None))
     }
 
-    pub(crate) fn is_fit(&self) -> bool {
-        !matches!(self.said, Said::Never(_))
-    }
-
-    pub(crate) fn word(&self) -> &'static str {
-        match self.said {
-            Said::Fits(_) => "fits",
-            Said::Completed(_) => "completed",
-            Said::Never(_) => "never",
+    pub(super) fn verdict(&self) -> Verdict {
+        match (&self.said, &self.judged) {
+            (Said::Never(_), Some(judged)) if judged.verdict() != Verdict::Fits => Verdict::Never,
+            (_, Some(judged)) => judged.verdict(),
+            (_, None) => Verdict::Fits,
         }
     }
 
-    pub(crate) fn shown<'a>(&'a self, view: &'a View<'a>) -> Shown<'a> {
+    pub(super) fn is_fit(&self) -> bool {
+        self.verdict() != Verdict::Never
+    }
+
+    pub(super) fn word(&self) -> &'static str {
+        match (&self.said, self.verdict()) {
+            (Said::Completed(_), _) => "completed",
+            (_, Verdict::Fits) => "fits",
+            (_, Verdict::Unexplained) => "unexplained",
+            (_, Verdict::Never) => "never",
+        }
+    }
+
+    pub(super) fn shown<'a>(&'a self, view: &'a View<'a>) -> Shown<'a> {
         match &self.said {
             Said::Completed(completion) => Shown::completed(view, completion),
-            Said::Fits(_) | Said::Never(_) => Shown::reported(view),
+            Said::Fits(_) | Said::Never(_) | Said::Nothing => Shown::reported(view),
         }
     }
 
-    /// Finds what the trace leaves out; nothing if the trace doesn't fit.
+    /// Finds what the trace leaves out of a run of the manual's machine, if that has one.
     pub(super) fn missing(&self, shown: &Shown<'_>) -> Result<Missing, OutOfMemory> {
-        if !self.is_fit() {
+        if self.judged.is_some() {
             return Ok(Missing::default());
         }
         let paired = Paired::if_possible(shown.streams)?;

@@ -1,69 +1,32 @@
 //! The report on a trace as a whole: its parts, its copies, and the object for programs.
 
+use super::judged::{Found, Judged, PutBack};
 use super::missing::{Known, Lack};
 use super::others::{Asked, Comparison};
-use super::sentences::{of_processes, write_losses, Sentences};
-use super::{Audited, Auditor, Said, NOT_PROVED};
+use super::sentences::{not_proved, of_processes, write_losses, Sentences};
+use super::unexplained::{serial_text, Explainer};
+use super::{Audited, Auditor, Said};
 use crate::object::{Number, Place as PlaceObject};
 use crate::output::Output;
 use crate::reason::Refused;
 use crate::view::{count, grouped, short, Kept, Place, Shown, View};
 use crate::{Failure, Status};
-use gemshowal::{CompleteError, Label, Pid};
+use gemshowal::{Label, Pid};
 use serde::Serialize;
 use std::collections::BTreeMap;
-use std::io::{self, Write};
+use std::io::Write;
 
-pub(super) fn write_parts(
-    view: &View<'_>,
-    parts: &[(Kept, Part)],
-    out: &mut Output,
-) -> io::Result<()> {
-    write!(out, "{}", where_resets(view, parts))?;
-    for ((_, part), number) in parts.iter().zip(1..) {
-        writeln!(out, "part {number}: {}", part.headline)?;
-    }
-    Ok(())
-}
-
-/// Says where the resets between the parts are, and whether they would explain the trace.
-fn where_resets(view: &View<'_>, parts: &[(Kept, Part)]) -> String {
-    let places: Vec<String> =
-        (1..parts.len()).map(|at| reset_at(view, &parts[..at], &parts[at..])).collect();
-    let numbered = || {
-        let lines = places.iter().zip(1..);
-        lines.map(|(place, at): (&String, u64)| format!("  {at}. {place}\n")).collect::<String>()
-    };
-    let lacking = match parts.iter().any(|(_, part)| part.lacks()) {
-        true => ", if what the parts lack wasn't reported",
-        false => "",
-    };
-    match (&places[..], parts.iter().all(|(_, part)| part.fits)) {
-        ([place], true) => {
-            format!("A reset would explain it, as two runs in one trace would{lacking}: {place}.\n")
-        }
-        ([place], false) => format!(
-            "Cut {place}, as a reset there would, not all parts fit. A reset elsewhere may still \
-             explain it:\n"
-        ),
-        (_, true) => format!(
-            "Resets would explain it, as several runs in one trace would{lacking}:\n{}",
-            numbered()
-        ),
-        (_, false) => format!(
-            "Cut at these places, as resets there would, not all parts fit. Resets elsewhere may \
-             still explain it:\n{}",
-            numbered()
-        ),
-    }
+/// Returns where the resets between these parts are.
+pub(super) fn resets(view: &View<'_>, parts: &[Kept]) -> Vec<String> {
+    (1..parts.len()).map(|at| reset_at(view, &parts[..at], &parts[at..])).collect()
 }
 
 /// Says where a reset is, by the last event of each process before it and the first one after it.
 /// If no process has events on both sides, it names the processes of each side.
-fn reset_at(view: &View<'_>, before: &[(Kept, Part)], behind: &[(Kept, Part)]) -> String {
+fn reset_at(view: &View<'_>, before: &[Kept], behind: &[Kept]) -> String {
     let pids = view.trace.streams().pids();
-    let last = |pid: &Pid| before.iter().rev().find_map(|(kept, _)| kept.get(pid)?.last().copied());
-    let first = |pid: &Pid| behind.iter().find_map(|(kept, _)| kept.get(pid)?.first().copied());
+    let last = |pid: &Pid| before.iter().rev().find_map(|kept| kept.get(pid)?.last().copied());
+    let first = |pid: &Pid| behind.iter().find_map(|kept| kept.get(pid)?.first().copied());
     let shown = Shown::reported(view);
     let between: Vec<String> = pids
         .iter()
@@ -99,6 +62,40 @@ pub(super) struct Part {
     missing: Option<MissingObject>,
     #[serde(flatten)]
     refused: Option<Refused>,
+    #[serde(flatten)]
+    node: Option<NodeObject>,
+}
+
+/// What the rules of a standard node say.
+#[derive(Serialize)]
+struct NodeObject {
+    law: &'static str,
+    put_backs: Vec<PutBackObject>,
+    unexplained: Vec<UnexplainedObject>,
+    earlier: Vec<PlaceObject>,
+    unsent: Vec<PlaceObject>,
+    copies: Vec<PlaceObject>,
+    cycle: Vec<PlaceObject>,
+    waiting: Vec<PlaceObject>,
+    #[serde(skip_serializing_if = "Option::is_none")]
+    found: Option<Found>,
+}
+
+#[derive(Serialize)]
+struct PutBackObject {
+    #[serde(flatten)]
+    place: PlaceObject,
+    serial: String,
+    before: PlaceObject,
+    #[serde(skip_serializing_if = "Option::is_none")]
+    of: Option<PlaceObject>,
+}
+
+#[derive(Serialize)]
+struct UnexplainedObject {
+    #[serde(flatten)]
+    place: PlaceObject,
+    why: String,
 }
 
 #[derive(Serialize)]
@@ -129,10 +126,11 @@ impl Part {
     pub(super) fn new(sentences: &Sentences<'_>) -> Part {
         let (outcome, shown) = (sentences.outcome, sentences.shown);
         let streams = shown.view.trace.streams();
-        let (missing, refused) = match &outcome.said {
-            Said::Never(against) => (None, Some(against.refused(shown.view))),
-            _ => (Some(MissingObject::new(sentences)), None),
+        let refused = match &outcome.said {
+            Said::Never(against) if !outcome.is_fit() => Some(against.refused(shown.view, true)),
+            _ => None,
         };
+        let missing = outcome.judged.is_none().then(|| MissingObject::new(sentences));
         Part {
             fits: outcome.is_fit() && streams.total() > 0,
             said: if streams.total() == 0 { "empty" } else { outcome.word() },
@@ -142,13 +140,36 @@ impl Part {
             renumbered: outcome.ranked.is_some(),
             missing,
             refused,
+            node: outcome.judged.as_ref().map(|judged| NodeObject::new(sentences, judged)),
         }
     }
+}
 
-    fn lacks(&self) -> bool {
-        let lacks =
-            |missing: &MissingObject| !missing.unreported.is_empty() || !missing.waiting.is_empty();
-        self.missing.as_ref().is_some_and(lacks)
+impl NodeObject {
+    fn new(sentences: &Sentences<'_>, judged: &Judged) -> NodeObject {
+        let names = sentences.shown.view.names;
+        let place = |&place: &Place| PlaceObject::new(names, place);
+        let places = |places: &[Place]| places.iter().map(place).collect();
+        let explainer = Explainer::new(sentences.node, names, &judged.waiting);
+        let put_back = |it: &PutBack| PutBackObject {
+            place: place(&it.place),
+            serial: serial_text(it.token),
+            before: place(&it.before),
+            of: it.of.as_ref().map(place),
+        };
+        let unexplained =
+            |it: &Place| UnexplainedObject { place: place(it), why: explainer.explanation(*it) };
+        NodeObject {
+            law: "node",
+            put_backs: judged.put_backs.iter().map(put_back).collect(),
+            unexplained: judged.ungiven.iter().map(unexplained).collect(),
+            earlier: places(&judged.earlier),
+            unsent: places(&judged.unsent),
+            copies: places(&judged.copies),
+            cycle: places(&judged.cycle),
+            waiting: places(&judged.waiting),
+            found: judged.found,
+        }
     }
 }
 
@@ -195,7 +216,7 @@ struct Whole<'a> {
     #[serde(skip_serializing_if = "Option::is_none")]
     cut: Option<&'a str>,
     #[serde(skip_serializing_if = "Vec::is_empty")]
-    parts: Vec<Part>,
+    resets: Vec<String>,
     losses: &'a [String],
     /// The answer of the proved programs: `not asked`, `confirmed` or `differs`.
     proved: &'static str,
@@ -216,7 +237,7 @@ pub(super) fn write(
     let object = Whole {
         whole,
         cut: auditor.cut.as_deref(),
-        parts: audited.parts.into_iter().map(|(_, part)| part).collect(),
+        resets: audited.resets.places,
         losses: auditor.view.names.losses(),
         proved: word(Asked::Proved).unwrap_or("not asked"),
         second: word(Asked::Second),
@@ -245,9 +266,9 @@ pub(super) fn write_each(auditor: &Auditor<'_>, out: &mut Output) -> Result<Stat
     let of_label = |(&label, kept): (&u32, &Kept)| {
         let trace = auditor.view.trace.part(kept)?;
         let label = auditor.view.names.label(Label(label)).into_owned();
-        Ok(OfLabel { label, part: auditor.part(&trace, kept, true)? })
+        Ok(OfLabel { label, part: auditor.part(&trace, kept)? })
     };
-    let labels = by_label.iter().map(of_label).collect::<Result<Vec<OfLabel>, CompleteError>>()?;
+    let labels = by_label.iter().map(of_label).collect::<Result<Vec<OfLabel>, Failure>>()?;
     let (fits, of) = (labels.iter().filter(|it| it.part.fits).count(), labels.len());
     let status = if fits == of && of > 0 { Status::Yes } else { Status::No };
     let losses = auditor.view.names.losses();
@@ -261,6 +282,6 @@ pub(super) fn write_each(auditor: &Auditor<'_>, out: &mut Output) -> Result<Stat
     }
     writeln!(out, "{}: {} fit", count(of as u64, "label"), grouped(fits as u64))?;
     write_losses(losses, out)?;
-    writeln!(out, "{NOT_PROVED}")?;
+    writeln!(out, "{}", not_proved(auditor.node.is_wrapped(), false))?;
     Ok(status)
 }

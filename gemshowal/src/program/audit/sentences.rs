@@ -1,22 +1,31 @@
 //! The sentences of `audit`: each is here and nowhere else.
 
+use super::judged::{event_at, Found, Judged, PutBack, Verdict};
 use super::missing::{Before, Counter, Known, Lack, Missing};
 use super::outcome::{Outcome, Said};
+use super::unexplained::{serial_text, Explainer};
+use super::Resets;
 use crate::names::Names;
 use crate::output::Output;
-use crate::view::{count, grouped, Place, Shown};
-use gemshowal::{Event, Kind, Pid};
+use crate::view::{count, grouped, Place, Shown, View};
+use gemshowal::{signed, Event, Kind, NodeTrace, Pid, COUNTS};
 use std::io::{self, Write};
 
 /// The greatest number of events, processes or messages of a kind that are listed; the rest are
 /// counted.
 const LISTED: usize = 20;
+const EMPTY: &str = "nothing to audit: the trace has no events";
+/// The premise of what no run has: an unreported send can stand for an alike one.
+const FINAL: &str = "this holds if each send of a token was reported";
+const NEITHER: &str = "A standard node that puts tokens back doesn't report it either";
 /// The other explanation of an event that a message without a reported receive explains.
 const ANEW: &str = "begun anew with a counter left from an earlier trace";
 
-pub(crate) struct Sentences<'a> {
-    pub(crate) outcome: &'a Outcome,
-    pub(crate) shown: &'a Shown<'a>,
+pub(super) struct Sentences<'a> {
+    pub(super) outcome: &'a Outcome,
+    /// The whole trace.
+    pub(super) node: &'a NodeTrace,
+    pub(super) shown: &'a Shown<'a>,
     pub(super) missing: &'a Missing,
     /// Tells whether the collectors lost events.
     pub(super) is_lossy: bool,
@@ -37,18 +46,14 @@ impl Sentences<'_> {
         }
     }
 
-    pub(crate) fn headline(&self) -> String {
-        let events = self.shown.view.trace.streams().total();
-        let processes = self.shown.view.trace.streams().pids().len() as u64;
-        match &self.outcome.said {
-            Said::Never(against) => against.headline(self.shown.view),
-            _ if events == 0 => "nothing to audit: the trace has no events".into(),
-            _ => format!(
-                "fits: {} of {}{}",
-                count(events, "event"),
-                count(processes, "process"),
-                self.left_out()
-            ),
+    pub(super) fn headline(&self) -> String {
+        match (&self.outcome.said, &self.outcome.judged) {
+            (Said::Never(against), _) if !self.outcome.is_fit() => {
+                against.headline(self.shown.view)
+            }
+            (_, Some(judged)) => of_node(self.node, self.shown.view, judged).headline(),
+            _ if self.shown.view.trace.streams().total() == 0 => EMPTY.into(),
+            _ => format!("fits: {}{}", size(self.shown.view), self.left_out()),
         }
     }
 
@@ -158,9 +163,14 @@ impl Sentences<'_> {
         not_received(self.shown.view.names, &sends.collect::<Vec<_>>())
     }
 
-    pub(crate) fn write_details(&self, out: &mut Output) -> io::Result<()> {
-        if let Said::Never(against) = &self.outcome.said {
-            return write!(out, "{}", against.refused(self.shown.view));
+    pub(super) fn write_details(&self, out: &mut Output) -> io::Result<()> {
+        if let Some(judged) = &self.outcome.judged {
+            if let Said::Never(against) = &self.outcome.said {
+                if !self.outcome.is_fit() {
+                    write!(out, "{}", against.refused(self.shown.view, true))?;
+                }
+            }
+            return of_node(self.node, self.shown.view, judged).write(self.outcome, out);
         }
         self.write_lacks(out)?;
         if !self.missing.waiting.is_empty() {
@@ -273,6 +283,29 @@ impl Sentences<'_> {
         format!("{}{to}", self.shown.event(send))
     }
 
+    /// Says what resets would explain, and where they are.
+    pub(super) fn write_resets(&self, resets: &Resets, out: &mut Output) -> io::Result<()> {
+        let (what, lacking) = match resets.put_backs {
+            Some(number) => (count(number, "put-back"), ""),
+            None => ("it".into(), ", if what the parts lack wasn't reported"),
+        };
+        match &resets.places[..] {
+            [] => Ok(()),
+            [place] => writeln!(
+                out,
+                "A reset would explain {what}, as two runs in one trace would{lacking}: {place}."
+            ),
+            places => {
+                writeln!(
+                    out,
+                    "Resets would explain {what}, as several runs in one trace would{lacking}:"
+                )?;
+                let mut places = places.iter().zip(1..);
+                places.try_for_each(|(place, at)| writeln!(out, "  {at}. {place}"))
+            }
+        }
+    }
+
     fn write_counters(&self, out: &mut Output) -> io::Result<()> {
         let silent = self.counted(|it| it.silent);
         if !silent.is_empty() {
@@ -367,6 +400,231 @@ impl Sentences<'_> {
         });
         later.map(|(_, at)| (pid, at))
     }
+}
+
+/// The sentences about what the rules of a standard node say.
+pub(super) struct NodeSentences<'a> {
+    node: &'a NodeTrace,
+    view: &'a View<'a>,
+    judged: &'a Judged,
+}
+
+pub(super) fn of_node<'a>(
+    node: &'a NodeTrace,
+    view: &'a View<'a>,
+    judged: &'a Judged,
+) -> NodeSentences<'a> {
+    NodeSentences { node, view, judged }
+}
+
+impl NodeSentences<'_> {
+    pub(super) fn headline(&self) -> String {
+        match self.judged.verdict() {
+            _ if self.view.trace.streams().total() == 0 => EMPTY.into(),
+            Verdict::Never => format!("doesn't fit: {}", self.against()),
+            Verdict::Unexplained => {
+                format!("fits if something wasn't reported: {}", self.unexplained())
+            }
+            Verdict::Fits => format!(
+                "fits: {}{}{}{}{}",
+                size(self.view),
+                self.found(),
+                self.beginnings(),
+                self.missing(),
+                self.tokens()
+            ),
+        }
+    }
+
+    /// Says why no run of a standard node has the trace.
+    fn against(&self) -> String {
+        match &self.judged.doubled[..] {
+            [] => format!(
+                "in no order of the events does each receive come after its send, because of {}",
+                self.listed(&self.judged.cycle)
+            ),
+            doubled => format!(
+                "messages were received more often than they were sent: {}",
+                self.listed(doubled)
+            ),
+        }
+    }
+
+    /// Says what the run that was found has besides the events of the trace.
+    fn found(&self) -> String {
+        let Some(Found { sends, receives, counts }) =
+            self.judged.found.filter(|_| !self.view.is_cut)
+        else {
+            return String::new();
+        };
+        let mut said = Vec::new();
+        if sends + receives > 0 {
+            said.push(format!("{} that nobody reported", by_kind([sends, receives], "")));
+        }
+        if counts > 0 {
+            said.push(format!("{} that no event here has", count(counts, "count")));
+        }
+        if said.is_empty() {
+            String::new()
+        } else {
+            format!(", with {}", said.join(", "))
+        }
+    }
+
+    fn beginnings(&self) -> String {
+        match self.judged.earlier.len() as u64 {
+            0 => String::new(),
+            1 => "; the counter of 1 process goes on from before".into(),
+            more => format!("; the counters of {more} processes go on from before"),
+        }
+    }
+
+    fn missing(&self) -> String {
+        let waiting = self.judged.waiting.iter();
+        let sends: Vec<Event> = waiting.filter_map(|&place| event_at(self.node, place)).collect();
+        let is_whole = self.view.names.losses().is_empty() && !self.view.is_cut;
+        match (sends.is_empty(), self.judged.found) {
+            (false, _) => format!("; {}", not_received(self.view.names, &sends)),
+            (true, Some(_)) => String::new(),
+            (true, None) if is_whole => "; nothing is known to be missing".into(),
+            (true, None) => "; nothing else is known to be missing".into(),
+        }
+    }
+
+    fn tokens(&self) -> String {
+        let found = if self.judged.found.is_some() { " in the run that was found" } else { "" };
+        match self.judged.put_backs.len() as u64 {
+            0 => String::new(),
+            1 => format!("; 1 token was put back{found}"),
+            more => format!("; {} were put back{found}", count(more, "token")),
+        }
+    }
+
+    fn unexplained(&self) -> String {
+        let mut said = Vec::new();
+        let Judged { ungiven, unsent, .. } = self.judged;
+        if !ungiven.is_empty() {
+            let kind = |place: &Place| event_at(self.node, *place).map(|event| event.kind);
+            let events = self.view.trace.events();
+            let stamps = events.filter(|(_, event)| event.kind != Kind::Receive).count();
+            let hidden = ungiven.iter().filter(|it| kind(it) == Some(Kind::Receive)).count();
+            said.push(format!(
+                "{} of {} {} explained by what was",
+                grouped(ungiven.len() as u64),
+                count((stamps + hidden) as u64, "serial"),
+                if ungiven.len() == 1 { "isn't" } else { "aren't" }
+            ));
+        }
+        match unsent.len() {
+            0 => {}
+            1 => said.push("1 receive has no reported send".into()),
+            more => said.push(format!("{} have no reported send", count(more as u64, "receive"))),
+        }
+        said.join(", and ")
+    }
+
+    fn write(&self, outcome: &Outcome, out: &mut Output) -> io::Result<()> {
+        if let (Said::Never(_), Some(either)) = (&outcome.said, self.either()) {
+            writeln!(out, "{either}")?;
+        } else if self.judged.verdict() == Verdict::Never {
+            writeln!(out, "{FINAL}")?;
+        }
+        self.write_unexplained(out)?;
+        if !self.view.is_cut {
+            write_counters(&self.counters(), out)?;
+        }
+        if self.judged.found.is_some() && !self.judged.put_backs.is_empty() {
+            writeln!(out, "Another run may have fewer tokens put back, or others. This one has:")?;
+        }
+        write_all(out, &self.judged.put_backs, |put_back| self.put_back(put_back))
+    }
+
+    /// Says why a standard node has no run either.
+    fn either(&self) -> Option<String> {
+        let Judged { doubled, cycle, copies, .. } = self.judged;
+        let said = match self.judged.verdict() {
+            Verdict::Fits => return None,
+            Verdict::Unexplained => format!(
+                "{NEITHER}, unless something wasn't reported or a token was handed over: {}",
+                self.unexplained()
+            ),
+            Verdict::Never if doubled.is_empty() && cycle.is_empty() => format!(
+                "A standard node that puts tokens back may report it, or events were collected \
+                 twice, which no times tell apart: {}",
+                self.listed(copies)
+            ),
+            Verdict::Never => {
+                format!("{NEITHER}, if each send of a token was reported: {}", self.against())
+            }
+        };
+        Some(said)
+    }
+
+    fn write_unexplained(&self, out: &mut Output) -> io::Result<()> {
+        let explainer = Explainer::new(self.node, self.view.names, &self.judged.waiting);
+        write_all(out, &self.judged.ungiven, |&place| {
+            format!("{}: {}", self.stamp(place), explainer.explanation(place))
+        })?;
+        write_all(out, &self.judged.unsent, |&place| {
+            format!("{}: {}", self.event(place), explainer.unsent(place))
+        })
+    }
+
+    /// Returns the processes whose counter goes on from before the trace, with its count.
+    fn counters(&self) -> Vec<(String, String)> {
+        let counter = |&place: &Place| {
+            let stamp = event_at(self.node, place)?.serial.this;
+            let stood = signed(stamp.wrapping_sub(1) % COUNTS);
+            Some((self.view.names.process(place.0).into_owned(), stood.to_string()))
+        };
+        self.judged.earlier.iter().filter_map(counter).collect()
+    }
+
+    fn event(&self, place: Place) -> String {
+        self.view.names.event(place)
+    }
+
+    fn stamp(&self, place: Place) -> String {
+        let serial = event_at(self.node, place).map(|event| serial_text(event.serial));
+        format!("{} {}", self.event(place), serial.unwrap_or_default())
+    }
+
+    fn put_back(&self, put_back: &PutBack) -> String {
+        let PutBack { place, before, token, of, is_hidden } = *put_back;
+        let token = match of {
+            Some(of) => format!("the token of {}", self.event(of)),
+            None => format!("a token that it had made, {},", serial_text(token)),
+        };
+        let place_name = match is_hidden {
+            true => format!("the send of {}", self.event(place)),
+            false => self.event(place),
+        };
+        if before == place {
+            format!("{place_name}: {token} was put back")
+        } else {
+            format!("{place_name}: {token} was put back before {}", self.event(before))
+        }
+    }
+
+    fn listed(&self, places: &[Place]) -> String {
+        listed(places, |&place| self.event(place), "more")
+    }
+}
+
+fn size(view: &View<'_>) -> String {
+    let streams = view.trace.streams();
+    let processes = streams.pids().len() as u64;
+    format!("{} of {}", count(streams.total(), "event"), count(processes, "process"))
+}
+
+/// Says what of an answer isn't proved, if the rules of a standard node gave it or not.
+pub(super) fn not_proved(is_wrapped: bool, is_of_node: bool) -> String {
+    let what = match (is_wrapped, is_of_node) {
+        (true, _) => "how it reads this version, and its words, are only tested",
+        (false, true) => "that a standard node has such a run, and its words, are only tested",
+        (false, false) => "its words are only tested; --proved asks the proved programs",
+    };
+    format!("This answer is not proved: gemshowal is a plain build of proved sources, and {what}.")
 }
 
 /// Says how many sends and receives there are; receives are never certain.

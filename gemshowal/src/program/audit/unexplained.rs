@@ -1,7 +1,7 @@
 //! Finds what may explain a serial that nothing its process had gives. The first that applies is
 //! said, and none of them is certain.
 
-use super::wrapped::event_at;
+use super::judged::event_at;
 use crate::names::Names;
 use crate::view::{count, short, Place};
 use gemshowal::{signed, Event, Kind, NodeTrace, Pid, Serial, COUNTS};
@@ -44,6 +44,10 @@ impl<'a> Explainer<'a> {
 
     pub(super) fn explanation(&self, place: Place) -> String {
         let Some(event) = event_at(self.trace, place) else { return String::new() };
+        if event.kind == Kind::Receive {
+            let sender = self.names.process(event.from);
+            return format!("nothing that {sender} had gives its send, which wasn't reported");
+        }
         let process = self.names.process(place.0);
         if let Some(missing) = self.missing_counts(place, event.serial) {
             let counts = count(missing, "count");

@@ -1,0 +1,156 @@
+"""The `audit` of ordinary traces that the manual's machine has no run of, by the rules of a standard node: sentences about
+traces worked out by hand, and random runs that put tokens back, of which all, a kind of events, or a changed one is left."""
+
+import json
+import random
+
+import slow_node
+from hostile_use.program import Check
+
+RUNS = 60
+CLIENT, SERVER = "<0.30.0>", "<0.31.0>"
+
+
+def line(kind, prev, this, sender=CLIENT, to=SERVER, value=7, label=1):
+    to = "[]" if kind == "print" else to
+    return f"{{seq_trace,{label},{{{kind},{{{prev},{this}}},{sender},{to},{value}}}}}\n"
+
+
+def trace(client, server=()):
+    return f"seqtrace 1\nprocess {CLIENT}\n{''.join(client)}process {SERVER}\n{''.join(server)}".encode()
+
+
+ASK, ASKED = line("send", 0, 1), line("'receive'", 0, 1)
+REPLY, REPLIED = line("send", 1, 2, SERVER, CLIENT, 8), line("'receive'", 1, 2, SERVER, CLIENT, 8)
+AGAIN, ASKED_AGAIN = line("send", 0, 2, value=9), line("'receive'", 0, 2, value=9)
+LATER, LATER_REPLIED = line("send", 2, 3, SERVER, CLIENT, 10), line("'receive'", 2, 3, SERVER, CLIENT, 10)
+
+# A trace in words, its text, the status, and the sentences in their order.
+SAID = (
+    ("a token that was put back", trace([ASK, REPLIED, AGAIN], [ASKED, REPLY, ASKED_AGAIN]), 0,
+     ["fits: 6 events of 2 processes; nothing is known to be missing; 1 token was put back\n",
+      "  <0.30.0>#2: the token of <0.30.0>#0 was put back\n", "that a standard node has such a run, and its words, are only tested"]),
+    ("the same without sends", trace([REPLIED, line("print", 0, 2)], [ASKED, line("print", 0, 1, SERVER)]), 0,
+     ["fits: 4 events of 2 processes, with 2 sends that nobody reported; 2 tokens were put back in the run that was found\n",
+      "Another run may have fewer tokens put back, or others. This one has:\n"]),
+    ("the same without receives", trace([ASK, line("print", 2, 3), AGAIN], [REPLY]), 0,
+     ["fits: 4 events of 2 processes, with 2 receives that nobody reported; 1 message has no reported receive, and may still wait; "
+      "1 token was put back in the run that was found\n", "  <0.30.0>#2: the token of <0.30.0>#0 was put back\n"]),
+    ("prints that weren't reported", trace([ASK, REPLIED, line("send", 0, 4, value=9)], [ASKED, REPLY, line("'receive'", 0, 4, value=9)]), 0,
+     ["fits: 6 events of 2 processes, with 2 counts that no event here has; 1 token was put back in the run that was found\n"]),
+    ("a reset", trace([ASK, REPLIED, line("send", 0, 1, value=9)], [ASKED, REPLY, line("'receive'", 0, 1, value=9),
+                                                                    line("send", 1, 2, SERVER, CLIENT, 10)]), 0,
+     ["; 2 tokens were put back\n", "  <0.30.0>#2: a token that it had made, {0,0}, was put back\n",
+      "A reset would explain 2 put-backs, as two runs in one trace would: between <0.30.0>#1 and <0.30.0>#2, between <0.31.0>#1 and <0.31.0>#2.\n"]),
+    ("a serial that no token gives", trace([line("print", 0, 1), AGAIN, LATER_REPLIED, line("send", 1, 2)], [ASKED_AGAIN, LATER, line("'receive'", 1, 2)]), 1,
+     ["doesn't fit: no run without a reset reports this trace, because of <0.30.0>#3 (notrising)\n", "What to look at: ",
+      "A standard node that puts tokens back doesn't report it either, unless something wasn't reported or a token was handed over: 1 of 4 "
+      "serials isn't explained by what was\n", "  <0.30.0>#3 {1,2}: nothing that <0.30.0> had gives it"]),
+    ("a message that is received twice", trace([ASK], [ASKED, ASKED]), 1,
+     ["doesn't fit: no run without a reset", "doesn't report it either, if each send of a token was reported: messages were received more "
+      "often than they were sent: <0.31.0>#1\n"]),
+    ("a print that is there twice", trace([line("print", 0, 1), line("print", 0, 1)]), 1,
+     ["(notrising)\n", "What to look at: events that were collected twice", "A standard node that puts tokens back may report it, or events "
+      "were collected twice, which no times tell apart: <0.30.0>#1\n"]),
+)
+
+
+def restorations(program):
+    for what, text, status, wanted in SAID:
+        got = program.run(("audit",), text)
+        said, at = got.output.decode() + got.complaint.decode(), 0
+        for words in wanted:
+            at = said.find(words, max(at, 0))
+        is_right = at >= 0 and got.status == status
+        yield Check(f"audit by the node's rules: {what}", None if is_right else f"wanted {status} {wanted}\ngot {got.status} {said}")
+    cut = program.run(("audit", "--label", "1"), SAID[0][1])
+    yield Check("audit --label of a token that was put back", None if b"1 token was put back" in cut.output and cut.status == 0 else str(cut))
+
+
+class Node(slow_node.Node):
+    """A node whose processes don't spawn under a token."""
+
+    def spawn(self, pid):
+        return self.born()
+
+    def reset(self):
+        for process in self.processes.values():
+            process.clock = process.last = 0
+            process.token = None
+            process.queue.clear()
+
+
+def streams_of(rng, has_reset=False):
+    node = Node(rng)
+    for _ in range(1 + has_reset):
+        slow_node.run(node, rng.randint(5, 80), hands_over=False)
+        if has_reset:
+            node.reset()
+    return {pid: process.events for pid, process in node.processes.items()}
+
+
+def text(streams):
+    return slow_node.text(streams).replace("seqtrace 3", "seqtrace 1").encode()
+
+
+def told_of(program, streams):
+    got = program.run(("audit", "--json"), text(streams))
+    return got.status, json.loads(got.output)
+
+
+def places(told, key):
+    return [(int(it["pid"].split(".")[1]), it["index"]) for it in told.get(key, [])]
+
+
+def whole_runs(program):
+    """What a node did fits, with as many tokens put back as the model says."""
+    judged = 0
+    for seed in range(2 * RUNS):
+        streams = streams_of(random.Random(3000 + seed), has_reset=seed % 4 == 0)
+        status, told = told_of(program, streams)
+        by_node = "law" in told
+        judged += by_node
+        wanted = slow_node.judge(streams).put_backs if by_node else []
+        is_right = status in (0, 1 if told["said"] == "empty" else 0) and places(told, "put_backs") == wanted
+        yield Check(f"audit of the run {seed}", None if is_right else f"{told['headline']}\nwanted {wanted}")
+    yield Check("audit of runs that the manual's machine hasn't", None if judged > RUNS // 2 else str(judged), note=str(judged))
+
+
+def partial_runs(program):
+    """It fits without its sends, its receives or its prints."""
+    for kind in ("send", "receive", "print"):
+        found = 0
+        for seed in range(RUNS):
+            streams = streams_of(random.Random(4000 + seed), has_reset=seed % 4 == 0)
+            left = {pid: [it for it in events if it.kind != kind] for pid, events in streams.items()}
+            status, told = told_of(program, left)
+            found += "found" in told
+            yield Check(f"audit of the run {seed} without a {kind}", None if status == 0 or told["said"] == "empty" else told["headline"])
+        yield Check(f"audit of runs without a {kind} that the manual's machine hasn't", None if found > RUNS // 10 else str(found), note=str(found))
+
+
+def changed(rng, streams):
+    """The streams with an event left out, doubled, exchanged or changed."""
+    events = rng.choice([it for it in streams.values() if it] or [[]])
+    if not events:
+        return
+    i = rng.randrange(len(events))
+    one = events[i]
+    other = one._replace(**rng.choice(({"this": one.this + 1}, {"this": max(0, one.this - 1)}, {"prev": one.prev + 1}, {"value": one.value + 1})))
+    events[i:i + 2] = rng.choice(([], [one, *events[i:i + 2]], events[i:i + 2][::-1], [other, *events[i + 1:i + 2]]))
+
+
+def damaged_runs(program):
+    """A damaged run fits by the node's rules only if the model finds nothing against it."""
+    for seed in range(5 * RUNS):
+        rng = random.Random(5000 + seed)
+        streams = streams_of(rng)
+        changed(rng, streams)
+        kinds = {it.kind for events in streams.values() for it in events}
+        status, told = told_of(program, streams)
+        if kinds < {"send", "receive", "print"} or "law" not in told:
+            continue
+        judged = slow_node.judge(streams)
+        against = judged.unsent + judged.cycle + [it for it in judged.ungiven if it not in places(told, "earlier")]
+        is_right = (status == 0) == (not against and not told["copies"])
+        yield Check(f"audit of the damaged run {seed}", None if is_right else f"{told['headline']}\nthe model: {judged}")
