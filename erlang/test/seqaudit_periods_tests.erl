@@ -4,7 +4,7 @@
 -export([rotate_test_/0, again_test_/0, other_tracer_test_/0, slow_disk_test_/0,
          cancel_on_slow_disk_test_/0, large_event_test/0, ended_test_/0, back_test_/0,
          wrapped_test_/0, quiet_test/0, rest_test/0, never_quiet_test/0, watch_test_/0,
-         unaudited_test_/0]).
+         unaudited_test_/0, set_by_hand/0]).
 
 %% No event is lost between two files, and processes keep their names.
 rotate_test_() ->
@@ -344,9 +344,20 @@ served(There, Service, InSecond) ->
      end || Module <- [?MODULE, seqaudit_test_server, seqaudit_test_services]],
     erpc:call(There, erlang, spawn, [seqaudit_test_services, Service, [InSecond]]).
 
+%% Prints with serials that no process of a node gets by itself: a trace of them doesn't fit.
+set_by_hand() ->
+    seq_trace:set_token(label, 1),
+    seq_trace:set_token(print, true),
+    [begin
+         seq_trace:set_token(serial, Serial),
+         seq_trace:print(1, by_hand)
+     end || Serial <- [{1, 5}, {2, 3}]],
+    seq_trace:set_token([]),
+    ok.
+
 watched(There, Name, Says, End) ->
     seqaudit_test_nodes:until(fun() -> length(Says("period [0-9]+: fits.*: .* not kept")) >= 3 end),
-    _ = erpc:call(There, seq_trace, reset_trace, []),
+    ok = erpc:call(There, ?MODULE, set_by_hand, []),
     seqaudit_test_nodes:until(fun() -> Says("period [0-9]+: doesn't fit.*: ") =/= [] end),
     seqaudit_test_nodes:until(fun() ->
         Says("doesn't fit.*: .*\n.*period [0-9]+: fits.*: .*; kept as ") =/= [] end),
