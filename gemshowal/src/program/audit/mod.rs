@@ -94,6 +94,17 @@ struct Resets {
     put_backs: Option<u64>,
 }
 
+impl Resets {
+    /// Returns what the first line of a trace that fits adds to the tokens that were put back.
+    fn instead(&self) -> &'static str {
+        match (self.places.len(), self.put_backs) {
+            (0, _) | (_, None) => "",
+            (1, Some(_)) => ", or there was a reset",
+            (_, Some(_)) => ", or there were resets",
+        }
+    }
+}
+
 /// Returns whether an event is twice in the trace, and its node gave the two no different times.
 fn has_copies(view: &View<'_>) -> bool {
     let time = |pid, index| view.names.times()?.of_event((pid, view.number(pid, index)));
@@ -238,7 +249,7 @@ impl Auditor<'_> {
         if let Some(cut) = &self.cut {
             writeln!(out, "cut: {cut}")?;
         }
-        writeln!(out, "{}", sentences.headline())?;
+        writeln!(out, "{}{}", sentences.headline(), audited.resets.instead())?;
         sentences.write_details(out)?;
         sentences.write_resets(&audited.resets, out)?;
         if self.args.acts.is_some() && audited.outcome.judged.is_some() {

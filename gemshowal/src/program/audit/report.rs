@@ -231,7 +231,8 @@ pub(super) fn write(
     out: &mut Output,
 ) -> Result<(), Failure> {
     let shown = audited.outcome.shown(auditor.view);
-    let whole = Part::new(&auditor.sentences(audited.outcome, &shown, &audited.missing));
+    let mut whole = Part::new(&auditor.sentences(audited.outcome, &shown, &audited.missing));
+    whole.headline += audited.resets.instead();
     let result = whole.said;
     let word = |asked| others.iter().find(|other| other.asked == asked).map(Comparison::word);
     let object = Whole {
