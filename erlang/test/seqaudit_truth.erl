@@ -4,24 +4,40 @@
 %% Each process has a list of what it does, in an order that can be kept by all; besides there are
 %% servers (seqaudit_truth_servers). Each message and print has a number, that of the message that
 %% gave its process the token (`begins', if the process began the trace itself), and whether its
-%% process had set the label since. What happens under a token is in a log too.
+%% process had set the label since. What happens under a token is in a log too, which is written to
+%% NAME.truth: what a process sent, received and printed, where it set a label, put a token back and
+%% spawned.
 -module(seqaudit_truth).
 
--export([run/3, begin_log/2, child/1, play/3, know/1, known/0, content/1, got/1]).
+-export([load/1, run/3, service/2, begin_log/2, play/4]).
+-export([know/1, known/0, content/1, got/1, put_back/2]).
+
+-define(ALL, [send, 'receive', print]).
+
+%% Loads the programs on another node.
+load(Node) ->
+    [{module, _} = erpc:call(Node, code, load_binary, [Module, File, Binary])
+     || Module <- [?MODULE, seqaudit_truth_servers, seqaudit_truth_postponing],
+        {_, Binary, File} <- [code:get_object_code(Module)]],
+    ok.
 
 %% Runs the program of this number, with these flags and a tracer that is on from the beginning or
 %% comes on late, on these nodes, and returns what the trace has that didn't happen, what happened
 %% and isn't in it though it should be, and the messages that were received as something else than
-%% was sent.
-run(Seed, #{nodes := Nodes, flags := Flags, late := Late}, Name) ->
+%% was sent. `tokens' says which tokens are put back: some (own), none, or some that another process
+%% had (handed_over).
+run(Seed, #{nodes := Nodes, flags := Flags, late := Late} = How, Name) ->
+    Tokens = maps:get(tokens, How, own),
     _ = rand:seed(exsss, {Seed, 5, 51}),
     Logs = [erpc:call(Node, ?MODULE, begin_log, [N, length(Nodes)])
             || {N, Node} <- lists:enumerate(Nodes)],
     Late orelse (ok = seqaudit_trace:start(#{name => Name, nodes => Nodes})),
-    Servers = [erpc:call(Node, seqaudit_truth_servers, start, [rand:uniform(6)]) || Node <- Nodes,
-               _ <- [1, 2]],
-    {Players, Steps} = steps(2 + rand:uniform(4), 30 + rand:uniform(60), Servers),
-    Pids = [spawn(lists:nth(1 + N rem length(Nodes), Nodes), ?MODULE, play, [N, self(), Flags])
+    Servers = [erpc:call(Node, seqaudit_truth_servers, start, [server(rand:uniform(6), Tokens)])
+               || Node <- Nodes, _ <- [1, 2]],
+    {Players, Drawn} = steps(2 + rand:uniform(4), 30 + rand:uniform(60), Servers),
+    Steps = [{Player, in_place_of(Step, Tokens)} || {Player, Step} <- Drawn],
+    Pids = [spawn(lists:nth(1 + N rem length(Nodes), Nodes), ?MODULE, play,
+                  [N, self(), Flags, Tokens])
             || N <- Players],
     Numbered = maps:from_list(lists:zip(Players, Pids)),
     Half = length(Steps) div 2,
@@ -34,11 +50,48 @@ run(Seed, #{nodes := Nodes, flags := Flags, late := Late}, Name) ->
     {ok, _} = seqaudit_trace:stop(),
     [ok = seqaudit_truth_servers:stop(Server) || Server <- Servers],
     Log = lists:append([ended_log(Owner) || Owner <- Logs]),
+    ok = write_log(Log, Name),
     {Reported, Changed} = reported(Name),
     Whole = not Late andalso [] =:= [send, 'receive', print] -- Flags,
     {Reported -- [{Kind, Number} || {_, _, Kind, Number} <- Log],
      [One || Whole, One <- missing(Reported, Log)],
      Changed}.
+
+%% The server that keeps its client's token puts it back.
+server(4, none) -> 1;
+server(Kind, _) -> Kind.
+
+in_place_of(put, none) -> print;
+in_place_of(take, handed_over) -> hand_over;
+in_place_of(put, handed_over) -> put_handed;
+in_place_of(Step, _) -> Step.
+
+%% A service that spawns a process for each request, which a client makes one after the other. Each
+%% is under a label of its own, asks two servers, and ends.
+service(Requests, Name) ->
+    Log = begin_log(1, 1),
+    Servers = [seqaudit_truth_servers:start(Which) || Which <- [1, 3]],
+    ok = seqaudit_trace:start(#{name => Name}),
+    {Client, Monitor} = spawn_monitor(fun() -> client(Requests, Servers) end),
+    receive {'DOWN', Monitor, process, Client, normal} -> ok end,
+    [ok = seqaudit_truth_servers:wait(Server) || Server <- Servers, _ <- [1, 2]],
+    {ok, _} = seqaudit_trace:stop(),
+    [ok = seqaudit_truth_servers:stop(Server) || Server <- Servers],
+    write_log(ended_log(Log), Name).
+
+client(Requests, Servers) ->
+    know(none),
+    begins(Requests + 1, ?ALL),
+    Self = self(),
+    [receive {Request, Content} -> got(Content) end
+     || Number <- lists:seq(1, Requests),
+        Request <- [spawns(fun() -> request(Number, Servers, Self) end)]].
+
+request(Number, Servers, Client) ->
+    know({spawned, false}),
+    begins(Number, ?ALL),
+    [seqaudit_truth_servers:ask(Server) || Server <- Servers],
+    Client ! {self(), content(sent)}.
 
 %% Returns what the trace has, and the messages that it has with two contents.
 reported(Name) ->
@@ -68,7 +121,8 @@ happened(<<"print">>) -> printed.
 %% trace.
 missing(Reported, Log) ->
     Known = maps:from_keys(Reported, reported),
-    ByPid = maps:groups_from_list(fun({_, Pid, _, _}) -> Pid end, lists:sort(Log)),
+    Happened = [Entry || {_, _, _, Number} = Entry <- lists:sort(Log), is_integer(Number)],
+    ByPid = maps:groups_from_list(fun({_, Pid, _, _}) -> Pid end, Happened),
     lists:append([begin
                       Told = [{is_map_key({Kind, Number}, Known), {Kind, Number}}
                               || {_, _, Kind, Number} <- Entries],
@@ -98,8 +152,13 @@ ended_log(Owner) ->
     Owner ! {self(), ended},
     receive {Owner, Entries} -> Entries end.
 
-log(Kind, Number) ->
-    ets:insert(?MODULE, {erlang:unique_integer([monotonic]), self(), Kind, Number}).
+log(Kind, What) ->
+    ets:insert(?MODULE, {erlang:unique_integer([monotonic]), self(), Kind, What}).
+
+write_log(Log, Name) ->
+    file:write_file(Name ++ ".truth",
+                    [io_lib:format("~0p ~0p ~0p~n", [Pid, Kind, What])
+                     || {_, Pid, Kind, What} <- lists:sort(Log)]).
 
 %% Each player gets its steps of a part, and does them without a message of anybody else in between.
 play_all(Steps, Numbered, Servers) ->
@@ -137,23 +196,27 @@ step(K, Players, Servers, Open) ->
 
 %% A player. What it knows of its token: the message that gave it, and whether it set the label
 %% itself.
-play(Number, Boss, Flags) ->
+play(Number, Boss, Flags, Tokens) ->
     know(none),
-    player(Number, Boss, Flags).
+    player(Number, Boss, Flags, Tokens).
 
-player(Number, Boss, Flags) ->
-    Saved = seq_trace:set_token([]),
+player(Number, Boss, Flags, Tokens) ->
+    Saved = {seq_trace:set_token([]), get(known)},
     receive
         {steps, Steps, Numbered, Servers} ->
-            seq_trace:set_token(Saved),
+            resume(Saved, Tokens),
             [act(Step, Number, Flags, Numbered, Servers) || Step <- Steps],
-            Token = seq_trace:set_token([]),
+            Paused = {seq_trace:set_token([]), get(known)},
             Boss ! {played, self()},
-            seq_trace:set_token(Token),
-            player(Number, Boss, Flags);
+            resume(Paused, Tokens),
+            player(Number, Boss, Flags, Tokens);
         finish ->
             Boss ! {finished, self()}
     end.
+
+resume({[], _}, _) -> know(none);
+resume(_, none) -> know(none);
+resume({Token, Known}, _) -> put_back(Token, Known).
 
 %% Without a token it mostly begins a trace, as the message would take the receiver's token away.
 act({send, To, Number}, Me, Flags, Numbered, Servers) ->
@@ -162,31 +225,59 @@ act({send, To, Number}, Me, Flags, Numbered, Servers) ->
     maps:get(To, Numbered) ! {Number, content(sent)};
 act({wait, Number}, _, _, _, _) -> receive {Number, Content} -> got(Content) end;
 act(print, _, _, _, _) -> seq_trace:print(content(printed));
-act({begins, Label}, _, Flags, _, _) ->
-    Began = seq_trace:get_token() =:= [],
-    seq_trace:set_token(label, Label),
-    [seq_trace:set_token(Flag, true) || Flag <- Flags, Began],
-    case Began of
-        true -> know({begins, true});
-        false -> know(setelement(2, get(known), true))
-    end;
+act({begins, Label}, _, Flags, _, _) -> begins(Label, Flags);
 act(clear, _, _, _, _) -> seq_trace:set_token([]), know(none);
 act(take, _, _, _, _) -> put(taken, {seq_trace:set_token([]), get(known)}), know(none);
 act(put, _, _, _, _) ->
     case erase(taken) of
-        {Token, Known} -> seq_trace:set_token(Token), know(Known);
+        {Token, Known} -> put_back(Token, Known);
         undefined -> ok
+    end;
+act(hand_over, _, _, _, _) ->
+    Token = seq_trace:set_token([]),
+    true = ets:insert(?MODULE, {handed_over, {Token, get(known), self()}}),
+    know(none);
+act(put_handed, _, _, _, _) ->
+    case ets:take(?MODULE, handed_over) of
+        [{_, {Token, Known, Of}}] ->
+            Of =:= self() orelse log(handed_over, Of),
+            put_back(Token, Known);
+        [] -> ok
     end;
 act(timer, _, _, _, _) -> erlang:send_after(1, self(), timeout), receive timeout -> ok end;
 act(spawn, _, _, _, _) ->
+    Self = self(),
     case rand:uniform(2) of
-        1 -> spawn(?MODULE, child, [none]);
-        2 -> Child = spawn(?MODULE, child, [self()]), receive {Child, Content} -> got(Content) end
+        1 -> spawns(fun() -> child(none) end);
+        2 -> Child = spawns(fun() -> child(Self) end), receive {Child, Content} -> got(Content) end
     end;
 act({call, Which}, Me, Flags, Numbered, Servers) ->
     [act({begins, 2_000_000 + erlang:unique_integer([positive])}, Me, Flags, Numbered, Servers)
      || seq_trace:get_token() =:= [], rand:uniform(5) > 1],
     seqaudit_truth_servers:ask(lists:nth(Which, Servers)).
+
+begins(Label, Flags) ->
+    Began = seq_trace:get_token() =:= [],
+    seq_trace:set_token(label, Label),
+    [seq_trace:set_token(Flag, true) || Flag <- Flags, Began],
+    log(set, own),
+    case Began of
+        true -> know({begins, true});
+        false -> know(setelement(2, get(known), true))
+    end.
+
+put_back([], _) ->
+    seq_trace:set_token([]),
+    know(none);
+put_back(Token, Known) ->
+    seq_trace:set_token(Token),
+    log(put, own),
+    know(Known).
+
+spawns(Do) ->
+    Child = spawn(Do),
+    get(known) =:= none orelse log(spawned, {Child, get(known)}),
+    Child.
 
 %% A child has its token from the request to spawn it.
 child(Parent) ->

@@ -5,7 +5,7 @@
 -export([start/1, stop/1, wait/1, ask/1]).
 -export([init/1, handle_call/3, handle_cast/2, handle_info/2]).
 
--import(seqaudit_truth, [know/1, known/0, content/1, got/1]).
+-import(seqaudit_truth, [know/1, known/0, content/1, got/1, put_back/2]).
 
 -define(KINDS, [at_once, later, delegated, kept, pool, postponing]).
 %% How long a client of a busy machine waits.
@@ -89,8 +89,7 @@ handle_info(reply, State) ->
 
 reply_all({kept, Workers, Waiting}) ->
     [begin
-         seq_trace:set_token(Token),
-         know(Known),
+         put_back(Token, Known),
          gen_server:reply(Client, content(sent)),
          seq_trace:set_token([]),
          know(none)

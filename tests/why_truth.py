@@ -1,0 +1,279 @@
+#!/usr/bin/env python3
+"""Judges what `gemshowal why` says of traces whose truth is known: tests/why_truth.py GEMSHOWAL NAME..
+
+NAME.truth says what each process did (erlang/test/seqaudit_truth.erl), and messages carry the number of the message
+whose token their sender had. Where no message says it, a process has the token that it received last. Each event is
+asked about, with all that follows it at once. No sentence may be false if the premises hold that it names, and no event
+may be left out. The last line is a row of the table in README.md, whose head is HEAD."""
+import json
+import re
+import subprocess
+import sys
+from collections import Counter, defaultdict, namedtuple
+from concurrent.futures import ThreadPoolExecutor
+from pathlib import Path
+
+EVENT = re.compile(r"\{seq_trace,(\d+),\{(send|'receive'|answer|print),\{(-?\d+),(-?\d+)\},([^,]*),([^,]*),(\d+)\}\}")
+MARK = re.compile(r"\{m,(\d+),([a-z0-9]+),(true|false)\}")
+SPAWN = re.compile(r"\{<([\d.]+)>,\{(\w+),(\w+)\}\}")
+EITHER = re.compile(r"(?:follows (\S.*?#\d+)|begins this chain) or (?:follows (\S.*?#\d+)|begins this chain), as both")
+SINCE = re.compile(r"isn't known: (?:before it|since (.+)#(\d+)) ")
+HEAD = ("traces", "doesn't fit", "events", "sends and prints", "facts", "several", "perhaps", "moved",
+        "false as a premise fails", "neither of several", "perhaps not", "not judged", "false")
+
+Event = namedtuple("Event", "kind label sender to term")
+# What a process did: an event that was reported, by its index, or an act, by its word.
+Did = namedtuple("Did", "word index")
+
+
+class Trace:
+    """A trace, and for each process what it did, in one order."""
+
+    def __init__(self, name):
+        self.name = name
+        self.terms = read_terms(Path(name + ".terms"))
+        self.streams = self.read_streams(Path(name + ".seqtrace"))
+        numbers = {}
+        for pid, events in self.streams.items():
+            for i, event in enumerate(events):
+                if mark := self.mark(event):
+                    numbers[event.kind, int(mark[1])] = pid, i
+        self.numbers, self.log = numbers, defaultdict(list)
+        for line in Path(name + ".truth").read_text().splitlines():
+            pid, word, what = line.split(" ", 2)
+            self.log[pid].append((word, what))
+        self.pids = {}
+        for pid, entries in self.log.items():
+            places = [numbers.get((KINDS.get(word), int(what))) for word, what in entries if word in KINDS]
+            self.pids.update({pid: place[0] for place in places if place})
+        self.spawns = {}
+        born = {SPAWN.fullmatch(what)[1] for entries in self.log.values() for word, what in entries if word == "spawned"}
+        self.did = {self.pids[pid]: self.all_done(self.pids[pid], entries, pid[1:-1] in born)
+                    for pid, entries in self.log.items() if pid in self.pids}
+
+    def read_streams(self, path):
+        streams, events = {}, None
+        for line in path.read_text().splitlines():
+            if line.startswith("process "):
+                events = streams.setdefault(line.split()[1], [])
+            elif found := EVENT.match(line):
+                kind = "receive" if found[2] in ("'receive'", "answer") else found[2]
+                events.append(Event(kind, found[1], found[5], found[6], self.terms.get(found[7], "")))
+        return streams
+
+    def mark(self, event):
+        return None if event.term.startswith("{spawn_re") else MARK.search(event.term)
+
+    def all_done(self, pid, entries, is_born):
+        """What a process did: the entries of its log, and between them the events that no entry is of. One that was
+        spawned took the token of the request."""
+        events, did, placed = self.streams[pid], [], 0
+        if is_born and not any(is_request(event) and event.to == pid for event in events):
+            did.append(Did("unreported receive", None))
+
+        def reach(index):
+            nonlocal placed
+            did.extend(Did("event", i) for i in range(placed, index + 1))
+            placed = max(placed, index + 1)
+
+        for word, what in entries:
+            if word in KINDS:
+                place = self.numbers.get((KINDS[word], int(what)))
+                if place:
+                    reach(place[1])
+                else:
+                    did.append(Did("unreported " + KINDS[word], None))
+            elif word == "spawned":
+                child, cause, own = SPAWN.fullmatch(what).groups()
+                child = self.pids.get(f"<{child}>", f"<{child}>")
+                asked = (i for i in range(placed, len(events)) if is_request(events[i]) and events[i].to == child)
+                replied = (i for i in range(placed, len(events)) if is_reply(events[i]) and events[i].sender == child)
+                if (request := next(asked, None)) is not None:
+                    self.spawns[pid, request] = cause, own == "true"
+                    reach(request + self.is_answer(pid, request + 1))
+                elif (reply := next(replied, None)) is not None:
+                    reach(reply)
+                did.append(Did(word, None))
+            else:
+                did.append(Did(word, None))
+        reach(len(events) - 1)
+        return did
+
+    def is_answer(self, pid, i):
+        """Whether the event is the answer of a spawn, which leaves the token as it was."""
+        events = self.streams[pid]
+        return (0 < i < len(events) and is_reply(events[i]) and events[i - 1].to == events[i].sender
+                and is_request(events[i - 1]) and "spawn_init" not in events[i - 1].term)
+
+    def origin(self, pid, i):
+        """The index of the receive that a send or print truly follows, "home", or None if the trace lacks that."""
+        events, mark = self.streams[pid], self.mark(self.streams[pid][i])
+        cause = (mark[2], mark[3] == "true") if mark else self.spawns.get((pid, i))
+        if cause is None:
+            return self.last_received(pid, i)
+        if cause[1] or cause[0] == "begins":
+            return "home"
+        if cause[0] == "spawned":
+            return next((j for j in range(i) if events[j].to == pid and is_request(events[j])), None)
+        place = self.numbers.get(("receive", int(cause[0])))
+        return place[1] if place and place[0] == pid else None
+
+    def last_received(self, pid, i):
+        """The receive of the token of a process that leaves its token alone, but for what it prints of a beginning."""
+        for j in range(i, -1, -1):
+            event = self.streams[pid][j]
+            if event.kind == "print" and event.term.startswith("{'begin',"):
+                return "home"
+            if event.kind == "receive" and not self.is_answer(pid, j):
+                return j
+        return None
+
+    def words(self, pid, after, i):
+        """The words of what a process did between two of its events, or from the beginning on."""
+        did = self.did.get(pid)
+        if did is None:
+            return {"spawned" for j in range((after or 0), i) if self.is_answer(pid, j)}
+        begin = 0 if after is None else did.index(Did("event", after))
+        return {it.word for it in did[begin:did.index(Did("event", i))]}
+
+
+def is_request(event):
+    return event.term.startswith("{spawn_request,")
+
+
+def is_reply(event):
+    return event.term.startswith("{spawn_reply,") and event.kind == "receive"
+
+
+KINDS = {"sent": "send", "received": "receive", "printed": "print"}
+MOVES = {"unreported receive", "put", "spawned"}
+
+
+def read_terms(path):
+    rows = (line.split("\t") for line in path.read_text(errors="replace").splitlines())
+    return {row[1]: row[2] for row in rows if row[0] == "value"}
+
+
+def holds(trace, pid, after, i, premises):
+    """Whether the premises hold of an event and the receive that its sentence names."""
+    if set(premises) & {1, 2, 3}:
+        between = trace.words(pid, after, i)
+        broken = {1: {"unreported receive"}, 2: {"put", "spawned"}, 3: {"set"}}
+        if any(between & broken[premise] for premise in premises if premise in broken):
+            return False
+    everything = {it.word for it in trace.did.get(pid, [])}
+    if 5 in premises and any(word.startswith("unreported") for word in everything):
+        return False
+    return not {6, 7} & set(premises) or "handed_over" not in everything
+
+
+class Judge:
+    def __init__(self, gemshowal, name):
+        self.gemshowal, self.trace, self.counted = gemshowal, Trace(name), Counter(traces=1)
+        self.places, self.false = {}, []
+
+    def run(self, *words):
+        return subprocess.run([self.gemshowal, *words], capture_output=True, text=True, check=False)
+
+    def judge(self):
+        """Asks of events until each was said to follow something, and judges each sentence."""
+        said, links = self.run("audit", "--json", self.trace.name), {}
+        self.counted["doesn't fit"] += said.returncode != 0
+        left = [(pid, i) for pid, events in self.trace.streams.items() for i in range(len(events))]
+        for place in left:
+            if place not in links:
+                asked = self.run("why", "--json", "--effects", "--across", self.trace.name, "%s#%d" % place)
+                for it in json.loads(asked.stdout)["events"]:
+                    if it["pid"] is not None:
+                        self.places[it["event"]] = it["pid"], it["index"]
+                        links[it["pid"], it["index"]] = it
+        for place in left:
+            self.counted["events"] += 1
+            if place not in links:
+                self.false.append(("left out", place))
+            else:
+                self.judge_link(place, links[place])
+
+    def judge_link(self, place, link):
+        pid, i = place
+        event, cause = self.trace.streams[pid][i], link["cause"]
+        if event.kind != "receive":
+            self.counted["sends and prints"] += 1
+            grade = "perhaps" if link["grade"] == "perhaps" else cause
+            self.counted[grade if grade in ("perhaps", "several", "moved") else "facts"] += 1
+        is_true, after = (self.receive if event.kind == "receive" else self.stamp)(place, link)
+        if is_true is None:
+            self.counted["not judged"] += 1
+        elif not is_true and link["grade"] == "perhaps":
+            self.counted["perhaps not"] += 1
+        elif not is_true and not holds(self.trace, pid, after, i, link["premises"]):
+            self.counted["false as a premise fails"] += 1
+        elif not is_true:
+            self.false.append((place, event, link, self.trace.origin(pid, i)))
+
+    def receive(self, place, link):
+        """Whether what is said of a receive is true, and no place. A message without a mark is known by its content."""
+        event = self.trace.streams[place[0]][place[1]]
+        mark, named = self.trace.mark(event), self.places.get(link["after"])
+        if mark:
+            return named == self.trace.numbers.get(("send", int(mark[1]))), None
+        if named is None:
+            return None, None
+        sent = self.trace.streams[named[0]][named[1]]
+        return sent == event._replace(kind="send", to=sent.to), None
+
+    def stamp(self, place, link):
+        """Whether what is said of a send or print is true, and the index of the receive that is named."""
+        pid, i = place
+        origin, cause = self.trace.origin(pid, i), link["cause"]
+        if link["grade"] == "perhaps":
+            return self.is_as_completed(place), None
+        named = self.places.get(link["after"], (pid, None))
+        after = named[1] if named[0] == pid else None
+        if cause == "moved":
+            return self.is_moved(place), None
+        if cause == "several":
+            found = EITHER.search(self.run("why", self.trace.name, "%s#%d" % place).stdout)
+            either = [self.places[name][1] if name else "home" for name in found.groups()]
+            self.counted["neither of several"] += origin not in either
+            return origin in either, None
+        if origin is None:
+            return (False if after is not None and cause == "after" else None), after
+        return origin == (after if cause == "after" else "home"), after
+
+    def is_as_completed(self, place):
+        """Whether a send or print truly follows the message whose receive the completion adds before it."""
+        own = self.trace.mark(self.trace.streams[place[0]][place[1]])
+        steps = json.loads(self.run("why", "--json", self.trace.name, "%s#%d" % place).stdout)["events"]
+        added = MARK.search(steps[1]["message"] or "")
+        return None if not own else own[3] == "false" and bool(added) and added[1] == own[2]
+
+    def is_moved(self, place):
+        """Whether something that moves counters happened where `moved` says it."""
+        found = SINCE.search(self.run("why", self.trace.name, "%s#%d" % place).stdout)
+        if not found:
+            return None
+        return bool(self.trace.words(place[0], int(found[2]) if found[2] else None, place[1]) & MOVES)
+
+
+def judged(gemshowal, name):
+    """The counts of a trace, and its false sentences."""
+    judge = Judge(gemshowal, name)
+    judge.judge()
+    judge.counted["false"] = len(judge.false)
+    return judge.counted, [(name, *it) for it in judge.false]
+
+
+def main():
+    gemshowal, names = sys.argv[1], sys.argv[2:]
+    with ThreadPoolExecutor() as threads:
+        found = list(threads.map(lambda name: judged(gemshowal, name), names))
+    counted = sum((counts for counts, _ in found), Counter())
+    for it in [it for _, false in found for it in false][:20]:
+        print("false:", *it)
+    print("|", " | ".join(str(counted[it]) for it in HEAD), "|")
+    return counted["false"] > 0
+
+
+if __name__ == "__main__":
+    sys.exit(main())
