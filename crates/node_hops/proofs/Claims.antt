@@ -42,14 +42,14 @@ same_label k l h = let number = eqb-true k.0 l.0 h in λ i. record { 0 = number 
 other_label : (k l : Label) → (k.0 == l.0) ≡ false → ¬ (k ≡ l)
 other_label k l h same = false≢true (sym h ∙ eq-eqb k.0 l.0 (ap (λ (x : Label). x.0) same))
 
-kind_receive : (k : Kind) → (let b : Bool =
+pub kind_receive : (k : Kind) → (let b : Bool =
     elim k [ kind.Send ↦ false | kind.Receive ↦ true | kind.Print ↦ false ] in b) ≡ true
     → k ≡ kind.Receive
 kind_receive kind.Send is = absurd (false≢true is)
 kind_receive kind.Receive is = refl
 kind_receive kind.Print is = absurd (false≢true is)
 
-unstamped : (k : Kind) → (let b : Bool =
+pub unstamped : (k : Kind) → (let b : Bool =
     elim k [ kind.Send ↦ true | kind.Receive ↦ false | kind.Print ↦ true ] in b) ≡ false
     → k ≡ kind.Receive
 unstamped kind.Send is = absurd (false≢true (sym is))

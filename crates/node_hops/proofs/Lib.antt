@@ -7,5 +7,8 @@ pub mod RowLemmas
 pub mod Stamps
 pub mod Messages
 pub mod Claims
+pub mod Ways
+pub mod Trees
+pub mod Children
 -- The lemmas on what is kept.
 pub mod Starts

@@ -5,13 +5,16 @@ ghost use Rattle.std.specs.Prelude.{◌≡◌, ◌≤◌, Option, Some, IfOk, On
 ghost use Rattle.std.specs.Prelude.{option_and_then, slice_get};
 ghost use Rattle.std.specs.Option.{unwrap_or};
 ghost use Rattle.st_core.specs.Streams.{IsStreams, events_of};
-ghost use Rattle.node_streams.specs.Messages.{all_partners, other_end_of};
+ghost use Rattle.st_core.specs.declared.types.Kind.TheVariants as kind;
+ghost use Rattle.st_pair.specs.Places.{event_at};
+ghost use Rattle.node_streams.specs.Messages.{all_partners, content_of, other_end_of, owner};
 ghost use Rattle.node_hops.specs.Events.{row_first};
 ghost use Rattle.node_hops.specs.Hops.{hop_of_stamp, node_hop_by, node_hop_by_label, node_hop_of};
 ghost use Rattle.node_hops.specs.Hops.{node_hop_to_send};
 ghost use Rattle.node_hops.specs.Hops.{label_there_or};
 ghost use Rattle.node_hops.specs.Claims.{IsTrueOnNode};
 ghost use Rattle.node_hops.specs.Kept.{all_row_firsts};
+ghost use Rattle.node_hops.specs.Tree.{receive_place};
 
 use crate::hop::NodeHop;
 use crate::rows::{row_firsts, take_before};
@@ -110,6 +113,16 @@ fn partner(
     }
 }
 
+/// The process that receives the message of this event.
+fn receiver_of(event: &Event) -> Pid
+    ensures { result ≡ owner kind.Receive (content_of event.now) }
+{
+    match event.to {
+        Some(to) => to,
+        None => event.from,
+    }
+}
+
 /// The label of the event at this index, this one if there is none.
 fn label_there_or(events: &[Event], index: u64, label: Label) -> Label
     ensures { result ≡ label_there_or events.now index label }
@@ -197,6 +210,31 @@ impl<'a> NodeHops<'a> {
             partners,
             starts,
         })
+    }
+
+    /// The event at this place, if there is one.
+    pub fn event(&self, pid: Pid, index: u64) -> Option<Event>
+        ensures { result ≡ event_at self.now pid index }
+    {
+        self.streams.event(pid, index)
+    }
+
+    /// The events of a process.
+    pub(crate) fn events(&self, pid: Pid) -> &[Event]
+        ensures { result.now ≡ events_of self.now pid }
+    {
+        self.streams.events(pid)
+    }
+
+    /// The receive of the message that this event sends, which is the one at this place.
+    pub(crate) fn receiver(&self, pid: Pid, index: u64, event: &Event) -> Option<(Pid, u64)>
+        requires { slice_get (events_of self.now pid) index ≡ Some event.now }
+        ensures { result ≡ receive_place self.now pid index event.now }
+    {
+        match self.partner(pid, index, event) {
+            None => None,
+            Some(other) => Some((receiver_of(event), other)),
+        }
     }
 
     /// The index of the other end of the message of this event, which is the one at this place.

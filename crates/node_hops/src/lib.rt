@@ -1,13 +1,21 @@
-//! Hops of a standard node: from event to event, as far as a trace tells of them, and what they
-//! claim of each run of the node.
+//! Hops of a standard node: from event to event, as far as a trace tells of them, back and forth,
+//! and what they claim of each run of the node.
 #![tactic(auto)]
 
+mod back;
+mod forth;
 mod hop;
 mod hops;
 pub mod laws;
+mod node;
+mod reach;
 mod rows;
 #[cfg(test)]
 mod tests;
 
+pub use back::way;
+pub use forth::tree;
 pub use hop::{NodeHop, NodePremises};
 pub use hops::NodeHops;
+pub use node::Node;
+pub use reach::Reach;

@@ -2,6 +2,7 @@
 
 ghost use Rattle.std.specs.Prelude.{◌≡◌, ◌-◌, ◌<◌, ◌≤◌, IfOk, Some, length, slice_get};
 ghost use Rattle.st_core.specs.declared.types.Event.{Event as EventValue};
+ghost use Rattle.std.specs.List.{prefix_len};
 ghost use Rattle.node_hops.specs.Kept.{row_firsts};
 ghost use Rattle.node_hops.specs.Events.{is_in_row, take_before, row_first};
 
@@ -16,6 +17,17 @@ pub(crate) fn is_in_row(prev: u64, event: &Event) -> bool
         Kind::Send | Kind::Print => event.serial.prev == prev,
         Kind::Receive => false,
     }
+}
+
+/// How many of these events, from the first one on, are in the row.
+pub(crate) fn row_length(prev: u64, events: &[Event]) -> usize
+    ensures value { result ≡ prefix_len (λ e. is_in_row prev e) events.now }
+    ensures len { result ≤ length events.now }
+{
+    events
+        .iter()
+        .take_while(|event| is_in_row(prev, event))
+        .count()
 }
 
 /// Where the row of sends and prints with the prev of this event begins that goes up to it: where

@@ -2,7 +2,7 @@
 
 ghost use Rattle.std.specs.Prelude.{◌≡◌};
 
-use crate::{NodeHop, NodeHops};
+use crate::{Node, NodeHop, NodeHops, Reach, tree, way};
 use st_core::{Draft, Event, Kind, Label, Pid, Serial};
 
 fn event(kind: Kind, from: Pid, to: Option<Pid>, prev: u64, this: u64) -> Event
@@ -15,6 +15,15 @@ fn event(kind: Kind, from: Pid, to: Option<Pid>, prev: u64, this: u64) -> Event
         from,
         serial: Serial { prev, this },
         value: 7,
+    }
+}
+
+fn node(depth: u64, pid: Pid, index: u64) -> Node
+    ensures { result.depth ≡ depth }
+{
+    Node {
+        depth,
+        place: (pid, index),
     }
 }
 
@@ -39,4 +48,10 @@ fn a_print_follows_the_receive_before_it(rt: HostRuntime) {
     assert!(rt; sent == NodeHop::Sent(first, 0));
     let follows = hops.hop(second, 1, &print);
     assert!(rt; follows == NodeHop::After(0));
+    let back = way(rt.alloc(), &hops, Reach::LABEL, (second, 1)).expect(&rt, "out of memory");
+    let forth = tree(rt.alloc(), &hops, Reach::LABEL, (first, 0)).expect(&rt, "out of memory");
+    let causes = [node(0, second, 1), node(1, second, 0), node(2, first, 0)];
+    assert!(rt; back.as_slice() == causes.as_slice());
+    let effects = [node(0, first, 0), node(1, second, 0), node(2, second, 1)];
+    assert!(rt; forth.as_slice() == effects.as_slice());
 }

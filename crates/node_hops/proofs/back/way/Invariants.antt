@@ -1,0 +1,9 @@
+-- The places so far with the way on from the next one come to the whole way.
+use Rattle.std.proofs.Common.{◌≡◌, ◌++◌, ◌-◌, Some}
+use Rattle.node_hops.specs.Way.{way}
+use Rattle.node_hops.proofs.back.way.Given as goal
+
+abbrev pub invariant-loop-depth : goal.invariant-loop-depth
+invariant-loop-depth l =
+    l.list.items ++ way l.hops l.reach.across (l.reach.most - l.depth) l.depth l.at
+    ≡ way l.hops l.reach.across l.reach.most 0 (Some l.fn.place)
