@@ -1,5 +1,5 @@
 #!/usr/bin/env python3
-"""Judges what `seqtool why` says by random runs of the machine, in which the true origin of each stamp is known.
+"""Judges what `seqtool why` says by random runs of a standard node, in which the true cause of each event is known.
 
     random_why.py SEQTOOL|model STAMPS [FIRST]
 
@@ -12,57 +12,78 @@ import random
 import re
 import subprocess
 import sys
-from collections import Counter
+from collections import Counter, namedtuple
 from pathlib import Path
 
 sys.path.insert(1, str(Path(__file__).resolve().parent / "models"))
 
+import slow_node  # noqa: E402
 import slow_seqaudit as model  # noqa: E402
 import slow_why  # noqa: E402
 
 # The events of a run that are asked about if a program has to be started for each.
 ASKED = 12
 
+# An act of a process: its number, how many events its process had reported after it, whether it took a token, moved the
+# counters in another way, made a token or set a label, and whether it was reported.
+Act = namedtuple("Act", "number told takes moves begins is_reported")
+# The send of a message: the number of its act, all that the message says, and whether it was reported.
+Sent = namedtuple("Sent", "number content is_reported")
+
+
+def content(stamped, to, value):
+    return stamped.sender, to, stamped.label, stamped.prev, stamped.this, value
+
+
+class Node(model.World):
+    """A standard node, whose counters a token that is made leaves, one that is put back brings, and an answer moves."""
+
+    def step(self, act, number=0):
+        one = self.of[model.parse_pid(act[1])]
+        last, token = one.last, one.token
+        report, sent = super().step(["receive", *act[1:]] if act[0] == "answer" else act, number)
+        if act[0] == "set":
+            one.last = last
+        elif act[0] == "restore":
+            one.clock, one.last = one.token.this, one.token.prev
+        elif act[0] == "answer" and sent is not None:
+            if one.token:
+                one.clock = one.last = slow_node.answer_count(one.token.this)
+            one.token = token
+        return report, sent
+
 
 class Run:
-    """A run without a reset, with what gave each process its last and what each event truly follows.
-
-    An origin is ("follows", the number of the receive's act) or ("begins", the number of events before), or None.
-    """
+    """A run without a reset, with its acts, and with the cause of each send and print: the latest act that gave its process
+    the token, or the token its label."""
 
     def __init__(self, chosen):
         self.chosen = chosen
         self.pids = [(0, 30 + k) for k in range(chosen.randint(1, 8))]
-        self.world, self.number = model.World(self.pids), 0
+        self.world, self.number = Node(self.pids), 0
         self.streams = {pid: [] for pid in self.pids}
-        self.origin = dict.fromkeys(self.pids)
-        self.truth, self.place_of, self.unreported = {}, {}, 0
+        self.acts, self.sends = {pid: [] for pid in self.pids}, []
+        self.giver = dict.fromkeys(self.pids)
+        self.cause, self.number_of = {}, {}
 
     def act(self, word, pid, *rest):
         one, events = self.world.of[pid], self.streams[pid]
         had_token = one.token is not None
         report, sent = self.world.step([word, model.show(pid), *map(str, rest)], self.number)
+        begins = word == "set" and (rest[0] == "label" or not had_token)
+        takes = word == "receive" and sent is not None and one.token is not None
         if report:
-            self.truth[pid, len(events)] = ("sent", sent) if word == "receive" else self.origin[pid]
-            self.place_of[self.number] = pid, len(events)
-        if word == "receive" and sent is not None and one.token:
-            self.origin[pid] = "follows", self.number
-            self.unreported += not report
-        elif word == "set" and not had_token:
-            self.origin[pid] = "begins", len(events)
-        if report:
+            self.cause[pid, len(events)] = self.giver[pid]
+            self.number_of[pid, len(events)] = self.number
             events.append(report)
+        done = Act(self.number, len(events), takes, word in ("restore", "answer"), begins, report is not None)
+        self.acts[pid].append(done)
+        if word == "send" and one.token:
+            message = content(one.token, model.parse_pid(rest[0]), int(rest[1]))
+            self.sends.append(Sent(self.number, message, report is not None))
+        if takes or begins or word == "restore":
+            self.giver[pid] = done
         self.number += 1
-
-    def reports_receives(self):
-        """The first premise."""
-        return self.unreported == 0
-
-    def never_begins_again(self):
-        """The second one: no beginning is after an event of its process with the label of a stamp that it is of."""
-        return not any(event.label in [earlier.label for earlier in self.streams[pid][:self.truth[pid, i][1]]]
-                       for pid, events in self.streams.items() for i, event in enumerate(events)
-                       if event.kind != "receive" and self.truth[pid, i] and self.truth[pid, i][0] == "begins")
 
 
 class Wild(Run):
@@ -86,7 +107,8 @@ class Wild(Run):
             self.act("send", pid, model.show(self.chosen.choice(self.pids)), self.chosen.randrange(5))
         elif dice < 0.65:
             if queue:
-                self.act("receive", pid, "place", self.chosen.choice([0, self.chosen.randrange(len(queue))]))
+                word = "answer" if self.chosen.random() < 0.01 else "receive"
+                self.act(word, pid, "place", self.chosen.choice([0, self.chosen.randrange(len(queue))]))
         elif dice < 0.8:
             self.act("print", pid, self.chosen.randrange(5))
         elif dice < 0.8 + self.clears:
@@ -95,7 +117,8 @@ class Wild(Run):
             if not self.world.of[pid].token or self.chosen.random() < 0.2:
                 self.set_all(pid)
         elif dice < 0.98:
-            self.act("restore", pid, self.chosen.randrange(3), "true", "true", "true", 0, 0, model.show(pid))
+            serial = self.chosen.randrange(3), self.chosen.randrange(3)
+            self.act("restore", pid, self.chosen.randrange(3), "true", "true", "true", *serial, model.show(pid))
 
     def set_all(self, pid):
         self.labels += 1
@@ -128,29 +151,79 @@ class Calls(Run):
             self.act("clear", server)
 
 
-def judged(run, place, sentence):
-    """Whether the sentence is true of the event, and its form."""
-    pid, i = place
-    truth, events = run.truth[place], run.streams[pid]
-    follows = run.place_of.get(truth[1]) if truth and truth[0] == "follows" else None
-    is_unreported = truth is not None and truth[0] == "follows" and follows is None
-    begins = truth is not None and truth[0] == "begins"
-    if events[i].kind == "receive":
-        sent = run.place_of.get(truth[1])
-        if sentence == slow_why.UNSENT:
-            return sent is None, sentence
-        return sent is not None and sentence == f"after {slow_why.located(run.streams, sent)}", "after its send"
-    if sentence == slow_why.BEGINS:
-        return truth is None or begins, sentence
-    if sentence == slow_why.BEGINS_OR_UNREPORTED:
-        return begins or is_unreported, sentence
-    if found := re.fullmatch(r"after <0\.(\d+)\.0> (\d+), line \d+ (\(1\)|\(1, 2\))", sentence):
-        return follows == ((0, int(found[1])), int(found[2])), f"after .. {found[3]}"
-    found = re.fullmatch(r"begins label (\d+) here, or set it on its token; it had last received <0\.(\d+)\.0> (\d+), line "
-                         r"\d+ of label (\d+) \(1\)", sentence)
-    received = (0, int(found[2])), int(found[3])
-    is_told = int(found[1]) == events[i].label and int(found[4]) == events[received[1]].label
-    return is_told and (follows == received or begins and truth[1] > received[1]), "begins label .. (1)"
+class Alike(Run):
+    """Processes put one token back again and again, so that their messages are alike, and report some of the sends."""
+
+    def __init__(self, chosen):
+        super().__init__(chosen)
+        self.act("tracer", self.pids[0], "true")
+        share, waits = chosen.choice([1, 0.9, 0.6]), chosen.random()
+        for _ in range(chosen.randint(2, 30)):
+            one, other = chosen.choice(self.pids[:3]), chosen.choice(self.pids[:3])
+            is_reported = str(chosen.random() < share).lower()
+            self.act("restore", one, 1, is_reported, "true", "true", 0, chosen.randrange(2), model.show(one))
+            self.act("send", one, model.show(other), 1)
+            if chosen.random() > waits:
+                self.act("receive", chosen.choice([one, other]), "first")
+
+
+class Judge:
+    """What is true of an event of a run: of what its process did from one of its events on, up to it."""
+
+    def __init__(self, run, place):
+        self.run, (self.pid, self.index) = run, place
+        self.event, self.number = run.streams[self.pid][self.index], run.number_of[place]
+        self.content = content(self.event, self.event.to, self.event.value)
+
+    def since(self, count):
+        """The acts from that on by which so many events were reported."""
+        return [act for act in self.run.acts[self.pid] if act.number < self.number and act.told >= count]
+
+    def sends(self):
+        return [it for it in self.run.sends if it.content == self.content and it.number < self.number]
+
+    def holds(self, premises, count):
+        """Whether the premises hold from that event on."""
+        acts = self.since(count)
+        fails = {1: any(act.takes and not act.is_reported for act in acts), 2: any(act.moves for act in acts),
+                 3: any(act.begins for act in acts), 4: not all(it.is_reported for it in self.sends())}
+        return not any(fails[premise] for premise in premises)
+
+    def begins(self, count):
+        """Whether its process made its token, or set its label, after it had reported so many events."""
+        cause = self.run.cause[self.pid, self.index]
+        return cause is not None and cause.begins and cause.told >= count
+
+    def follows(self, index):
+        cause = self.run.cause[self.pid, self.index]
+        return cause is not None and cause.takes and cause.number == self.run.number_of[self.pid, index]
+
+    def is_sent_before(self, place):
+        sent = self.run.streams[place[0]][place[1]]
+        is_like = sent.kind == "send" and content(sent, sent.to, sent.value) == self.content
+        return is_like and self.run.number_of[place] < self.number
+
+    def judge(self, sentence):
+        """The form of the sentence, whether it is true, and whether its premises hold."""
+        words, numbers = re.fullmatch(r"(.*?)(?: \(([0-9, ]*)\))?", sentence).groups()
+        premises = [int(it) for it in numbers.split(", ")] if numbers else []
+        if found := re.fullmatch(r"after <0\.(\d+)\.0> (\d+), line \d+", words):
+            named = (0, int(found[1])), int(found[2])
+            is_true = self.is_sent_before(named) if self.event.kind == "receive" else self.follows(named[1])
+            return f"after .. ({numbers})", is_true, self.holds(premises, named[1] + 1)
+        if words == slow_why.UNSENT:
+            return words, any(not it.is_reported for it in self.sends()), True
+        if words == slow_why.BEGINS:
+            return f"{words} ({numbers})", self.begins(0), self.holds(premises, 0)
+        if found := re.fullmatch(r"(?:since <\S+ (\d+), line \d+, )?" + slow_why.MOVED, words):
+            acts = self.since(int(found[1]) + 1 if found[1] else 0)
+            return "its process took ..", any(act.moves or act.takes and not act.is_reported for act in acts), True
+        found = re.fullmatch(r"begins label (\d+) here, or set it on its token; it had last received <\S+ (\d+), line "
+                             r"\d+ of label (\d+)", words)
+        received = int(found[2])
+        labels = self.event.label, self.run.streams[self.pid][received].label
+        is_true = labels == (int(found[1]), int(found[3])) and self.begins(received + 1)
+        return f"begins label .. ({numbers})", is_true, self.holds(premises, received + 1)
 
 
 def sentence_of(line):
@@ -159,10 +232,13 @@ def sentence_of(line):
 
 
 def judge(run, place, lines, counted):
+    if lines == [slow_why.NO_ORDER]:
+        assert not all(it.is_reported for it in run.sends), ("an order", list(model.write(run.streams, None)))
+        counted[slow_why.NO_ORDER, "", True] += 1
+        return
     sentence = sentence_of(lines[0])
-    is_true, form = judged(run, place, sentence)
-    holds = ("(1" not in sentence or run.reports_receives()) and ("2)" not in sentence or run.never_begins_again())
-    assert is_true or not holds, ("false", place, sentence, run.truth[place], list(model.write(run.streams, None)))
+    form, is_true, holds = Judge(run, place).judge(sentence)
+    assert is_true or not holds, ("false", place, sentence, run.cause[place], list(model.write(run.streams, None)))
     counted[form, "premises hold" if holds else "premises fail", is_true] += 1
 
 
@@ -173,7 +249,8 @@ def ask(program, run, place):
         words = [program, "why", model.show(pid), str(i), *options]
         done = subprocess.run(words, input=bundle, capture_output=True, text=True, check=False)
         lines = slow_why.why(run.streams, place, model.TOP, False, bool(options))
-        assert (done.stdout.splitlines(), done.returncode) == (lines, 0), (place, options, bundle, done, lines)
+        status = int(lines == [slow_why.NO_ORDER])
+        assert (done.stdout.splitlines(), done.returncode) == (lines, status), (place, options, bundle, done, lines)
     return slow_why.why(run.streams, place, model.TOP, False)
 
 
@@ -186,7 +263,8 @@ def main():
     program, most, number = sys.argv[1], int(sys.argv[2]), int(sys.argv[3]) if len(sys.argv) > 3 else 0
     counted, stamps, runs = Counter(), 0, 0
     while stamps < most:
-        run = (Calls if number % 3 == 0 else Wild)(random.Random(f"why {number}"))
+        kind = (Calls, Wild, Wild, Calls, Wild, Alike)[number % 6]
+        run = kind(random.Random(f"why {number}"))
         for place in places_of(run, program):
             lines = slow_why.why(run.streams, place, 1, False) if program == "model" else ask(program, run, place)
             judge(run, place, lines, counted)

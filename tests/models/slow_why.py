@@ -1,14 +1,20 @@
-"""The output of `why`: a slow model of crates/node_why and of the lines of crates/seqtool_commands."""
+"""The output of `why`: a slow model of the hops of crates/node_hops and of the lines of crates/seqtool_commands."""
 
 from collections import namedtuple
 
-from slow_seqaudit import pair, show
+import slow_node
+from slow_seqaudit import show
 
-PREMISES = ("in a run without a reset, if any; (1) if each receive of a token was reported; (2) if no process cleared or lost "
-            "its token, began again and reported an earlier label again; on a standard node (2) wherever (1), except behind a "
-            "spawn or a token put back")
+RUNS = "this holds in each run of a standard node without a reset that reports the trace"
+PREMISES = {
+    1: "(1) if in between, or before a beginning, its process took no token whose receive wasn't reported",
+    2: "(2) if there it put no token back, and spawned no process",
+    3: "(3) if there it made no token, and set no label",
+    4: "(4) if each send of such a message was reported",
+}
+NO_ORDER = "no order of the events has each receive after its send"
 BEGINS = "begins here"
-BEGINS_OR_UNREPORTED = "begins here, or follows a message whose receive wasn't reported"
+MOVED = "its process took a token whose receive wasn't reported, put one back or spawned"
 UNSENT = "its send wasn't reported"
 
 # The hops that spaces show.
@@ -16,6 +22,12 @@ INDENT = 16
 
 # The cause of an event: the kind of hop, the place that it names, and the premises that it rests on.
 Hop = namedtuple("Hop", "kind place premises")
+
+
+def sources(streams):
+    """The place of each receive's send: alike messages are taken in order. None if no send is left."""
+    return slow_node.sources({pid: [slow_node.Event(it.kind, it.label, it.prev, it.this, it.sender, it.to, it.value)
+                                    for it in events] for pid, events in streams.items()})
 
 
 def row_start(events, i):
@@ -29,13 +41,11 @@ def row_start(events, i):
 def hop_of_stamp(streams, pid, i):
     events = streams[pid]
     event, start = events[i], row_start(events, i)
-    above = any(earlier.this > event.prev for earlier in events[:start])
-    before = events[start - 1] if start else None
-    if before is None or before.kind != "receive" or before.this != event.prev:
-        return Hop("begins_or_unreported" if event.prev or above else "begins", None, [])
-    if before.label != event.label:
-        return Hop("other_label", (pid, start - 1), [1])
-    return Hop("after", (pid, start - 1), [1] if above else [1, 2])
+    before = (pid, start - 1) if start else None
+    if before and events[start - 1].kind == "receive" and events[start - 1].this == event.prev:
+        is_same = events[start - 1].label == event.label
+        return Hop("after", before, [1, 2, 3]) if is_same else Hop("other_label", before, [1, 2])
+    return Hop("moved", before, []) if before or event.prev else Hop("begins", None, [1, 2])
 
 
 def hop_of(streams, source, place):
@@ -43,12 +53,12 @@ def hop_of(streams, source, place):
     if streams[pid][i].kind != "receive":
         return hop_of_stamp(streams, pid, i)
     sent = source[place]
-    return Hop("after", sent, []) if sent else Hop("unsent", None, [])
+    return Hop("after", sent, [4]) if sent else Hop("unsent", None, [])
 
 
 def leads_to(hop, across):
     """The place that the hop goes to, over a change of label only if asked to."""
-    return hop.place if across or hop.kind != "other_label" else None
+    return hop.place if hop.kind == "after" or across and hop.kind == "other_label" else None
 
 
 def line_of(streams, place):
@@ -89,9 +99,10 @@ def sentence(streams, place, hop):
         label, received = streams[place[0]][place[1]].label, streams[hop.place[0]][hop.place[1]].label
         words = (f"begins label {label} here, or set it on its token; it had last received {located(streams, hop.place)} "
                  f"of label {received}")
+    elif hop.kind == "moved":
+        words = (f"since {located(streams, hop.place)}, " if hop.place else "") + MOVED
     else:
-        words = {"after": hop.place and f"after {located(streams, hop.place)}", "unsent": UNSENT, "begins": BEGINS,
-                 "begins_or_unreported": BEGINS_OR_UNREPORTED}[hop.kind]
+        words = {"after": hop.place and f"after {located(streams, hop.place)}", "unsent": UNSENT, "begins": BEGINS}[hop.kind]
     return words + (f" ({', '.join(map(str, hop.premises))})" if hop.premises else "")
 
 
@@ -105,9 +116,13 @@ def text_line(streams, node, hop, is_tree):
 
 def why(streams, place, most, across, is_tree=False):
     """The lines of at most this many hops back, or of this many levels of what follows; none if the event isn't there."""
-    source = pair(streams)
     if place is None or place[1] >= len(streams.get(place[0], [])):
         return None
+    source = sources(streams)
+    if slow_node.waits(streams, source):
+        return [NO_ORDER]
     nodes = (tree if is_tree else way)(streams, source, place, most, across)
     hops = [hop_of(streams, source, here) for _, here in nodes]
-    return [*(text_line(streams, node, hop, is_tree) for node, hop in zip(nodes, hops)), PREMISES]
+    rests_on = sorted({premise for hop in hops for premise in hop.premises})
+    lines = [text_line(streams, node, hop, is_tree) for node, hop in zip(nodes, hops)]
+    return [*lines, RUNS, *(PREMISES[premise] for premise in rests_on)]

@@ -19,7 +19,7 @@ use Rattle.st_text.specs.Spelling.{ended_line}
 use Rattle.st_chart.specs.Report.{event_line, place_line}
 use Rattle.st_chart.specs.Words.{place_words}
 use Rattle.seqtool_commands.specs.Words.{tool_usage_words, tool_version_words}
-use Rattle.seqtool_commands.specs.WhyWords.{premises_text}
+use Rattle.seqtool_commands.specs.WhyWords.{no_order_words, premise_text, runs_words}
 use Rattle.seqtool_commands.specs.declared.lines.OutputLine.{OutputLine}
 use Rattle.seqtool_commands.specs.declared.lines.OutputLine.TheVariants as lines
 
@@ -41,7 +41,9 @@ words_of (lines.Added n) = codes "added " ++ decimal n
 words_of (lines.Never p i r) = codes "never " ++ place_words p i ++ codes " " ++ never_words p r
 words_of (lines.Unlisted p) = codes "unlisted " ++ spelled.pid p
 words_of (lines.NoEvent p i) = codes "no event " ++ place_words p i
-words_of lines.Premises = premises_text
+words_of lines.NoOrder = no_order_words
+words_of lines.Runs = runs_words
+words_of (lines.Premise x) = premise_text x
 words_of lines.Usage = tool_usage_words
 words_of lines.Version = tool_version_words
 

@@ -1,8 +1,9 @@
 -- The result of `why` on bytes: the way back from an event of the streams that they spell, or the
--- tree of what follows it, a line for each event, or why there is none. The acts in the input are
--- ignored.
-use Rattle.std.specs.Prelude.{◌≡◌, ℕ, List, [], ◌++◌, Option, Some, None, IsSome, codes}
-use Rattle.std.specs.List.{flat_map}
+-- tree of what follows it, a line for each event, with the premises of these, or why there is none.
+-- The acts in the input are ignored.
+use Rattle.std.specs.Prelude.{◌≡◌, ℕ, Bool, false, List, [], ◌∷◌, ◌++◌, Option, Some, None, IsSome}
+use Rattle.std.specs.Prelude.{codes, if◌then◌else◌}
+use Rattle.std.specs.List.{flat_map, list_any}
 use Rattle.st_core.specs.declared.types.Act.{Act}
 use Rattle.st_core.specs.declared.types.Event.{Event}
 use Rattle.st_core.specs.Run.{Stream}
@@ -10,21 +11,21 @@ use Rattle.st_text.specs.declared.fault.ReadFault.{ReadFault}
 use Rattle.st_text.specs.Limits.{greater}
 use Rattle.st_text.specs.Spelling.{ended_line}
 use Rattle.st_text.specs.Fault.{fault_within}
-use Rattle.st_pair.specs.declared.answer.PairFault.{PairFault}
-use Rattle.st_pair.specs.Pairing.{refusal}
 use Rattle.st_pair.specs.Places.{event_at}
-use Rattle.st_audit.specs.declared.finding.Finding.{Finding}
-use Rattle.st_audit.specs.Findings.{unfit_by}
 use Rattle.st_chart.specs.Words.{place_words}
 use Rattle.st_commands.specs.Output.{Output, refused}
 use Rattle.st_commands.specs.Checked.{Spells}
-use Rattle.st_commands.specs.Audited.{report_output}
-use Rattle.node_why.specs.declared.node.Node.{Node}
-use Rattle.node_why.specs.Way.{way}
-use Rattle.node_why.specs.Tree.{tree}
+use Rattle.node_streams.specs.Order.{HaveOrder}
+use Rattle.node_hops.specs.declared.node.Node.{Node}
+use Rattle.node_hops.specs.Hops.{node_hop_of, node_premises_of}
+use Rattle.node_hops.specs.Way.{way}
+use Rattle.node_hops.specs.Tree.{tree}
+use Rattle.seqtool_commands.specs.declared.premise.Premise.{Premise}
+use Rattle.seqtool_commands.specs.declared.premise.Premise.TheVariants as premise
 use Rattle.seqtool_commands.specs.declared.question.Question.{Question}
 use Rattle.seqtool_commands.specs.declared.question.Direction.TheVariants as direction
-use Rattle.seqtool_commands.specs.WhyWords.{hop_line, premises_text}
+use Rattle.seqtool_commands.specs.WhyWords.{hop_line, is_part_of, no_order_words, premise_text}
+use Rattle.seqtool_commands.specs.WhyWords.{runs_words}
 
 -- the event that is asked about, if there is one
 abbrev pub event_asked : List Stream → Question → Option Event
@@ -44,16 +45,36 @@ node_line streams q x = elim (event_at streams x.place.0 x.place.1) [
   | Some e ↦ hop_line streams q.direction x.depth x.place.0 x.place.1 e
 ]
 
--- what the sentences rest on, which is the last line
-abbrev pub last_line : List ℕ
-last_line = ended_line premises_text
+-- the hop of the event at a place rests on this premise
+abbrev pub rests_on : List Stream → Premise → Node → Bool
+rests_on streams premise x = elim (event_at streams x.place.0 x.place.1) [
+  | None ↦ false
+  | Some e ↦
+      is_part_of premise (node_premises_of (node_hop_of streams x.place.0 x.place.1 e))
+]
+
+-- the line of a premise, if one of these hops rests on it
+abbrev pub premise_line : List Stream → List Node → Premise → List ℕ
+premise_line streams nodes premise =
+    if list_any (rests_on streams premise) nodes then ended_line (premise_text premise) else []
+
+abbrev pub all_premises : List Premise
+all_premises = premise.ReportsTakes ∷ premise.KeepsCounters ∷ premise.BeginsNothing
+    ∷ premise.ReportsLike
+    ∷ []
+
+-- what the hops of these events rest on
+abbrev pub last_lines : List Stream → List Node → List ℕ
+last_lines streams nodes =
+    ended_line runs_words ++ flat_map (premise_line streams nodes) all_premises
+
+-- the lines of these events, and what they rest on
+abbrev pub answer_lines : List Stream → Question → List Node → List ℕ
+answer_lines streams q nodes = flat_map (node_line streams q) nodes ++ last_lines streams nodes
 
 -- all that is written of an event that is there
 abbrev pub found : List Stream → Question → Output
-found streams q = record {
-  text = flat_map (node_line streams q) (nodes_from streams q) ++ last_line;
-  status = 0;
-}
+found streams q = record { text = answer_lines streams q (nodes_from streams q); status = 0 }
 
 -- there is no such event
 abbrev pub no_event : Question → Output
@@ -62,29 +83,24 @@ no_event q = record {
   status = 1;
 }
 
--- the bytes spell streams that pairing accepts
-pub record ArePaired (bytes : List ℕ) (streams : List Stream) : Type 0 where
-  pub given : Option (List Act)
-  pub spelled : Spells greater bytes streams given
-  pub accepted : refusal streams ≡ None
+-- no order of the events has each receive after its send, so that hops can go in a circle
+abbrev pub no_order : Output
+no_order = record { text = ended_line no_order_words; status = 1 }
 
--- the bytes spell streams that pairing refuses, and this is its reason as a finding
-pub record AreRefused (bytes : List ℕ) (streams : List Stream) (reason : Finding) : Type 0 where
+-- the bytes spell these streams, whatever acts they have
+pub record AreSpelled (bytes : List ℕ) (streams : List Stream) : Type 0 where
   pub given : Option (List Act)
   pub spelled : Spells greater bytes streams given
-  pub fault : PairFault
-  pub refused : refusal streams ≡ Some fault
-  pub found_by : unfit_by fault ≡ Some reason
 
 pub data IsWhy (q : Question) : List ℕ → Output → Type 0 where
-  Found : (bytes : List ℕ) (streams : List Stream) → ArePaired bytes streams
-      → IsSome (event_asked streams q)
+  Found : (bytes : List ℕ) (streams : List Stream) → AreSpelled bytes streams
+      → IsSome (event_asked streams q) → HaveOrder streams
       → IsWhy q bytes (found streams q)
-  Lacking : (bytes : List ℕ) (streams : List Stream) → ArePaired bytes streams
+  Unordered : (bytes : List ℕ) (streams : List Stream) → AreSpelled bytes streams
+      → IsSome (event_asked streams q) → ¬ (HaveOrder streams)
+      → IsWhy q bytes no_order
+  Lacking : (bytes : List ℕ) (streams : List Stream) → AreSpelled bytes streams
       → event_asked streams q ≡ None
       → IsWhy q bytes (no_event q)
-  Unpaired : (bytes : List ℕ) (streams : List Stream) (reason : Finding)
-      → AreRefused bytes streams reason
-      → IsWhy q bytes (report_output streams reason)
   Faulty : (bytes : List ℕ) (f : ReadFault) → fault_within greater bytes ≡ Some f
       → IsWhy q bytes (refused f)

@@ -21,9 +21,12 @@ begins_label_room = 44 + number_room
 abbrev pub had_received_room : ℕ
 had_received_room = 31 + located_room + number_room
 
+abbrev pub since_room : ℕ
+since_room = 8 + located_room
+
 -- what an event follows: the words about another label are the longest
 abbrev pub claim_room : ℕ
 claim_room = begins_label_room + had_received_room
 
 abbrev pub premise_room : ℕ
-premise_room = 7
+premise_room = 10

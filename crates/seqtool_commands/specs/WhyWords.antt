@@ -1,6 +1,7 @@
 -- The words of what is found: a line for each event, and what they rest on. What a sentence claims
--- of a run, and that it is true, is in `node_why` (`Claims`).
-use Rattle.std.specs.Prelude.{ℕ, min, List, [], ◌++◌, codes, decimal, take}
+-- of a run, and that it is true, is in `node_hops` (`Claims`).
+use Rattle.std.specs.Prelude.{ℕ, ◌-◌, ◌==◌, min, Bool, true, false, List, [], ◌++◌, codes, decimal}
+use Rattle.std.specs.Prelude.{if◌then◌else◌, take}
 use Rattle.std.specs.Option.{unwrap_or}
 use Rattle.st_core.specs.declared.types.Pid.{Pid}
 use Rattle.st_core.specs.declared.types.Label.{Label}
@@ -12,11 +13,13 @@ use Rattle.st_order.specs.declared.item.Item.TheVariants as item
 use Rattle.st_chart.specs.Words.{place_words}
 use Rattle.st_chart.specs.Chart.{item_word}
 use Rattle.seqtool_commands.specs.LineNumbers.{line_number_of}
-use Rattle.node_why.specs.declared.hop.Hop.{Hop}
-use Rattle.node_why.specs.declared.hop.Hop.TheVariants as hop
-use Rattle.node_why.specs.declared.hop.Premises.{Premises}
-use Rattle.node_why.specs.declared.hop.Premises.TheVariants as premises
-use Rattle.node_why.specs.Hops.{hop_of, premises_of}
+use Rattle.node_hops.specs.declared.hop.NodeHop.{NodeHop}
+use Rattle.node_hops.specs.declared.hop.NodeHop.TheVariants as hop
+use Rattle.node_hops.specs.declared.hop.NodePremises.{NodePremises}
+use Rattle.node_hops.specs.declared.hop.NodePremises.TheVariants as premises
+use Rattle.node_hops.specs.Hops.{node_hop_of, node_premises_of}
+use Rattle.seqtool_commands.specs.declared.premise.Premise.{Premise}
+use Rattle.seqtool_commands.specs.declared.premise.Premise.TheVariants as premise
 use Rattle.seqtool_commands.specs.declared.question.Direction.{Direction}
 use Rattle.seqtool_commands.specs.declared.question.Direction.TheVariants as direction
 
@@ -60,34 +63,78 @@ had_received_words streams p j received = codes "it had last received "
     ++ codes " of label "
     ++ decimal received.0
 
--- what an event of p with this label follows: the sentence whose claim `Claims` has
-abbrev pub claim_words : List Stream → Pid → Label → Hop → List ℕ
+-- since p's event that is the last one of this number
+abbrev pub since_words : List Stream → Pid → ℕ → List ℕ
+since_words streams p k =
+    if k == 0 then [] else codes "since " ++ located_words streams p (k - 1) ++ codes ", "
+
+-- what an event of p with this label follows: the sentence whose claim `HopClaims` has
+abbrev pub claim_words : List Stream → Pid → Label → NodeHop → List ℕ
 claim_words streams p label (hop.Sent q j) = codes "after " ++ located_words streams q j
 claim_words streams p label hop.Unsent = codes "its send wasn't reported"
 claim_words streams p label (hop.After j) = codes "after " ++ located_words streams p j
-claim_words streams p label (hop.AfterOneLabel j) = codes "after " ++ located_words streams p j
 claim_words streams p label (hop.OtherLabel j received) =
     begins_label_words label ++ had_received_words streams p j received
 claim_words streams p label hop.Begins = codes "begins here"
-claim_words streams p label hop.BeginsOrUnreported =
-    codes "begins here, or follows a message whose receive wasn't reported"
+claim_words streams p label (hop.Moved k) = since_words streams p k
+    ++ codes "its process took a token whose receive wasn't reported, put one back or spawned"
 
 -- the premises that a sentence rests on
-abbrev pub premise_words : Premises → List ℕ
-premise_words premises.Neither = []
-premise_words premises.First = codes " (1)"
-premise_words premises.Both = codes " (1, 2)"
+abbrev pub premise_words : NodePremises → List ℕ
+premise_words premises.Nothing = []
+premise_words premises.KeptCounters = codes " (1, 2)"
+premise_words premises.KeptToken = codes " (1, 2, 3)"
+premise_words premises.SendsReported = codes " (4)"
 
 -- the sentence with its premises
-abbrev pub hop_words : List Stream → Pid → Label → Hop → List ℕ
+abbrev pub hop_words : List Stream → Pid → Label → NodeHop → List ℕ
 hop_words streams p label back =
-    claim_words streams p label back ++ premise_words (premises_of back)
+    claim_words streams p label back ++ premise_words (node_premises_of back)
 
 -- the line of event i of p, so far from the first one
 abbrev pub hop_line : List Stream → Direction → ℕ → Pid → ℕ → Event → List ℕ
 hop_line streams way depth p i e = head_words streams way depth p i e
-    ++ ended_line (hop_words streams p e.label (hop_of streams p i e))
+    ++ ended_line (hop_words streams p e.label (node_hop_of streams p i e))
 
-abbrev pub premises_text : List ℕ
-premises_text = codes
-    "in a run without a reset, if any; (1) if each receive of a token was reported; (2) if no process cleared or lost its token, began again and reported an earlier label again; on a standard node (2) wherever (1), except behind a spawn or a token put back"
+-- what all sentences rest on
+abbrev pub runs_words : List ℕ
+runs_words =
+    codes "this holds in each run of a standard node without a reset that reports the trace"
+
+-- what a premise says
+abbrev pub premise_text : Premise → List ℕ
+premise_text premise.ReportsTakes = codes
+    "(1) if in between, or before a beginning, its process took no token whose receive wasn't reported"
+premise_text premise.KeepsCounters = codes
+    "(2) if there it put no token back, and spawned no process"
+premise_text premise.BeginsNothing = codes
+    "(3) if there it made no token, and set no label"
+premise_text premise.ReportsLike = codes
+    "(4) if each send of such a message was reported"
+
+-- whether a premise is one of these
+abbrev pub is_part_of : Premise → NodePremises → Bool
+is_part_of x premises.Nothing = false
+is_part_of x premises.KeptCounters = elim x [
+  | premise.ReportsTakes ↦ true
+  | premise.KeepsCounters ↦ true
+  | premise.BeginsNothing ↦ false
+  | premise.ReportsLike ↦ false
+]
+is_part_of x premises.KeptToken = elim x [
+  | premise.ReportsTakes ↦ true
+  | premise.KeepsCounters ↦ true
+  | premise.BeginsNothing ↦ true
+  | premise.ReportsLike ↦ false
+]
+is_part_of x premises.SendsReported = elim x [
+  | premise.ReportsTakes ↦ false
+  | premise.KeepsCounters ↦ false
+  | premise.BeginsNothing ↦ false
+  | premise.ReportsLike ↦ true
+]
+
+-- hops can go in a circle
+abbrev pub no_order_words : List ℕ
+no_order_words =
+    codes "no order of the events has each receive after its send"

@@ -5,7 +5,7 @@ use Rattle.std.specs.Prelude.{option_and_then, ◌==◌, if◌then◌else◌, co
 use Rattle.std.specs.Str.{bytes_eq}
 use Rattle.st_core.specs.declared.types.Pid.{Pid}
 use Rattle.st_text.specs.Parsing.{number_in, pid_in}
-use Rattle.node_why.specs.declared.reach.Reach.{Reach}
+use Rattle.node_hops.specs.declared.reach.Reach.{Reach}
 use Rattle.seqtool_commands.specs.declared.complete.Form.{Form}
 use Rattle.seqtool_commands.specs.declared.complete.Form.TheVariants as form
 use Rattle.seqtool_commands.specs.declared.question.Direction.{Direction}

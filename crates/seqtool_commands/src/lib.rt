@@ -12,6 +12,8 @@ pub mod line_laws;
 mod line_numbers;
 mod lines;
 mod parts;
+mod premise;
+mod premise_lines;
 mod program;
 mod question;
 mod renumber;

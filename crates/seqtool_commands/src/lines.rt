@@ -8,7 +8,9 @@ ghost use Rattle.st_text.specs.Spelling as spelled;
 ghost use Rattle.st_chart.specs.Words.{place_words};
 ghost use Rattle.st_chart.specs.Room.{place_room};
 ghost use Rattle.seqtool_commands.specs.Lines.{never_words, words_of, words_room};
+ghost use Rattle.seqtool_commands.specs.WhyWords.{premise_text};
 
+use crate::premise::Premise;
 use lack_decide::Never;
 use st_chart::put_place_after;
 use st_core::Pid;
@@ -34,8 +36,12 @@ pub(crate) enum OutputLine {
     Unlisted(Pid),
     /// There is no event at this place.
     NoEvent(Pid, u64),
-    /// The premises of the lines of `why`.
-    Premises,
+    /// No order of the events has each receive after its send.
+    NoOrder,
+    /// The runs in which the lines of `why` hold.
+    Runs,
+    /// A premise of lines of `why`.
+    Premise(Premise),
     /// How the program is called.
     Usage,
     /// Which version this is.
@@ -79,6 +85,30 @@ fn put_unlisted(buffer: &mut Buffer, pid: Pid)
     put_pid(buffer, pid);
 }
 
+/// Appends the words of a premise.
+fn put_premise(buffer: &mut Buffer, premise: Premise)
+    requires { HasRoom words_room buffer.old }
+    ensures { Puts words_room (premise_text premise) buffer.old buffer.new }
+{
+    match premise {
+        Premise::ReportsTakes => put_bytes(
+            buffer,
+            b"(1) if in between, or before a beginning, its process took no token whose receive \
+                wasn't reported",
+        ),
+        Premise::KeepsCounters => put_bytes(
+            buffer,
+            b"(2) if there it put no token back, and spawned no process",
+        ),
+        Premise::BeginsNothing => {
+            put_bytes(buffer, b"(3) if there it made no token, and set no label");
+        }
+        Premise::ReportsLike => {
+            put_bytes(buffer, b"(4) if each send of such a message was reported");
+        }
+    }
+}
+
 impl TextLine for OutputLine {
     ghost words = { words_of };
 
@@ -95,13 +125,15 @@ impl TextLine for OutputLine {
             OutputLine::Never(pid, index, never) => put_never(buffer, pid, index, never),
             OutputLine::Unlisted(pid) => put_unlisted(buffer, pid),
             OutputLine::NoEvent(pid, index) => put_place_after(buffer, b"no event ", pid, index),
-            OutputLine::Premises => put_bytes(
+            OutputLine::NoOrder => put_bytes(
                 buffer,
-                b"in a run without a reset, if any; (1) if each receive of a token was reported; \
-                    (2) if no process cleared or lost its token, began again and reported an \
-                    earlier label again; on a standard node (2) wherever (1), except behind a \
-                    spawn or a token put back",
+                b"no order of the events has each receive after its send",
             ),
+            OutputLine::Runs => put_bytes(
+                buffer,
+                b"this holds in each run of a standard node without a reset that reports the trace",
+            ),
+            OutputLine::Premise(premise) => put_premise(buffer, premise),
             OutputLine::Usage => put_bytes(
                 buffer,
                 b"usage: seqtool check|audit|renumber [FILE], or complete [--as added|streams|acts] \

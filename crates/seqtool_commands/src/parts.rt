@@ -8,14 +8,15 @@ ghost use Rattle.st_chart.specs.Chart.{item_word};
 ghost use Rattle.st_chart.specs.Room.{item_word_room};
 ghost use Rattle.seqtool_commands.specs.WhyLines.{begins_label_room, claim_room, depth_room};
 ghost use Rattle.seqtool_commands.specs.WhyLines.{had_received_room, located_room, premise_room};
-ghost use Rattle.seqtool_commands.specs.WhyLines.{what_room};
+ghost use Rattle.seqtool_commands.specs.WhyLines.{since_room, what_room};
 ghost use Rattle.seqtool_commands.specs.WhyWords.{begins_label_words, claim_words, depth_words};
 ghost use Rattle.seqtool_commands.specs.WhyWords.{had_received_words, line_number_at};
-ghost use Rattle.seqtool_commands.specs.WhyWords.{located_words, premise_words, what_words};
+ghost use Rattle.seqtool_commands.specs.WhyWords.{located_words, premise_words, since_words};
+ghost use Rattle.seqtool_commands.specs.WhyWords.{what_words};
 
 use crate::line_numbers::LineNumbers;
 use crate::question::Direction;
-use node_why::{Hop, Premises};
+use node_hops::{NodeHop, NodePremises};
 use st_chart::put_place;
 use st_core::{Event, Kind, Label, Pid};
 use st_text::{Buffer, put_bytes, put_number, put_serial};
@@ -113,47 +114,64 @@ fn put_had_received(
     put_number(buffer, u64::from(received.0));
 }
 
+/// Appends since which event of this process: the last one of this number of its events.
+fn put_since(buffer: &mut Buffer, numbers: &LineNumbers, pid: Pid, count: u64)
+    requires { HasRoom since_room buffer.old }
+    ensures { Puts since_room (since_words numbers.now pid count) buffer.old buffer.new }
+{
+    if count == 0 {
+        return;
+    }
+    put_bytes(buffer, b"since ");
+    put_located(buffer, numbers, pid, count - 1);
+    put_bytes(buffer, b", ");
+}
+
 /// Appends what an event of this process with this label follows.
 pub(crate) fn put_claim(
     buffer: &mut Buffer,
     numbers: &LineNumbers,
     pid: Pid,
     label: Label,
-    hop: Hop,
+    hop: NodeHop,
 )
     requires { HasRoom claim_room buffer.old }
     ensures { Puts claim_room (claim_words numbers.now pid label hop) buffer.old buffer.new }
 {
     match hop {
-        Hop::Sent(from, index) => {
+        NodeHop::Sent(from, index) => {
             put_bytes(buffer, b"after ");
             put_located(buffer, numbers, from, index);
         }
-        Hop::Unsent => put_bytes(buffer, b"its send wasn't reported"),
-        Hop::After(index) | Hop::AfterOneLabel(index) => {
+        NodeHop::Unsent => put_bytes(buffer, b"its send wasn't reported"),
+        NodeHop::After(index) => {
             put_bytes(buffer, b"after ");
             put_located(buffer, numbers, pid, index);
         }
-        Hop::OtherLabel(index, received) => {
+        NodeHop::OtherLabel(index, received) => {
             put_begins_label(buffer, label);
             put_had_received(buffer, numbers, pid, index, received);
         }
-        Hop::Begins => put_bytes(buffer, b"begins here"),
-        Hop::BeginsOrUnreported => put_bytes(
-            buffer,
-            b"begins here, or follows a message whose receive wasn't reported",
-        ),
+        NodeHop::Begins => put_bytes(buffer, b"begins here"),
+        NodeHop::Moved(before) => {
+            put_since(buffer, numbers, pid, before);
+            put_bytes(
+                buffer,
+                b"its process took a token whose receive wasn't reported, put one back or spawned",
+            );
+        }
     }
 }
 
 /// Appends the premises that a sentence rests on.
-pub(crate) fn put_premises(buffer: &mut Buffer, premises: Premises)
+pub(crate) fn put_premises(buffer: &mut Buffer, premises: NodePremises)
     requires { HasRoom premise_room buffer.old }
     ensures { Puts premise_room (premise_words premises) buffer.old buffer.new }
 {
     match premises {
-        Premises::Neither => {}
-        Premises::First => put_bytes(buffer, b" (1)"),
-        Premises::Both => put_bytes(buffer, b" (1, 2)"),
+        NodePremises::Nothing => {}
+        NodePremises::KeptCounters => put_bytes(buffer, b" (1, 2)"),
+        NodePremises::KeptToken => put_bytes(buffer, b" (1, 2, 3)"),
+        NodePremises::SendsReported => put_bytes(buffer, b" (4)"),
     }
 }

@@ -1,6 +1,6 @@
 //! The question of `why`: about which event, which way to go from it, and how far.
 
-use node_why::Reach;
+use node_hops::Reach;
 use st_core::Pid;
 
 /// Which way to go from the event.

@@ -10,8 +10,8 @@ ghost use Rattle.seqtool_commands.specs.WhyWords.{head_words, hop_line, hop_word
 use crate::line_numbers::LineNumbers;
 use crate::parts::{put_claim, put_depth, put_located, put_premises, put_what};
 use crate::question::Direction;
-use crate::trace::NumberedOrigins;
-use node_why::{Hop, Node};
+use crate::trace::NumberedHops;
+use node_hops::{Node, NodeHop};
 use st_core::{ByteSink, Event, Label, Pid};
 use st_text::{Buffer, Device, make_room, put_bytes};
 
@@ -36,7 +36,7 @@ fn put_head(
 }
 
 /// Appends what an event of this process with this label follows, with its premises, and a newline.
-fn put_sentence(buffer: &mut Buffer, numbers: &LineNumbers, pid: Pid, label: Label, hop: Hop)
+fn put_sentence(buffer: &mut Buffer, numbers: &LineNumbers, pid: Pid, label: Label, hop: NodeHop)
     requires { HasRoom line_room buffer.old }
     ensures { buffer.new.items ≡ buffer.old.items
         ++ ended_line (hop_words numbers.now pid label hop) }
@@ -51,7 +51,7 @@ fn put_sentence(buffer: &mut Buffer, numbers: &LineNumbers, pid: Pid, label: Lab
 pub(crate) fn write_text<W: ByteSink>(
     writer: &mut W,
     buffer: &mut Buffer,
-    trace: &NumberedOrigins<'_>,
+    trace: &NumberedHops<'_>,
     direction: Direction,
     node: Node,
     event: &Event,

@@ -1,11 +1,10 @@
 //! The command `why`: what caused an event of the streams whose text the input is, or what it
 //! caused. The acts in the input are ignored.
 
-ghost use Rattle.std.specs.Prelude.{◌≡◌, IsSome, None};
+ghost use Rattle.std.specs.Prelude.{◌≡◌, IfOk, IsSome, false, true};
+ghost use Rattle.node_streams.specs.Order.{HaveOrder};
 ghost use Rattle.st_commands.specs.Command.{Owes, Tells, call};
 ghost use Rattle.st_commands.specs.Meaning.{Says};
-ghost use Rattle.st_pair.specs.Links.{IsPairing};
-ghost use Rattle.st_pair.specs.Pairing.{IsPairFault, refusal};
 ghost use Rattle.st_text.specs.Limits.{greater};
 ghost use Rattle.seqtool_commands.specs.WhyMeaning.{MeansTold, MeansUntold};
 ghost use Rattle.seqtool_commands.specs.WhyParts.{AnswersOf};
@@ -13,42 +12,34 @@ ghost use Rattle.seqtool_commands.specs.Why.{IsWhy, event_asked};
 
 use crate::lines::OutputLine;
 use crate::question::Question;
-use crate::trace::NumberedOrigins;
+use crate::trace::NumberedHops;
 use crate::why_answer::{nodes_from, send_answer};
-use node_why::laws::hops_are_true;
-use st_audit::unfit_by;
-use st_commands::{status_of, tell_fault, tell_finding, tell_line};
+use node_hops::laws::hops_are_true;
+use node_streams::judge;
+use node_streams::laws::a_run_has_an_order;
+use st_commands::{status_of, tell_fault, tell_line};
 use st_core::{ByteSink, ByteSource, Streams};
-use st_pair::{PairFault, Pairing, pair};
 use st_text::{Limits, ReadFault, read_within};
-use std::alloc::Global;
+use std::alloc::{AllocError, Global};
 
-/// Writes why streams can't be paired.
-fn tell_unpaired<W: ByteSink>(
-    streams: &Streams,
-    question: Question,
-    fault: PairFault,
-    writer: &mut W,
-) -> u8
-    requires { IsPairFault streams.now fault }
-    ensures { Tells (call W.ByteSink writer.old writer.new)
-        (AnswersOf streams.now question) result }
+/// Whether an order of the events has each receive after its send. Fails only if memory runs out.
+fn has_order(alloc: Global, streams: &Streams) -> Result<bool, AllocError>
+    ensures yes { IfOk result (λ b. b ≡ true → HaveOrder streams.now) }
+    ensures no { IfOk result (λ b. b ≡ false → ¬ (HaveOrder streams.now)) }
 {
-    match unfit_by(fault) {
-        Some(finding) => tell_finding(writer, streams, &finding),
-        None => tell_fault(writer, ReadFault::Memory),
-    }
+    let judgement = judge(alloc, streams)?;
+    Ok(judgement.cycle.is_empty())
 }
 
 /// Writes what is found from an event that is there.
 fn tell_found<W: ByteSink>(
     alloc: Global,
-    trace: &NumberedOrigins<'_>,
+    trace: &NumberedHops<'_>,
     question: Question,
     writer: &mut W,
 ) -> u8
-    requires accepted { refusal trace.now ≡ None }
     requires there { IsSome (event_asked trace.now question) }
+    requires ordered { HaveOrder trace.now }
     ensures { Tells (call W.ByteSink writer.old writer.new)
         (AnswersOf trace.now question) result }
 {
@@ -61,43 +52,43 @@ fn tell_found<W: ByteSink>(
     }
 }
 
-/// Writes what is found, if the event is there.
-fn answer<W: ByteSink>(
-    alloc: Global,
-    trace: &NumberedOrigins<'_>,
-    question: Question,
-    writer: &mut W,
-) -> u8
-    requires { refusal trace.now ≡ None }
-    ensures { Tells (call W.ByteSink writer.old writer.new)
-        (AnswersOf trace.now question) result }
-{
-    let (pid, index) = question.place;
-    match trace.event(pid, index) {
-        Some(_) => tell_found(alloc, trace, question, writer),
-        None => tell_line(writer, OutputLine::NoEvent(pid, index), 1),
-    }
-}
-
-/// Writes what is found in streams that are paired.
-fn answer_paired<W: ByteSink>(
+/// Finds the hops, and writes what is found from an event that is there.
+fn answer_ordered<W: ByteSink>(
     alloc: Global,
     streams: &Streams,
-    pairing: &Pairing,
     question: Question,
     writer: &mut W,
 ) -> u8
-    requires { IsPairing streams.now pairing.now }
+    requires there { IsSome (event_asked streams.now question) }
+    requires ordered { HaveOrder streams.now }
     ensures { Tells (call W.ByteSink writer.old writer.new)
         (AnswersOf streams.now question) result }
 {
-    match NumberedOrigins::new(alloc, streams, pairing) {
-        Ok(trace) => answer(alloc, &trace, question, writer),
+    match NumberedHops::new(alloc, streams) {
+        Ok(trace) => tell_found(alloc, &trace, question, writer),
         Err(_) => tell_fault(writer, ReadFault::Memory),
     }
 }
 
-/// Writes what is found in streams.
+/// Writes what is found from an event that is there, or that hops can go in a circle.
+fn answer_there<W: ByteSink>(
+    alloc: Global,
+    streams: &Streams,
+    question: Question,
+    writer: &mut W,
+) -> u8
+    requires { IsSome (event_asked streams.now question) }
+    ensures { Tells (call W.ByteSink writer.old writer.new)
+        (AnswersOf streams.now question) result }
+{
+    match has_order(alloc, streams) {
+        Ok(true) => answer_ordered(alloc, streams, question, writer),
+        Ok(false) => tell_line(writer, OutputLine::NoOrder, 1),
+        Err(_) => tell_fault(writer, ReadFault::Memory),
+    }
+}
+
+/// Writes what is found in streams, if the event is there.
 fn answer_streams<W: ByteSink>(
     alloc: Global,
     streams: &Streams,
@@ -107,17 +98,18 @@ fn answer_streams<W: ByteSink>(
     ensures { Tells (call W.ByteSink writer.old writer.new)
         (AnswersOf streams.now question) result }
 {
-    match pair(alloc, streams) {
-        Ok(pairing) => answer_paired(alloc, streams, &pairing, question, writer),
-        Err(fault) => tell_unpaired(streams, question, fault, writer),
+    let (pid, index) = question.place;
+    match streams.event(pid, index) {
+        Some(_) => answer_there(alloc, streams, question, writer),
+        None => tell_line(writer, OutputLine::NoEvent(pid, index), 1),
     }
 }
 
 /// Reads a bundle within the greater limits and writes the event that is asked about, what it
 /// follows or what follows it, and so on as far as the reach goes, with what that rests on and
-/// status 0. If there is no such event, or the streams can't be paired, it writes that with status
-/// 1. Faulty input is 2; running out of memory, and a reader or a writer that fails, are 4. Its
-/// time grows as the size of the input does.
+/// status 0. If there is no such event, or no order of the events has each receive after its send,
+/// it writes that with status 1. Faulty input is 2; running out of memory, and a reader or a writer
+/// that fails, are 4. Its time grows as the size of the input does.
 pub fn run_why<R: ByteSource, W: ByteSink>(
     alloc: Global,
     reader: &mut R,
@@ -134,6 +126,7 @@ pub fn run_why<R: ByteSource, W: ByteSink>(
         (call W.ByteSink writer.old writer.new) (MeansUntold question) }
 {
     hops_are_true();
+    a_run_has_an_order();
     match read_within(alloc, reader, Limits::GREATER) {
         Ok(bundle) => answer_streams(alloc, &bundle.streams, question, writer),
         Err(fault) => tell_fault(writer, fault),

@@ -1,31 +1,32 @@
-//! The answer of `why` for an event that is there: a line for each event that is found from it.
+//! The answer of `why` for an event that is there: a line for each event that is found from it, and
+//! what these rest on.
 
-ghost use Rattle.std.specs.Prelude.{◌≡◌, ◌++◌, IfOk};
+ghost use Rattle.std.specs.Prelude.{◌≡◌, IfOk};
 ghost use Rattle.std.specs.List.{flat_map};
 ghost use Rattle.st_text.specs.Writing.{WritesOn, WritesText};
-ghost use Rattle.seqtool_commands.specs.Why.{last_line, node_line, nodes_from};
+ghost use Rattle.seqtool_commands.specs.Why.{answer_lines, node_line, nodes_from};
 
-use crate::lines::OutputLine;
+use crate::premise_lines::write_last_lines;
 use crate::question::{Direction, Question};
 use crate::text::write_text;
-use crate::trace::NumberedOrigins;
-use node_why::{Node, tree, way};
+use crate::trace::NumberedHops;
+use node_hops::{Node, tree, way};
 use st_core::ByteSink;
-use st_text::{Buffer, Device, flush, write_line};
+use st_text::{Buffer, Device, flush};
 use std::alloc::{AllocError, Global};
 
 /// The events that are found from the one that is asked about. Fails only if memory runs out.
 pub(crate) fn nodes_from(
     alloc: Global,
-    trace: &NumberedOrigins<'_>,
+    trace: &NumberedHops<'_>,
     question: Question,
 ) -> Result<Vec<Node>, AllocError>
     ensures { IfOk result (λ v. v.items ≡ nodes_from trace.now question) }
 {
-    let origins = trace.origins();
+    let hops = trace.hops();
     match question.direction {
-        Direction::Back => way(alloc, origins, question.reach, question.place),
-        Direction::Forth => tree(alloc, origins, question.reach, question.place),
+        Direction::Back => way(alloc, hops, question.reach, question.place),
+        Direction::Forth => tree(alloc, hops, question.reach, question.place),
     }
 }
 
@@ -33,7 +34,7 @@ pub(crate) fn nodes_from(
 fn write_node<W: ByteSink>(
     writer: &mut W,
     buffer: &mut Buffer,
-    trace: &NumberedOrigins<'_>,
+    trace: &NumberedHops<'_>,
     question: Question,
     node: Node,
 ) -> Result<(), Device>
@@ -50,7 +51,7 @@ fn write_node<W: ByteSink>(
 fn write_nodes<W: ByteSink>(
     writer: &mut W,
     buffer: &mut Buffer,
-    trace: &NumberedOrigins<'_>,
+    trace: &NumberedHops<'_>,
     question: Question,
     nodes: &[Node],
 ) -> Result<(), Device>
@@ -63,31 +64,29 @@ fn write_nodes<W: ByteSink>(
     Ok(())
 }
 
-/// Writes the lines of these nodes and the last line.
+/// Writes the lines of these nodes and the last lines.
 fn write_answer<W: ByteSink>(
     writer: &mut W,
     buffer: &mut Buffer,
-    trace: &NumberedOrigins<'_>,
+    trace: &NumberedHops<'_>,
     question: Question,
     nodes: &[Node],
 ) -> Result<(), Device>
-    ensures { WritesOn W.puts W.failed
-        (flat_map (node_line trace.now question) nodes.now ++ last_line)
+    ensures { WritesOn W.puts W.failed (answer_lines trace.now question nodes.now)
         writer.old writer.new buffer.old.items buffer.new.items result }
 {
     write_nodes(writer, buffer, trace, question, nodes)?;
-    write_line(writer, buffer, OutputLine::Premises)
+    write_last_lines(writer, buffer, trace, nodes)
 }
 
 /// Writes the whole answer.
 pub(crate) fn send_answer<W: ByteSink>(
     writer: &mut W,
-    trace: &NumberedOrigins<'_>,
+    trace: &NumberedHops<'_>,
     question: Question,
     nodes: &[Node],
 ) -> Result<(), Device>
-    ensures { WritesText W.puts W.failed
-        (flat_map (node_line trace.now question) nodes.now ++ last_line)
+    ensures { WritesText W.puts W.failed (answer_lines trace.now question nodes.now)
         writer.old writer.new result }
 {
     let mut buffer = Buffer::new();

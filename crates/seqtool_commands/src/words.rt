@@ -9,7 +9,7 @@ ghost use Rattle.seqtool_commands.specs.Words.{version_asked, words_behind};
 
 use crate::complete::Form;
 use crate::question::{Direction, Question};
-use node_why::Reach;
+use node_hops::Reach;
 use st_text::{read_number, read_pid};
 use std::convert::AsStr;
 

@@ -2,7 +2,7 @@
 use Rattle.std.proofs.Common.{[]}
 use Rattle.st_text.specs.Spelling.{ended_line}
 use Rattle.st_text.proofs.ForCallers.{goes_then, then_on, on_err, part_longer, goes_buffer}
-use Rattle.node_why.specs.Hops.{hop_of}
+use Rattle.node_hops.specs.Hops.{node_hop_of}
 use Rattle.seqtool_commands.specs.WhyWords.{head_words, hop_line, hop_words}
 use Rattle.seqtool_commands.proofs.text.write_text.Goals as goal
 
@@ -21,7 +21,7 @@ returns-in_err-make_room-2 g c =
     let streams = c.args.trace.now in
     let front = head_words streams c.args.direction x.depth x.place.0 x.place.1 e in
     let rest = ended_line (hop_words streams x.place.0 e.label
-    (hop_of streams x.place.0 x.place.1 e)) in
+    (node_hop_of streams x.place.0 x.place.1 e)) in
     let sink = g.W.ByteSink in
     let begun = goes_then sink.puts sink.failed [] front c.in_ok-make_room.ensures.goes
     (goes_buffer sink.puts sink.failed (rw c.numbers-numbers.ensures at c.put_head.ensures)) in
@@ -36,7 +36,7 @@ returns g c =
     let streams = c.args.trace.now in
     let front = head_words streams c.args.direction x.depth x.place.0 x.place.1 e in
     let rest = ended_line (hop_words streams x.place.0 e.label
-    (hop_of streams x.place.0 x.place.1 e)) in
+    (node_hop_of streams x.place.0 x.place.1 e)) in
     let sink = g.W.ByteSink in
     let begun = goes_then sink.puts sink.failed [] front c.in_ok-make_room.ensures.goes
     (goes_buffer sink.puts sink.failed (rw c.numbers-numbers.ensures at c.put_head.ensures)) in

@@ -20,7 +20,8 @@ returns-in-Ok-clause-found g c =
 
 pub returns-in-Ok-clause-untold : goal.returns-in-Ok-clause-untold
 returns-in-Ok-clause-untold g c =
-    says 1 (λ same. cc) (untold_means c.args.question) (returns-in-Ok-clause-told g c)
+    says 1 (λ same. cc) (untold_means c.a_run_has_an_order.ensures c.args.question)
+    (returns-in-Ok-clause-told g c)
 
 pub returns-in-Err-clause-told : goal.returns-in-Err-clause-told
 returns-in-Err-clause-told g c =
@@ -34,4 +35,5 @@ returns-in-Err-clause-found g c =
 
 pub returns-in-Err-clause-untold : goal.returns-in-Err-clause-untold
 returns-in-Err-clause-untold g c =
-    says 1 (λ same. cc) (untold_means c.args.question) (returns-in-Err-clause-told g c)
+    says 1 (λ same. cc) (untold_means c.a_run_has_an_order.ensures c.args.question)
+    (returns-in-Err-clause-told g c)

@@ -11,7 +11,7 @@ returns-in-Ok g c =
     let out = found c.args.trace.now c.args.question in
     record {
       output = out;
-      owed = OfFound c.requires.accepted c.requires.there;
+      owed = OfFound c.requires.there c.requires.ordered;
       delivered = delivers (call g.W.ByteSink _ _) out c.send_answer-sent.result _
           (rw (c.as_slice.ensures.value, c.in-Ok.ensures) at c.send_answer-sent.ensures)
           c.status_of.ensures;

@@ -1,8 +1,6 @@
 -- All that waits in the buffer is flushed.
-use Rattle.std.proofs.Common.{◌++◌}
-use Rattle.std.specs.List.{flat_map}
 use Rattle.st_text.proofs.ForCallers.{finishes}
-use Rattle.seqtool_commands.specs.Why.{last_line, node_line}
+use Rattle.seqtool_commands.specs.Why.{answer_lines}
 use Rattle.seqtool_commands.proofs.WhyAnswers.{answer_some}
 use Rattle.seqtool_commands.proofs.why_answer.send_answer.Goals as goal
 
@@ -10,7 +8,7 @@ pub returns : goal.returns
 returns g c =
     let q = c.args.question in
     finishes g.W.ByteSink.puts g.W.ByteSink.failed
-    (flat_map (node_line c.args.trace.now q) c.args.nodes.now ++ last_line) _ _
+    (answer_lines c.args.trace.now q c.args.nodes.now) _ _
     c.flush.result (answer_some c.args.trace.now q c.args.nodes.now)
     (rw c.new-buffer.ensures at c.in_ok-write_answer.ensures) c.flush.ensures.goes
     c.flush.ensures.empty
