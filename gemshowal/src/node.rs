@@ -176,19 +176,29 @@ impl NodeTrace {
     }
 }
 
-/// Finds how each event of a process is given, and what its token may have come from, by its events
-/// and by which receives answer a spawn. Returns `None` if a count is none that a serial of a node
-/// shows.
-pub fn origins(
-    events: &[Event],
-    is_answer: impl Fn(u64) -> bool,
-) -> Result<Option<(Vec<Way>, Vec<EventOrigins>)>, OutOfMemory> {
-    let seen = seen(events, is_answer);
-    if !are_shown(&seen) {
-        return Ok(None);
+/// The origins of the tokens of a process.
+#[derive(Debug)]
+pub struct Origins {
+    /// The way in which each event is given.
+    pub ways: Vec<Way>,
+    /// The events that the token of each event may have come from.
+    pub events: Vec<EventOrigins>,
+}
+
+impl Origins {
+    /// Finds them by the events of the process, and by which receives answer a spawn. Returns
+    /// `None` if a count is none that a serial of a node shows.
+    pub fn of(
+        events: &[Event],
+        is_answer: impl Fn(u64) -> bool,
+    ) -> Result<Option<Origins>, OutOfMemory> {
+        let seen = seen(events, is_answer);
+        if !are_shown(&seen) {
+            return Ok(None);
+        }
+        let events = node_origins::origins(Global, &seen)?.as_slice().to_vec();
+        Ok(Some(Origins { ways: given(&seen)?, events }))
     }
-    let origins = node_origins::origins(Global, &seen)?.as_slice().to_vec();
-    Ok(Some((given(&seen)?, origins)))
 }
 
 fn seen(events: &[Event], is_answer: impl Fn(u64) -> bool) -> Vec<Seen> {

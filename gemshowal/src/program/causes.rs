@@ -11,8 +11,8 @@ use crate::names::Names;
 use crate::reason::paired;
 use crate::view::{Kept, Place, Shown, View};
 use crate::Failure;
-use gemshowal::{origins, Answer, Event, EventOrigins, Item, Kind, Never, NodeHop, NodeHops};
-use gemshowal::{NodePremises, OutOfMemory, Paired, Partner, Pid, StampOrigin, Trace, Way};
+use gemshowal::{Answer, Event, EventOrigins, Item, Kind, Never, NodeHop, NodeHops, NodePremises};
+use gemshowal::{Origins, OutOfMemory, Paired, Partner, Pid, StampOrigin, Trace, Way};
 use std::borrow::Cow;
 use std::collections::{HashMap, HashSet};
 
@@ -148,7 +148,8 @@ impl Links {
         let mut found = Links { links: HashMap::new(), are_closed: true };
         for (pid, events) in trace.processes() {
             let is_answer = |index| is_answer((pid, index));
-            let mut tokens = Tokens { origins: origins(events, is_answer)?, ..Tokens::default() };
+            let origins = Origins::of(events, is_answer)?;
+            let mut tokens = Tokens { origins, last: None, is_put_back: false };
             let link = |(event, index): (&Event, u64)| {
                 let place = (pid, index);
                 let hop = hops.hop(place, event);
@@ -173,10 +174,8 @@ impl Links {
 }
 
 /// The tokens of one process, as far as they are known.
-#[derive(Default)]
 struct Tokens {
-    /// For each event what gives it, and what its token may have come from, if that was asked.
-    origins: Option<(Vec<Way>, Vec<EventOrigins>)>,
+    origins: Option<Origins>,
     /// The receive that took a token last.
     last: Option<Item>,
     /// Tells whether a token was put back since, as counts show.
@@ -186,7 +185,7 @@ struct Tokens {
 impl Tokens {
     fn note(&mut self, (pid, index): Place, kind: Kind, is_answer: bool) {
         if kind != Kind::Receive {
-            let way = self.origins.as_ref().and_then(|(ways, _)| ways.get(index as usize));
+            let way = self.origins.as_ref().and_then(|it| it.ways.get(index as usize));
             self.is_put_back |= matches!(way, Some(Way::PutBack(_)));
         } else if !is_answer {
             self.last = Some(Item::Reported(pid, index));
@@ -204,13 +203,13 @@ impl Tokens {
 
     /// Returns the cause of a send or print, if the tokens that its process had tell it.
     fn cause(&self, (pid, index): Place) -> Option<Cause> {
-        let (ways, origins) = self.origins.as_ref()?;
+        let origins = self.origins.as_ref()?;
         let receive = |origin| match origin {
             StampOrigin::Home => None,
             StampOrigin::Follows(index) => Some(Item::Reported(pid, index as u64)),
         };
-        match *origins.get(index as usize)? {
-            _ if ways.get(index as usize) == Some(&Way::Ungiven) => None,
+        match *origins.events.get(index as usize)? {
+            _ if origins.ways.get(index as usize) == Some(&Way::Ungiven) => None,
             EventOrigins::Receive | EventOrigins::Unknown => None,
             EventOrigins::One(origin) => {
                 Some(receive(origin).map_or(Cause::Begins(self.last), Cause::After))
