@@ -1,9 +1,0 @@
--- The places so far with the way on from the next one come to the whole way.
-use Rattle.std.proofs.Common.{◌≡◌, ◌++◌, ◌-◌, Some}
-use Rattle.node_why.specs.Way.{way}
-use Rattle.node_why.proofs.back.way.Given as goal
-
-abbrev pub invariant-loop-depth : goal.invariant-loop-depth
-invariant-loop-depth l =
-    l.list.items ++ way l.origins l.reach.across (l.reach.most - l.depth) l.depth l.at
-    ≡ way l.origins l.reach.across l.reach.most 0 (Some l.fn.place)
