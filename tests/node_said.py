@@ -1,0 +1,322 @@
+#!/usr/bin/env python3
+"""Holds what `gemshowal why` says to all runs of small streams: tests/node_said.py GEMSHOWAL [STREAMS [SEED]]
+
+A run is searched for each way in which a process of a standard node can have reported a few events, with whatever
+processes that report nothing. Counted is what is true in all of them, and how much of it `why` says as a fact; what it
+says may be false in no run in which the premises hold that it names."""
+import itertools
+import json
+import random
+import re
+import subprocess
+import sys
+import tempfile
+from collections import Counter, defaultdict, namedtuple
+from concurrent.futures import ThreadPoolExecutor
+from pathlib import Path
+
+MOST_STATES = 20_000
+MOST_UNSAID = 0.05  # Of what is true in all runs.
+HOME, LOST = "home", "lost"
+
+# kind: print or receive. The messages that a process receives come from one that reports nothing.
+Event = namedtuple("Event", "kind label prev this")
+# Its origin is the index of the receive that brought it, or HOME, or LOST.
+Token = namedtuple("Token", "label prev this origin")
+State = namedtuple("State", "done clock last token held")
+# What a process may do beside its events: put tokens back, set these labels before its next event, print and receive
+# unreported, and before which events it may receive so.
+Rules = namedtuple("Rules", "puts_back labels prints receives")
+START = State(0, 0, 0, None, frozenset())
+
+
+# THE RUNS
+
+
+def steps(state, events, rules):
+    """The states that one act leads to, each with the stamp that it reports, if it does."""
+    done, clock, last, token, held = state
+    top = max(event.this for event in events)
+
+    def after(token, clock=clock, last=last, done=done, stamp=None):
+        return State(done, clock, last, token, held | {token} if token and rules.puts_back else held), stamp
+
+    if token:
+        yield after(None)
+    for label in rules.labels(done):
+        yield after(token._replace(label=label, origin=HOME) if token else Token(label, last, 0, HOME))
+    for old in held:
+        yield after(old, old.this, old.prev)
+    if rules.prints and token and clock < top:
+        yield after(token._replace(prev=last, this=clock + 1), clock + 1)
+    if rules.receives(done):
+        for this in range(1, top + 1):
+            yield after(Token(events[0].label, 0, this, LOST), max(clock, this), this)
+    event = events[done]
+    if event.kind == "receive":
+        yield after(Token(event.label, event.prev, event.this, done), max(clock, event.this), event.this, done + 1)
+    elif token and (token.label, last, clock + 1) == event[1:]:
+        yield after(token._replace(prev=last, this=clock + 1), clock + 1, last, done + 1, (done, token.origin))
+
+
+def runs(events, rules, starts=(START,)):
+    """The origins that each stamp has in some run through all the events, None if that are too many states."""
+    edges, seen, waiting = defaultdict(list), set(starts), list(starts)
+    while waiting:
+        state = waiting.pop()
+        if state.done == len(events):
+            continue
+        for after, stamp in steps(state, events, rules):
+            edges[after].append((state, stamp))
+            if after not in seen:
+                seen.add(after)
+                waiting.append(after)
+        if len(seen) > MOST_STATES:
+            return None
+    origins, waiting = defaultdict(set), [state for state in seen if state.done == len(events)]
+    is_possible, good = bool(waiting), set(waiting)
+    while waiting:
+        for before, stamp in edges[waiting.pop()]:
+            if stamp:
+                origins[stamp[0]].add(stamp[1])
+            if before not in good:
+                good.add(before)
+                waiting.append(before)
+    return dict(origins) if is_possible else {}
+
+
+def own_labels(events):
+    """The labels that a process may set before an event: new ones, with which it prints before it receives them."""
+    def labels(done):
+        rest, had = events[done:], {event.label for event in events[:done]}
+        firsts = {event.label: event.kind for event in reversed(rest)}
+        return [label for label, kind in firsts.items() if kind == "print" and label not in had]
+    return labels
+
+
+def never(_):
+    return False
+
+
+def whole_reports(events):
+    """The origins in all runs in which the process reported all, and put back and set what was its own."""
+    return runs(events, Rules(True, own_labels(events), False, never))
+
+
+def without_lost(events, gap):
+    """Whether a run without put-backs loses no receive before this event."""
+    labels = {event.label for event in events}
+    return bool(runs(events, Rules(False, lambda _: labels, True, lambda done: done != gap)))
+
+
+def stretch(events, begin, i, may_set):
+    """The origins of a print in all runs that lose no receive and put nothing back since the event before `begin`."""
+    part, top = events[begin:i + 1], max(event.this for event in events)
+    starts = [START]
+    if begin:
+        before = events[begin - 1]
+        token = Token(before.label, before.prev, before.this, begin - 1)
+        is_receive = before.kind == "receive"
+        clocks = range(before.this, top + 1) if is_receive else [before.this]
+        last = before.this if is_receive else before.prev
+        starts = [State(0, clock, last, token, frozenset()) for clock in clocks]
+    labels = {event.label for event in part} if may_set else ()
+    found = runs(part, Rules(False, lambda _: labels, True, never), starts)
+    return found.get(len(part) - 1, set())
+
+
+# THE STREAMS
+
+
+def stream(rng):
+    """The events that a process reports of random acts, some unreported, and whether it reported all."""
+    events, token, clock, last, saved, is_whole = [], None, 0, 0, [], rng.random() < 0.5
+    labels, set_before = itertools.count(2), [1]
+    while len(events) < 5:
+        chance, is_told = rng.random(), is_whole or rng.random() < 0.7
+        if chance < 0.3:
+            prev = rng.choice([0, 0, 1, 2])
+            token = Token(rng.choice(set_before), prev, prev + rng.choice([1, 1, 2]), None)
+            clock, last = max(clock, token.this), token.this
+            events += [Event("receive", *token[:3])] * is_told
+        elif chance < 0.65 and token:
+            clock, token = clock + 1, token._replace(prev=last, this=clock + 1)
+            events += [Event("print", *token[:3])] * is_told
+        elif chance < 0.75 and saved:
+            token = rng.choice(saved)
+            clock, last = token.this, token.prev
+        elif chance < 0.85:
+            token = None
+        else:
+            label = rng.choice([next(labels), rng.choice(set_before)])
+            set_before.append(label)
+            token = token._replace(label=label) if token else Token(label, last, 0, None)
+        saved += [token] if token and rng.random() < 0.4 else []
+    return events[:rng.choice([2, 3, 4, 4, 5])]
+
+
+def messages(rng):
+    """What two processes report of sends and receives, of which some are alike."""
+    streams, queue = {0: [], 1: []}, []
+    for _ in range(rng.randint(4, 8)):
+        is_receive = bool(queue) and rng.random() < 0.5
+        content = queue.pop(rng.randrange(len(queue))) if is_receive else tuple(rng.randrange(2) for _ in range(3))
+        if not is_receive:
+            queue.append(content)
+        if rng.random() < 0.75:
+            streams[content[is_receive]].append(("receive" if is_receive else "send", *content))
+    return streams
+
+
+def may_be_reported(streams, pid, i):
+    """Whether the send of a receive may have been reported: in some order that many alike ones came before."""
+    content = streams[pid][i][1:]
+    received = sum(it == ("receive", *content) for it in streams[pid][:i + 1])
+    before = [it for other, events in streams.items() for it in (events[:i] if other == pid else events)]
+    return sum(it == ("send", *content) for it in before) >= received
+
+
+# WHAT IS SAID
+
+# What `why` says of an event: after, begins, other_label, several, moved, unsent or perhaps; the index that it names,
+# two of several; and its premises.
+Said = namedtuple("Said", "cause named premises")
+SINCE = re.compile(r"isn't known: (?:before it|since \S+#(\d+)) ")
+EITHER = re.compile(r"(?:follows \S+#(\d+)|begins this chain) or (?:follows \S+#(\d+)|begins this chain), as both")
+
+
+def text_of(streams):
+    lines = ["seqtrace 1", "process <0.1.0>"]
+    for n, events in enumerate(streams):
+        lines.append(f"process <0.{n + 2}.0>")
+        for i, it in enumerate(events):
+            kind, ends = ("print", f"<0.{n + 2}.0>,[]") if it.kind == "print" else ("'receive'", f"<0.1.0>,<0.{n + 2}.0>")
+            lines.append(f"{{seq_trace,{it.label},{{{kind},{{{it.prev},{it.this}}},{ends},{1000 * n + i}}}}}")
+    return "\n".join(lines) + "\n"
+
+
+def text_of_messages(batch):
+    lines = ["seqtrace 1"]
+    for n, streams in enumerate(batch):
+        for pid, events in streams.items():
+            lines.append(f"process <0.{2 * n + pid + 2}.0>")
+            for kind, sender, to, value in events:
+                word = "'receive'" if kind == "receive" else kind
+                ends = f"<0.{2 * n + sender + 2}.0>,<0.{2 * n + to + 2}.0>"
+                lines.append(f"{{seq_trace,1,{{{word},{{0,1}},{ends},{value}}}}}")
+    return "\n".join(lines) + "\n"
+
+
+class Program:
+    def __init__(self, path, text):
+        self.path, self.folder = path, tempfile.TemporaryDirectory()
+        self.file = Path(self.folder.name, "said.seqtrace")
+        self.file.write_text(text)
+
+    def why(self, place, *words):
+        words = [self.path, "why", *words, self.file, place]
+        return subprocess.run(words, capture_output=True, text=True, check=False).stdout
+
+    def said(self, place):
+        link = json.loads(self.why(place, "--json"))["events"][0]
+        cause, after, named = link["cause"], link["after"], None
+        if link["grade"] == "perhaps":
+            return Said("perhaps", None, [])
+        if cause == "unsent" or after and after.startswith("the send of "):
+            return Said("unsent", None, [])
+        if after:
+            named = int(after.rsplit("#")[-1])
+        elif cause == "several":
+            named = [int(it) if it else HOME for it in EITHER.search(self.why(place)).groups()]
+        elif cause == "moved":
+            since = SINCE.search(self.why(place))[1]
+            named = int(since) + 1 if since else 0
+        return Said(cause, named, link["premises"])
+
+    def all_said(self, places):
+        with ThreadPoolExecutor() as threads:
+            return dict(zip(places, threads.map(self.said, places)))
+
+
+# THE COMPARISON
+
+
+def is_false(said, events, i, whole):
+    """Whether the sentence about a print is false in some run in which its premises hold."""
+    claimed = said.named if said.cause == "after" else HOME
+    if said.cause == "perhaps":
+        return False
+    if said.cause == "several":
+        return bool(whole) and not whole[i] <= set(said.named)
+    if said.cause == "moved":
+        return bool(stretch(events, said.named, i, may_set=True))
+    if 5 in said.premises:
+        return bool(whole) and not whole[i] <= {claimed}
+    begin = 0 if said.named is None else said.named + 1
+    return not stretch(events, begin, i, may_set=3 not in said.premises) <= {claimed}
+
+
+def compare(events, said, counted):
+    """Counts what is true of a stream in all runs, and what of it is said; returns the places of false sentences."""
+    whole, false = whole_reports(events), []
+    if whole is None:
+        counted["streams too large"] += 1
+        return []
+    is_fitting = without_lost(events, None)
+    for i, event in enumerate(events):
+        if is_fitting and not without_lost(events, i):
+            counted["a receive was lost here"] += 1
+            counted["a receive was lost here, said"] += said[i].cause == "moved" and said[i].named == i
+            counted["a receive was lost here, said with perhaps"] += said[i].cause == "perhaps"
+            counted["a receive was lost here, or a token put back, which is said"] += 5 in said[i].premises
+        if event.kind != "print":
+            continue
+        false += [i] * is_false(said[i], events, i, whole)
+        if whole and len(whole[i]) == 1:
+            counted["one origin"] += 1
+            counted["one origin, said"] += said[i].cause in ("after", "begins", "other_label")
+            counted["one origin, several said"] += said[i].cause == "several"
+        elif whole:
+            counted["more than one origin"] += 1
+    return false
+
+
+def compare_messages(batch, said, counted):
+    """Counts the sends that nobody can have reported; returns the receives of which that is falsely said."""
+    false = []
+    for place, (streams, pid, i) in batch.items():
+        is_unsent = said[place].cause == "unsent"
+        if may_be_reported(streams, pid, i):
+            false += [(streams, pid, i)] * is_unsent
+            continue
+        _, sender, to, _ = streams[pid][i]
+        which = "a send to itself" if sender == to else "a send"
+        counted[f"{which} wasn't reported"] += 1
+        counted[f"{which} wasn't reported, said"] += is_unsent
+    return false
+
+
+def main():
+    number, seed = (int(it) for it in (sys.argv[2:] + ["60", "1"][len(sys.argv) - 2:])[:2])
+    rng, counted, false = random.Random(seed), Counter(), []
+    streams = [events for events in (stream(rng) for _ in range(number)) if events]
+    program = Program(sys.argv[1], text_of(streams))
+    said = program.all_said([f"<0.{n + 2}.0>#{i}" for n, events in enumerate(streams) for i in range(len(events))])
+    for n, events in enumerate(streams):
+        own = [said[f"<0.{n + 2}.0>#{i}"] for i in range(len(events))]
+        false += [(events, i, own[i]) for i in compare(events, own, counted)]
+    batch = [messages(rng) for _ in range(number)]
+    program = Program(sys.argv[1], text_of_messages(batch))
+    receives = {f"<0.{2 * n + pid + 2}.0>#{i}": (streams, pid, i) for n, streams in enumerate(batch)
+                for pid, events in streams.items() for i, event in enumerate(events) if event[0] == "receive"}
+    false += compare_messages(receives, program.all_said(list(receives)), counted)
+    for it in false[:20]:
+        print("false:", it)
+    for what, count in sorted(counted.items()):
+        print(f"{count:7} {what}")
+    is_little = any(counted[f"{what}, said"] < (1 - MOST_UNSAID) * counted[what] for what in ("one origin", "a send wasn't reported"))
+    return bool(false) or is_little or not counted["one origin"]
+
+
+if __name__ == "__main__":
+    sys.exit(main())
