@@ -115,7 +115,5 @@ shell(Release, Words) ->
 %% A node of another release that has no compiler gets the modules as they are, and the command says
 %% so if it can't load them.
 without_compiler_test() ->
-    here = seqaudit_load:from(node(), erlang:system_info(otp_release)),
-    compiled = seqaudit_load:from(node(), "another"),
     Said = seqaudit_trace:format_error({node, a@h, {load_elsewhere, seqaudit_collector, badfile}}),
     true = string:find(Said, "no compiler; run the command with that node's release") =/= nomatch.

@@ -7,7 +7,7 @@
 %% application itself keeps it.
 -module(seqaudit_load).
 
--export([on/2, from/2, kept/2]).
+-export([on/2, kept/2]).
 
 -import(seqaudit_errors, [text/2]).
 
@@ -26,8 +26,7 @@ on(Node, Modules) ->
         throw:Reason -> {error, Reason}
     end.
 
-%% @doc Whether modules for this node are those that run here, or it compiles them.
--spec from(node(), Release :: string()) -> here | compiled | other_release.
+%% Whether modules for this node are those that run here, or it compiles them.
 from(Node, Release) ->
     case Release =:= erlang:system_info(otp_release) of
         true -> here;
