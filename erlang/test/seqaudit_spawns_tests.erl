@@ -3,7 +3,8 @@
 -module(seqaudit_spawns_tests).
 
 -export([requests_are_whole_test_/0, births_come_first_test/0, only_births_move_test/0,
-         answers_test/0, signs_test/0, children_that_spawn_test_/0, exit_test_/0]).
+         answers_test/0, signs_test/0, children_that_spawn_test_/0, exit_test_/0,
+         small_again_test_/0]).
 
 %% Each request runs in a process of its own, calls the server, waits for a task that calls it, and
 %% calls it again: 21 events with its print. Nothing is left out, by either tracer, whatever the
@@ -79,6 +80,36 @@ linked() ->
     Monitor = monitor(process, Child),
     Child ! go_on,
     receive {'DOWN', Monitor, process, Child, normal} -> ok end.
+
+%% A server whose clock has passed 2^60 shows small counts again, below those that it receives. Its
+%% text needs no version 3, and the laws of a node know where its counter goes on from.
+small_again_test_() ->
+    {timeout, 60, fun() ->
+        Name = seqaudit_audits:file("small_again"),
+        Server = spawn(fun() -> raised(), seqaudit_test_services:answer() end),
+        ok = seqaudit_trace:start(#{name => Name}),
+        seqaudit_trace:with_trace(2, fun() ->
+            [seq_trace:print(N) || N <- lists:seq(1, 100)],
+            Server ! {self(), ask},
+            receive {Server, answer} -> ok end
+        end),
+        {ok, #{events := 104, dropped := 0}} = seqaudit_trace:stop(),
+        exit(Server, kill),
+        {ok, <<"seqtrace 1\n", Text/binary>>} = file:read_file(Name ++ ".seqtrace"),
+        {_, _} = binary:match(Text, <<",{send,{101,16},">>),
+        seqaudit_audits:with_gemshowal("small counts again", fun(_) ->
+            ok = file:write_file(Name ++ ".seqtrace", ["seqtrace 3\n", Text]),
+            {0, Said} = seqaudit_audits:gemshowal(["audit", Name]),
+            {0, _} = binary:match(Said, <<"fits: 104 events of 2 processes; the counter">>)
+        end)
+    end}.
+
+%% The answer of a spawn makes the clock 2^60 + 15.
+raised() ->
+    seq_trace:set_token(label, 1),
+    seq_trace:set_token(serial, {0, (1 bsl 56) - 2}),
+    spawn(fun() -> ok end),
+    seq_trace:set_token([]).
 
 %% The receive of the request and the send of the reply go first, wherever they came.
 births_come_first_test() ->
