@@ -138,6 +138,10 @@ impl NodeTrace {
             let first = ways.iter().position(|&way| way != Way::Receive);
             let Some(first) = first.filter(|&at| ways[at] == Way::Ungiven) else { continue };
             let seen = self.seen(pid, self.trace.streams().events(pid));
+            // A count of 0 comes after the greatest one.
+            if seen[first].serial.this == 0 && !self.is_wrapped {
+                continue;
+            }
             // Counters that haven't wrapped have no bits that a serial hides.
             let uppers = if self.is_wrapped { UPPERS } else { 0..1 };
             let given = given_from_before(&seen, first, uppers)?;

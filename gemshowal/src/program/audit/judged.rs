@@ -76,8 +76,12 @@ impl Judged {
         let mut earlier = Vec::new();
         for (pid, first, ways) in from_before {
             earlier.push((pid, first));
-            if let Ok(at) = finding.ways.binary_search_by_key(&pid, |it| it.0) {
-                finding.ways[at].1 = ways;
+            let own = finding.ways.binary_search_by_key(&pid, |it| it.0);
+            match own.map(|at| &mut finding.ways[at].1) {
+                Ok(own) if trace.is_wrapped() => *own = ways,
+                // A token from before the trace explains nothing later.
+                Ok(own) => own[first as usize] = Way::Plain,
+                Err(_) => {}
             }
         }
         Ok(Judged {
