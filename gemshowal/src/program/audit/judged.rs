@@ -96,8 +96,8 @@ impl Judged {
         })
     }
 
-    /// Judges a trace of which the manual's machine has no run. If a kind of events wasn't reported,
-    /// a run is looked for that has such events.
+    /// Judges a trace of which the manual's machine has no run. If it has no sends, no receives or
+    /// no prints, a run is looked for that has such events.
     pub(super) fn partial(trace: &NodeTrace, names: &Names) -> Result<Judged, Failure> {
         let mut judged = Judged::of(trace, names)?;
         let lacks = |kind| trace.events(kind).next().is_none();
