@@ -139,6 +139,8 @@ TOLD = (
     ("a print that no token gives", (OTHER, "0"), spawn([], [], [line("print", 1, 3, OTHER)]),
      ["what <0.32.0>#0 follows isn't known: before it <0.32.0> took a token whose receive wasn't reported, put one back or "
       "spawned a process\n"]),
+    ("a print behind one that no token gives", (OTHER, "1"), spawn([], [], [line("print", 1, 3, OTHER), line("print", 1, 4, OTHER)]),
+     ["what <0.32.0>#1 follows isn't known: before it <0.32.0> took a token"]),
     ("a print behind a receive of another count", (CHILD, "1"), trace([], [BORN, line("print", 7, 9, CHILD)], []),
      ["what <0.31.0>#1 follows isn't known: since <0.31.0>#0 <0.31.0> took a token"]),
     ("a token that was put back, as its count shows", (PARENT, "2"), trace([REQUEST, line("send", 0, 2), line("print", 0, 1)], [], []),

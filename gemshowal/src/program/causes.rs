@@ -149,7 +149,7 @@ impl Links {
         for (pid, events) in trace.processes() {
             let is_answer = |index| is_answer((pid, index));
             let origins = Origins::of(events, is_answer)?;
-            let mut tokens = Tokens { origins, last: None, is_put_back: false };
+            let mut tokens = Tokens { origins, last: None, is_put_back: false, is_lost: false };
             let link = |(event, index): (&Event, u64)| {
                 let place = (pid, index);
                 let hop = hops.hop(place, event);
@@ -180,6 +180,8 @@ struct Tokens {
     last: Option<Item>,
     /// Tells whether a token was put back since, as counts show.
     is_put_back: bool,
+    /// Tells whether something else gave a token since: no run then meets the premises of origins.
+    is_lost: bool,
 }
 
 impl Tokens {
@@ -187,9 +189,10 @@ impl Tokens {
         if kind != Kind::Receive {
             let way = self.origins.as_ref().and_then(|it| it.ways.get(index as usize));
             self.is_put_back |= matches!(way, Some(Way::PutBack(_)));
+            self.is_lost |= way == Some(&Way::Ungiven);
         } else if !is_answer {
             self.last = Some(Item::Reported(pid, index));
-            self.is_put_back = false;
+            (self.is_put_back, self.is_lost) = (false, false);
         }
     }
 
@@ -203,13 +206,12 @@ impl Tokens {
 
     /// Returns the cause of a send or print, if the tokens that its process had tell it.
     fn cause(&self, (pid, index): Place) -> Option<Cause> {
-        let origins = self.origins.as_ref()?;
+        let origins = self.origins.as_ref().filter(|_| !self.is_lost)?;
         let receive = |origin| match origin {
             StampOrigin::Home => None,
             StampOrigin::Follows(index) => Some(Item::Reported(pid, index as u64)),
         };
         match *origins.events.get(index as usize)? {
-            _ if origins.ways.get(index as usize) == Some(&Way::Ungiven) => None,
             EventOrigins::Receive | EventOrigins::Unknown => None,
             EventOrigins::One(origin) => {
                 Some(receive(origin).map_or(Cause::Begins(self.last), Cause::After))
