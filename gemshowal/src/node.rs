@@ -124,6 +124,13 @@ impl NodeTrace {
         })
     }
 
+    /// Returns whether each receive has its send, and the events have an order in which it comes
+    /// after that.
+    pub fn is_ordered(&self) -> Result<bool, OutOfMemory> {
+        let judgement = node_streams::judge(Global, self.trace.streams())?;
+        Ok(judgement.unsent.is_empty() && judgement.cycle.is_empty())
+    }
+
     /// Finds the processes whose first send or print is ungiven, unless their counters go on from
     /// before the trace: its index, and the way in which each event is given then. One that was
     /// spawned in the trace isn't among them.
@@ -191,17 +198,22 @@ pub struct Origins {
 
 impl Origins {
     /// Finds them by the events of the process, and by which receives answer a spawn. Returns
-    /// `None` if a count is none that a serial of a node shows.
+    /// `None` if a count is none that a serial of a node shows, or if the ways need no origins.
     pub fn of(
         events: &[Event],
         is_answer: impl Fn(u64) -> bool,
+        are_needed: impl FnOnce(&[Way]) -> bool,
     ) -> Result<Option<Origins>, OutOfMemory> {
         let seen = seen(events, is_answer);
         if !are_shown(&seen) {
             return Ok(None);
         }
+        let ways = given(&seen)?;
+        if !are_needed(&ways) {
+            return Ok(None);
+        }
         let events = node_origins::origins(Global, &seen)?.as_slice().to_vec();
-        Ok(Some(Origins { ways: given(&seen)?, events }))
+        Ok(Some(Origins { ways, events }))
     }
 }
 

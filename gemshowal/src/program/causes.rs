@@ -147,18 +147,14 @@ impl Links {
         let hops = NodeHops::of(trace.streams())?;
         let mut found = Links { links: HashMap::new(), are_closed: true };
         for (pid, events) in trace.processes() {
-            let is_answer = |index| is_answer((pid, index));
-            let origins = Origins::of(events, is_answer)?;
-            let mut tokens = Tokens { origins, last: None, is_put_back: false, is_lost: false };
             let link = |(event, index): (&Event, u64)| {
-                let place = (pid, index);
-                let hop = hops.hop(place, event);
-                let own = Link { cause: Cause::of(hop, place), grade: Grade::of(hop) };
-                found.are_closed &= !own.cause.is_open();
-                tokens.note(place, event.kind, is_answer(index));
-                tokens.link(place, own)
+                let hop = hops.hop((pid, index), event);
+                Link { cause: Cause::of(hop, (pid, index)), grade: Grade::of(hop) }
             };
-            found.links.insert(pid, events.iter().zip(0..).map(link).collect());
+            let mut links: Vec<Link> = events.iter().zip(0..).map(link).collect();
+            found.are_closed &= !links.iter().any(|link| link.cause.is_open());
+            Tokens::refine(pid, events, |index| is_answer((pid, index)), &mut links)?;
+            found.links.insert(pid, links);
         }
         Ok(found)
     }
@@ -175,7 +171,7 @@ impl Links {
 
 /// The tokens of one process, as far as they are known.
 struct Tokens {
-    origins: Option<Origins>,
+    origins: Origins,
     /// The receive that took a token last.
     last: Option<Item>,
     /// Tells whether a token was put back since, as counts show.
@@ -185,9 +181,28 @@ struct Tokens {
 }
 
 impl Tokens {
+    /// Replaces the links of events that the tokens of their process tell more of.
+    fn refine(
+        pid: Pid,
+        events: &[Event],
+        is_answer: impl Fn(u64) -> bool,
+        links: &mut [Link],
+    ) -> Result<(), OutOfMemory> {
+        let is_moved = links.iter().any(|link| matches!(link.cause, Cause::Moved(_)));
+        let is_put_back = |ways: &[Way]| ways.iter().any(|way| matches!(way, Way::PutBack(_)));
+        let are_needed = |ways: &[Way]| is_moved || is_put_back(ways);
+        let Some(origins) = Origins::of(events, &is_answer, are_needed)? else { return Ok(()) };
+        let mut tokens = Tokens { origins, last: None, is_put_back: false, is_lost: false };
+        for ((event, link), index) in events.iter().zip(links).zip(0..) {
+            tokens.note((pid, index), event.kind, is_answer(index));
+            *link = tokens.link((pid, index), *link);
+        }
+        Ok(())
+    }
+
     fn note(&mut self, (pid, index): Place, kind: Kind, is_answer: bool) {
         if kind != Kind::Receive {
-            let way = self.origins.as_ref().and_then(|it| it.ways.get(index as usize));
+            let way = self.origins.ways.get(index as usize);
             self.is_put_back |= matches!(way, Some(Way::PutBack(_)));
             self.is_lost |= way == Some(&Way::Ungiven);
         } else if !is_answer {
@@ -206,12 +221,12 @@ impl Tokens {
 
     /// Returns the cause of a send or print, if the tokens that its process had tell it.
     fn cause(&self, (pid, index): Place) -> Option<Cause> {
-        let origins = self.origins.as_ref().filter(|_| !self.is_lost)?;
         let receive = |origin| match origin {
             StampOrigin::Home => None,
             StampOrigin::Follows(index) => Some(Item::Reported(pid, index as u64)),
         };
-        match *origins.events.get(index as usize)? {
+        match *self.origins.events.get(index as usize)? {
+            _ if self.is_lost => None,
             EventOrigins::Receive | EventOrigins::Unknown => None,
             EventOrigins::One(origin) => {
                 Some(receive(origin).map_or(Cause::Begins(self.last), Cause::After))

@@ -20,7 +20,9 @@ pub(crate) fn run(args: &Why, task: Task<'_>) -> Result<Status, Failure> {
     let Task { json, input, out, notes } = task;
     let (trace, names) = input.read_node(notes)?;
     let place = names.find_event(trace.trace(), &args.event)?;
-    let (headline, is_never) = headline_of_node(&trace, &names)?;
+    let is_headed = json || !trace.is_ordered()?;
+    let (headline, is_never) =
+        if is_headed { headline_of_node(&trace, &names)? } else { (String::new(), false) };
     let links = Links::of(trace.trace(), |place| trace.is_answer(place))?;
     let view = View::whole(trace.trace(), &names);
     let mut write = |causes: &Causes<'_>, headline: &str| {
