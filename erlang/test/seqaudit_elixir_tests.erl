@@ -1,7 +1,7 @@
-%% Mix takes the application as a dependency.
+%% Mix takes the application as a dependency, and gemshowal writes terms as Elixir does.
 -module(seqaudit_elixir_tests).
 
--export([mix_test_/0]).
+-export([mix_test_/0, inspect_test_/0]).
 
 %% A program of Elixir that has the application as a dependency by path traces itself, mix converts
 %% what came, and gemshowal shows it as Elixir writes terms.
@@ -32,9 +32,35 @@ mix(Mix, Folder) ->
     seqaudit_audits:with_gemshowal("mix: the chart", fun(_) ->
         {0, Chart} = seqaudit_audits:gemshowal(["chart", Name, "--label", "{Shop,7}"]),
         {match, _} = re:run(Chart, "lane [12] Shop\n"),
-        {_, _} = binary:match(Chart, <<" call %Shop.Order{item: \"apple\",n: 3}  it begins this chain (1, 2)\n">>),
-        {_, _} = binary:match(Chart, <<" reply {:ok,3,\"sold\",nil}  it follows Shop#0 (1, 2, 3)\n">>)
+        {_, _} = binary:match(Chart, <<" call %Shop.Order{item: \"apple\", n: 3}  it begins this chain (1, 2)\n">>),
+        {_, _} = binary:match(Chart, <<" reply {:ok, 3, \"sold\", nil}  it follows Shop#0 (1, 2, 3)\n">>)
     end).
+
+%% Each of 200 terms is listed as Elixir's own `inspect' writes it.
+inspect_test_() ->
+    {timeout, 300, fun() ->
+        case os:find_executable("elixir") of
+            false -> io:format(user, "inspect: skipped, there is no Elixir (elixir)~n", []);
+            Elixir -> inspected(Elixir, seqaudit_audits:file("inspected"))
+        end
+    end}.
+
+inspected(Elixir, Name) ->
+    Home = seqaudit_audits:home(),
+    {0, _} = seqaudit_test_shell:run(["LC_ALL=C.UTF-8 ", Elixir, " -pa ", Home, "/ebin ", Home,
+                                      "/test/terms.exs ", Name]),
+    {ok, Text} = file:read_file(Name ++ ".inspected"),
+    Inspected = lines(Text),
+    true = length(Inspected) >= 200,
+    seqaudit_audits:with_gemshowal("inspect", fun(_) ->
+        {0, Listed} = seqaudit_audits:gemshowal(["list", Name]),
+        [] = [{Line, Term} || {Line, Term} <- lists:zip(lines(Listed), Inspected),
+                              not ends(Line, <<$\s, Term/binary>>)]
+    end).
+
+lines(Text) -> binary:split(Text, <<"\n">>, [global, trim]).
+
+ends(Line, End) -> binary:longest_common_suffix([Line, End]) =:= byte_size(End).
 
 shop() ->
     [{"mix.exs", ["defmodule Shop.MixProject do\n  use Mix.Project\n"
