@@ -32,8 +32,10 @@ mix(Mix, Folder) ->
     seqaudit_audits:with_gemshowal("mix: the chart", fun(_) ->
         {0, Chart} = seqaudit_audits:gemshowal(["chart", Name, "--label", "{Shop,7}"]),
         {match, _} = re:run(Chart, "lane [12] Shop\n"),
-        {_, _} = binary:match(Chart, <<" call %Shop.Order{item: \"apple\", n: 3}  it begins this chain (1, 2)\n">>),
-        {_, _} = binary:match(Chart, <<" reply {:ok, 3, \"sold\", nil}  it follows Shop#0 (1, 2, 3)\n">>)
+        {_, _} = binary:match(Chart, <<" call %Shop.Order{item: \"apple\", n: 3}  "
+                                       "it begins this chain (1, 2)\n">>),
+        {_, _} = binary:match(Chart, <<" reply {:ok, 3, \"sold\", nil}  "
+                                       "it follows Shop#0 (1, 2, 3)\n">>)
     end).
 
 %% Each of 200 terms is listed as Elixir's own `inspect' writes it.
