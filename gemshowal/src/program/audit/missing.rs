@@ -56,7 +56,8 @@ fn place_of((_, _, pid, index): Turn) -> Place {
 struct Finder<'a> {
     shown: &'a Shown<'a>,
     paired: &'a Paired<'a>,
-    hops: NodeHops<'a>,
+    /// The hops of all events, unless none of these can follow something that wasn't reported.
+    hops: Option<NodeHops<'a>>,
     /// The reported sends without a receive, by receiver and count, with their labels.
     unreceived: HashMap<(Pid, u64), Vec<(u32, Turn)>>,
     /// The counts of sends that only their receives tell of, or that nobody knows, by sender.
@@ -70,7 +71,8 @@ struct Finder<'a> {
 
 impl Missing {
     pub(super) fn find(shown: &Shown<'_>, paired: &Paired<'_>) -> Result<Missing, OutOfMemory> {
-        let hops = NodeHops::of(shown.streams)?;
+        let is_plain = shown.processes().all(|(_, events)| goes_by_receives(events));
+        let hops = (!is_plain).then(|| NodeHops::of(shown.streams)).transpose()?;
         let mut finder = Finder {
             shown,
             paired,
@@ -175,7 +177,8 @@ impl Finder<'_> {
         turn: Turn,
         newest: Option<u64>,
     ) -> Option<Place> {
-        if !matches!(self.hops.hop(place, event), NodeHop::Moved(_)) {
+        let is_moved = |hops: &NodeHops<'_>| matches!(hops.hop(place, event), NodeHop::Moved(_));
+        if !self.hops.as_ref().is_some_and(is_moved) {
             return None;
         }
         let prev = event.serial.prev;
@@ -246,6 +249,18 @@ impl Finder<'_> {
         let open = self.open.into_iter().map(|(_, place)| place).collect();
         Missing { lacks, waiting, open, counters: self.counters }
     }
+}
+
+/// Returns whether the prev of each send and print is the count of the last receive before it, or 0
+/// if there is none: then each follows that, or begins.
+fn goes_by_receives(events: &[Event]) -> bool {
+    let mut last = 0;
+    events.iter().all(|event| {
+        if event.kind == Kind::Receive {
+            last = event.serial.this;
+        }
+        event.kind == Kind::Receive || event.serial.prev == last
+    })
 }
 
 /// Returns the counter of a process behind the answer of a spawn with this count: OTP moves it to
