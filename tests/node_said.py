@@ -182,7 +182,7 @@ def may_be_reported(streams, pid, i):
 # two of several; and its premises.
 Said = namedtuple("Said", "cause named premises")
 SINCE = re.compile(r"isn't known: (?:before it|since \S+#(\d+)) ")
-EITHER = re.compile(r"(?:follows \S+#(\d+)|begins this chain) or (?:follows \S+#(\d+)|begins this chain), as both")
+EITHER = re.compile(r"(?:follows \S+#(\d+)|begins this chain) or (?:follows \S+#(\d+)|begins this chain), or another event")
 
 
 def text_of(streams):
@@ -244,10 +244,8 @@ class Program:
 def is_false(said, events, i, whole):
     """Whether the sentence about a print is false in some run in which its premises hold."""
     claimed = said.named if said.cause == "after" else HOME
-    if said.cause == "perhaps":
-        return False
-    if said.cause == "several":
-        return bool(whole) and not whole[i] <= set(said.named)
+    if said.cause in ("perhaps", "several"):
+        return False  # Each leaves open that it is another event.
     if said.cause == "moved":
         return bool(stretch(events, said.named, i, may_set=True))
     if 5 in said.premises:

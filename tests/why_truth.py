@@ -16,7 +16,7 @@ from pathlib import Path
 EVENT = re.compile(r"\{seq_trace,(\d+),\{(send|'receive'|answer|print),\{(-?\d+),(-?\d+)\},([^,]*),([^,]*),(\d+)\}\}")
 MARK = re.compile(r"\{m,(\d+),([a-z0-9]+),(true|false)\}")
 SPAWN = re.compile(r"\{<([\d.]+)>,\{(\w+),(\w+)\}\}")
-EITHER = re.compile(r"(?:follows (\S.*?#\d+)|begins this chain) or (?:follows (\S.*?#\d+)|begins this chain), as both")
+EITHER = re.compile(r"(?:follows (\S.*?#\d+)|begins this chain) or (?:follows (\S.*?#\d+)|begins this chain), or another event")
 SINCE = re.compile(r"isn't known: (?:before it|since (.+)#(\d+)) ")
 HEAD = ("traces", "doesn't fit", "events", "sends and prints", "facts", "several", "perhaps", "moved",
         "false as a premise fails", "neither of several", "perhaps not", "not judged", "false")
@@ -236,7 +236,7 @@ class Judge:
             found = EITHER.search(self.run("why", self.trace.name, "%s#%d" % place).stdout)
             either = [self.places[name][1] if name else "home" for name in found.groups()]
             self.counted["neither of several"] += origin not in either
-            return origin in either, None
+            return origin in either or None, None
         if origin is None:
             return (False if after is not None and cause == "after" else None), after
         return origin == (after if cause == "after" else "home"), after

@@ -64,7 +64,7 @@ export const causeText = row => {
     s: follows, r: follows, b: () => "it " + perhaps + "begins this chain" + premises,
     l: () => "it " + perhaps + "begins label " + labelOf(row) + ", or its process set that on its token; it had last received "
       + eventName(others[0]) + " of label " + labelOf(others[0]) + premises,
-    e: () => "it " + origin(others[0]) + " or " + origin(others[1]) + ", as both had a token that fits" + premises,
+    e: () => "it " + origin(others[0]) + " or " + origin(others[1]) + ", or another event: several tokens fit" + premises,
     m: () => "what it follows isn't known: " + (others[0] < 0 ? "before it " : "since " + eventName(others[0]) + " ")
       + laneName(rows.lane[row]) + " took a token whose receive wasn't reported, put one back or spawned a process",
     u: () => "nothing is known of what it follows",

@@ -101,7 +101,7 @@ pub(crate) fn follows(causes: &Causes<'_>, item: Item, name: &str, link: Link) -
                 None => "begins this chain".into(),
             };
             let (one, other) = (origin(one), origin(other));
-            format!("{name} {one} or {other}, as both had a token that fits{numbers}")
+            format!("{name} {one} or {other}, or another event: several tokens fit{numbers}")
         }
         Cause::Moved(since) => {
             let since = since.map(|event| format!("since {}", causes.name(event)));
