@@ -86,8 +86,11 @@ class Trace:
             elif word == "spawned":
                 child, cause, own = SPAWN.fullmatch(what).groups()
                 child = self.pids.get(f"<{child}>", f"<{child}>")
-                asked = (i for i in range(placed, len(events)) if is_request(events[i]) and events[i].to == child)
-                replied = (i for i in range(placed, len(events)) if is_reply(events[i]) and events[i].sender == child)
+                # The trace has another name for a child on another node, which isn't known if that reported nothing.
+                is_known = child in self.streams or child.startswith("<0.")
+                children = {child} if is_known else {end for it in events for end in (it.to, it.sender)}
+                asked = (i for i in range(placed, len(events)) if is_request(events[i]) and events[i].to in children)
+                replied = (i for i in range(placed, len(events)) if is_reply(events[i]) and events[i].sender in children)
                 if (request := next(asked, None)) is not None:
                     self.spawns[pid, request] = cause, own == "true"
                     reach(request + self.is_answer(pid, request + 1))
