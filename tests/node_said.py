@@ -16,7 +16,7 @@ from concurrent.futures import ThreadPoolExecutor
 from pathlib import Path
 
 MOST_STATES = 20_000
-MOST_UNSAID = 0.05  # Of what is true in all runs.
+MOST_UNSAID = 0.05  # The share of what is true in all runs.
 HOME, LOST = "home", "lost"
 
 # kind: print or receive. The messages that a process receives come from one that reports nothing.
@@ -24,7 +24,7 @@ Event = namedtuple("Event", "kind label prev this")
 # Its origin is the index of the receive that brought it, or HOME, or LOST.
 Token = namedtuple("Token", "label prev this origin")
 State = namedtuple("State", "done clock last token held")
-# What a process may do beside its events: put tokens back, set these labels before its next event, print and receive
+# The acts of a process beside its events: put tokens back, set these labels before its next event, print and receive
 # unreported, and before which events it may receive so.
 Rules = namedtuple("Rules", "puts_back labels prints receives")
 START = State(0, 0, 0, None, frozenset())
@@ -178,7 +178,7 @@ def may_be_reported(streams, pid, i):
 
 # WHAT IS SAID
 
-# What `why` says of an event: after, begins, other_label, several, moved, unsent or perhaps; the index that it names,
+# The sentence of `why` about an event: after, begins, other_label, several, moved, unsent or perhaps; the index that it names,
 # two of several; and its premises.
 Said = namedtuple("Said", "cause named premises")
 SINCE = re.compile(r"isn't known: (?:before it|since \S+#(\d+)) ")

@@ -22,7 +22,7 @@ HEAD = ("traces", "doesn't fit", "events", "sends and prints", "facts", "several
         "false as a premise fails", "neither of several", "perhaps not", "not judged", "false")
 
 Event = namedtuple("Event", "kind label sender to term")
-# What a process did: an event that was reported, by its index, or an act, by its word.
+# An act of a process: an event that was reported, by its index, or another act, by its word.
 Did = namedtuple("Did", "word index")
 
 

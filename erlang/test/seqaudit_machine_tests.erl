@@ -1,6 +1,6 @@
-%% What a standard node does that the machine has no acts for, as docs/MACHINE.md has it: the cases
-%% of the conformance test hold on this release, on one node and on two, and the page has a row for
-%% each.
+%% Tries what a standard node does and the machine has no acts for, as docs/MACHINE.md has it: the
+%% cases of the conformance test hold on this release, on one node and on two, and the page has a
+%% row for each.
 -module(seqaudit_machine_tests).
 
 -export([cases_test_/0, rows_test/0]).

@@ -24,7 +24,7 @@ const SHOWN: Range<i64> = -(1 << 59)..1 << 59;
 /// The number of counts that a serial can show.
 pub const COUNTS: u64 = 1 << 60;
 
-/// What the bits of a clock can be that a serial hides.
+/// The values of the bits of a clock that a serial hides.
 const UPPERS: Range<u64> = 0..1 << (u64::BITS - COUNTS.trailing_zeros());
 
 /// The number of a process's events from which the upper bits of its first clock are told: they

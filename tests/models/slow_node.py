@@ -110,7 +110,7 @@ def is_from_put_back(held, taken, event, events, i):
 Judged = namedtuple("Judged", "unsent cycle put_backs ungiven")
 
 
-# What an event follows: the kind of hop, the place that it names, and the premises that it rests on.
+# The cause of an event: the kind of hop, the place that it names, and the premises that it rests on.
 Hop = namedtuple("Hop", "kind place premises")
 
 

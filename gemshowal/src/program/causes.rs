@@ -1,5 +1,5 @@
-//! What each event of a trace follows on a standard node, and how sure that is, with the events
-//! that `complete` adds.
+//! Says what each event of a trace follows on a standard node, and how sure that is, with the
+//! events that `complete` adds.
 //!
 //! Nothing is found here. What a reported event follows comes from the proved hops, or, where a
 //! token was put back, from the proved origins. Where these stop at an event that wasn't reported,

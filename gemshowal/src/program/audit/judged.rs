@@ -1,4 +1,4 @@
-//! What the rules of a standard node say of a trace. They ask nothing of the order of counts, so
+//! Judges a trace by the rules of a standard node. They ask nothing of the order of counts, so
 //! counters may wrap, and a token that is put back may move them anywhere.
 
 use super::lives;
@@ -31,7 +31,7 @@ pub(super) enum Verdict {
     Never,
 }
 
-/// What the run that was found has besides what was reported.
+/// The numbers of events and counts of the run that was found that nobody reported.
 #[derive(Clone, Copy, Debug, Serialize)]
 pub(super) struct Found {
     pub(super) sends: u64,

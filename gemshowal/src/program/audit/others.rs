@@ -24,7 +24,7 @@ pub(super) enum Asked {
 #[derive(Debug)]
 pub(super) struct Comparison {
     pub(super) asked: Asked,
-    /// What is confirmed, if they agree.
+    /// Names the answer that is confirmed if they agree.
     what: &'static str,
     command: String,
     difference: Option<String>,

@@ -11,11 +11,11 @@ pub(super) struct Outcome {
     pub(super) said: Said,
     /// The trace with the ranks of its counts, if acts were found for these alone.
     pub(super) ranked: Option<Trace>,
-    /// What the rules of a standard node say, if no run of the manual's machine was found.
+    /// The judgement by the rules of a standard node, if no run of the manual's machine was found.
     pub(super) judged: Option<Judged>,
 }
 
-/// What the manual's machine says.
+/// The verdict of the manual's machine.
 pub(super) enum Said {
     Fits(Fits),
     /// A run has the trace with events that nobody reported.

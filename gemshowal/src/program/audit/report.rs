@@ -66,7 +66,7 @@ pub(super) struct Part {
     node: Option<NodeObject>,
 }
 
-/// What the rules of a standard node say.
+/// The judgement by the rules of a standard node.
 #[derive(Serialize)]
 struct NodeObject {
     law: &'static str,

@@ -7,8 +7,8 @@ use crate::view::Place;
 use gemshowal::{Event, Kind, NodeTrace, Pid, Serial};
 use std::collections::{BTreeMap, HashMap, HashSet};
 
-/// What each step costs before an event. Only what costs less than a token that is put back is done
-/// at once.
+/// The costs of the steps before an event. Only what costs less than a token that is put back is
+/// done at once.
 const TAKEN: u64 = 1;
 const PUT_BACK: u64 = 4;
 const FROM_BEFORE: u64 = 100;
@@ -290,7 +290,7 @@ struct Walk<'a> {
     ready: HashSet<Place>,
     has_sends: bool,
     has_receives: bool,
-    /// What it costs that counts are missing.
+    /// The cost of missing counts.
     gap: u64,
     run: Run,
 }

@@ -69,7 +69,7 @@ enum Term<'a> {
 /// A key, and its value unless the text was cut before it.
 type Pair<'a> = (Term<'a>, Option<Term<'a>>);
 
-/// What is between two brackets.
+/// The parts between two brackets.
 struct Parts<'a, T> {
     parts: Vec<T>,
     /// The tail of an improper list.
