@@ -1,22 +1,8 @@
-# A service of Elixir that makes so many requests, each in a task under a label of its own, and
-# whose trace is written to the files of this name: truth_service.exs NAME REQUESTS. Each request
-# asks a server, waits for a task that asks it too, and for a worker of a dynamic supervisor. No
-# token is put back, and a label is set only where a `begin` is printed (tests/why_truth.py).
-defmodule Shop.Stock do
-  use GenServer
-  def init(state), do: {:ok, state}
-  def handle_call(order, _, state), do: {:reply, {:ok, order}, state}
-end
-
-defmodule Shop.Worker do
-  use GenServer, restart: :temporary
-  def start_link(number), do: GenServer.start_link(__MODULE__, number)
-  def init(number), do: {:ok, number}
-
-  def handle_call(:order, _, number) do
-    {:stop, :normal, GenServer.call(Shop.Stock, {:worker, number}), number}
-  end
-end
+# A service of Elixir whose trace is written to the files of this name: truth_service.exs NAME
+# REQUESTS. Each request runs in a task, under a label of its own. It asks a server, and waits for a
+# task that asks it too, and for a worker of a dynamic supervisor. No token is put back, and a label
+# is set only where a `begin` is printed (tests/why_truth.py).
+Code.require_file("shop.exs", __DIR__)
 
 defmodule Shop.Requests do
   def begins(label) do
@@ -28,16 +14,12 @@ defmodule Shop.Requests do
   def run(number) do
     begins(number)
     {:ok, _} = GenServer.call(Shop.Stock, {:request, number})
-    {:ok, _} = Task.await(Task.async(fn -> GenServer.call(Shop.Stock, {:task, number}) end))
-    {:ok, worker} = DynamicSupervisor.start_child(Shop.Workers, {Shop.Worker, number})
-    {:ok, _} = GenServer.call(worker, :order)
+    Shop.spawns(number)
   end
 end
 
 [name, requests] = System.argv()
-{:ok, _} = GenServer.start_link(Shop.Stock, nil, name: Shop.Stock)
-{:ok, _} = Task.Supervisor.start_link(name: Shop.Tasks)
-{:ok, _} = DynamicSupervisor.start_link(name: Shop.Workers, strategy: :one_for_one)
+Shop.start()
 :ok = :seqaudit_trace.start(%{name: String.to_charlist(name)})
 Shop.Requests.begins(:client)
 
