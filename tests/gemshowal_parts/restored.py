@@ -5,6 +5,7 @@ import json
 import random
 
 import slow_node
+import wrapped
 from hostile_use.program import Check
 
 RUNS = 60
@@ -56,13 +57,7 @@ SAID = (
 
 
 def restorations(program):
-    for what, text, status, wanted in SAID:
-        got = program.run(("audit",), text)
-        said, at = got.output.decode() + got.complaint.decode(), 0
-        for words in wanted:
-            at = said.find(words, max(at, 0))
-        is_right = at >= 0 and got.status == status
-        yield Check(f"audit by the node's rules: {what}", None if is_right else f"wanted {status} {wanted}\ngot {got.status} {said}")
+    yield from wrapped.audits(program, "audit by the node's rules", SAID)
     cut = program.run(("audit", "--label", "1"), SAID[0][1])
     yield Check("audit --label of a token that was put back", None if b"1 token was put back" in cut.output and cut.status == 0 else str(cut))
 

@@ -86,14 +86,19 @@ FAULTS = (("a count with a plus", b"{0,1}", b"{0,+1}", b"line 3 "), ("a count of
           ("a word that is no kind", b"{answer,", b"{answers,", b"line 4 "), ("a pid that isn't listed", b"process <0.32.0>\n", b"", None))
 
 
-def sentences(program):
-    for what, text, status, wanted in SAID:
+def audits(program, name, cases):
+    """Whether `audit` of each case's text has its status, and says its sentences in their order."""
+    for what, text, status, wanted in cases:
         got = program.run(("audit",), text)
         said, at = got.output.decode() + got.complaint.decode(), 0
         for words in wanted:
             at = said.find(words, max(at, 0))
         is_right = at >= 0 and got.status == status
-        yield Check(f"audit of a wrapped trace: {what}", None if is_right else f"wanted {status} {wanted}\ngot {got.status} {said}")
+        yield Check(f"{name}: {what}", None if is_right else f"wanted {status} {wanted}\ngot {got.status} {said}")
+
+
+def sentences(program):
+    yield from audits(program, "audit of a wrapped trace", SAID)
     for what, old, new, named in FAULTS:
         text = spawn(other=[line("print", 0, 1, OTHER)])
         got = program.run(("audit",), text.replace(old, new, 1))
