@@ -29,7 +29,11 @@ pub(crate) fn run(task: Task<'_>) -> Result<Status, Failure> {
                 out.report("yes", &Yes { pairs })?;
             } else {
                 let receives = count(pairs.len() as u64, "reported receive");
-                writeln!(out, "yes: each process reports exactly its events in a run of these acts, with {receives}")?;
+                writeln!(
+                    out,
+                    "yes: each process reports exactly its events in a run of these acts, with \
+                     {receives}"
+                )?;
             }
             return Ok(Status::Yes);
         }

@@ -17,8 +17,8 @@ const ASKED: &str = "GEMSHOWAL";
 pub(crate) fn hand_over(word: &str, words: impl Iterator<Item = OsString>) -> u8 {
     let Some(program) = find(PROGRAM) else {
         output::complain(format_args!(
-            "error: {word} is a command of the Erlang application, and there is no {PROGRAM} beside \
-             this program or on the path: make -C erlang builds it\n"
+            "error: {word} is a command of the Erlang application, and there is no {PROGRAM} \
+             beside this program or on the path: make -C erlang builds it\n"
         ));
         return 4;
     };

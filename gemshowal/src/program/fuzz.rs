@@ -25,8 +25,8 @@ const PIECES: &[u8] = b"<1.2.0>|<0.7|<70000.1.0>|<03.1.0>|#Pid<|'receive',|recei
     |value\t3\t|label\t|'Elixir.|#{'__struct__' => '|<<\"|\\|\xc3\xb6|{'$gen_call',{<0.81.0>,#Ref<0.1.2>},\
     |begin -1\n|message <0.81.0> 0 <0.85.0> 0 -9223372036854775808\n|#Ref<0.1.2>,|lost\t";
 
-/// The command lines that are tried on each text, with bars between them. The name of the text comes
-/// behind them, or in place of IT; ALL is the text that it was made of.
+/// The command lines that are tried on each text, with bars between them. The name of the text
+/// comes after them, or in place of IT; ALL is the text that it was made of.
 const COMMANDS: &str = "audit|audit --json|audit --each-label|audit --each-label --json|\
     audit --label 17|audit --process 0.30.0 --json|check|check --json|complete|complete --json|\
     complete --as streams|complete --as acts|cut --label 17|cut --lines 2-5|cut IT --around 4|\
@@ -180,7 +180,8 @@ fn command(words: &str, folder: &Path, it: &str) -> Args {
     Args::try_parse_from(words).unwrap()
 }
 
-/// Does a command, and returns whether the status is a yes. An object is whole, whatever the result.
+/// Does a command, and returns whether the status is a yes. An object is whole, whatever the
+/// result.
 fn run(word: &str, args: &Args) -> bool {
     let written = Written::default();
     let mut out = Output::new(Box::new(written.clone()), word, false);

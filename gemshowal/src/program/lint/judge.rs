@@ -159,7 +159,8 @@ impl<'a> Judge<'a> {
 
     fn take_event(&mut self, line: Line<'a>, (column, pid): (usize, Pid), scan: &Scan<'a>) {
         if let Some(current) = self.current.filter(|&current| current != pid) {
-            let remedy = "an event stands below the process that reports it: a receive below its to, others below their from";
+            let remedy = "an event stands below the process that reports it: a receive below its \
+                          to, others below their from";
             self.add(Mistake::new(line, column, Wanted::EventOf(current, pid), remedy));
         }
         self.events = self.events.saturating_add(1);
@@ -167,8 +168,9 @@ impl<'a> Judge<'a> {
         scan.pids.iter().for_each(|&place| self.name(line, place));
         if let &[(_, prev), (column, this)] = scan.counts.as_slice() {
             if prev >= this {
-                let remedy = "no run of the machine reports it, since its second count isn't above its first; on a standard node \
-                              a token that was put back, or set by hand, may give such a serial";
+                let remedy = "no run of the machine reports it, since its second count isn't \
+                              above its first; on a standard node a token that was put back, or \
+                              set by hand, may give such a serial";
                 let mistake = Mistake::new(line, column, Wanted::Greater(prev), remedy);
                 self.add(Mistake { is_read: true, ..mistake });
             }

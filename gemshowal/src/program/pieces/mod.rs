@@ -69,8 +69,8 @@ impl<R: BufRead> Lines<R> {
     }
 }
 
-/// Hands on the lines of a sorted text, each with the one before it. The function returns `Ok(None)`
-/// for a line that isn't one of this filter's.
+/// Hands on the lines of a sorted text, each with the one before it. The function returns
+/// `Ok(None)` for a line that isn't one of this filter's.
 fn walk_sorted(
     name: &str,
     input: impl BufRead,
