@@ -35,7 +35,7 @@ try: ## builds what this machine builds quickest, and audits, explains and draws
 # it are proved from nothing.
 PROVE = .ci/prove $(if $(KEEP),--keep)
 
-program: ## proves both programs and all below them, and builds them in bin/ (about 18 minutes; KEEP=1 takes more disk and makes it short after an edit)
+program: ## proves both programs and all below them, and builds them in bin/ (18 to 23 minutes; KEEP=1 takes more disk and makes it short after an edit)
 	@$(PROVE) $(PROGRAMS)
 
 bin/%: $(SOURCES)
