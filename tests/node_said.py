@@ -179,9 +179,8 @@ def may_be_reported(streams, pid, i):
 # WHAT IS SAID
 
 # The sentence of `why` about an event: after, begins, other_label, several, moved, unsent or perhaps; the index that it names,
-# two of several; and its premises.
-Said = namedtuple("Said", "cause named premises")
-SINCE = re.compile(r"isn't known: (?:before it|since \S+#(\d+)) ")
+# two of several; its premises; and the index of the event since which it says that counters were moved, 0 for the beginning.
+Said = namedtuple("Said", "cause named premises moved")
 EITHER = re.compile(r"(?:follows \S+#(\d+)|begins this chain) or (?:follows \S+#(\d+)|begins this chain), or another event")
 
 
@@ -219,19 +218,18 @@ class Program:
 
     def said(self, place):
         link = json.loads(self.why(place, "--json"))["events"][0]
-        cause, after, named = link["cause"], link["after"], None
+        cause, after, named, moved = link["cause"], link["after"], None, link["moved"]
+        if moved:
+            moved = int(moved["since"].rsplit("#")[-1]) + 1 if moved["since"] else 0
         if link["grade"] == "perhaps":
-            return Said("perhaps", None, [])
+            return Said("perhaps", None, [], moved)
         if cause == "unsent" or after and after.startswith("the send of "):
-            return Said("unsent", None, [])
+            return Said("unsent", None, [], None)
         if after:
             named = int(after.rsplit("#")[-1])
         elif cause == "several":
             named = [int(it) if it else HOME for it in EITHER.search(self.why(place)).groups()]
-        elif cause == "moved":
-            since = SINCE.search(self.why(place))[1]
-            named = int(since) + 1 if since else 0
-        return Said(cause, named, link["premises"])
+        return Said(cause, named, link["premises"], moved)
 
     def all_said(self, places):
         with ThreadPoolExecutor() as threads:
@@ -244,10 +242,10 @@ class Program:
 def is_false(said, events, i, whole):
     """Whether the sentence about a print is false in some run in which its premises hold."""
     claimed = said.named if said.cause == "after" else HOME
-    if said.cause in ("perhaps", "several"):
+    if said.moved is not None and stretch(events, said.moved, i, may_set=True):
+        return True
+    if said.cause in ("perhaps", "several", "moved"):
         return False  # Each leaves open that it is another event.
-    if said.cause == "moved":
-        return bool(stretch(events, said.named, i, may_set=True))
     if 5 in said.premises:
         return bool(whole) and not whole[i] <= {claimed}
     begin = 0 if said.named is None else said.named + 1
@@ -264,7 +262,7 @@ def compare(events, said, counted):
     for i, event in enumerate(events):
         if is_fitting and not without_lost(events, i):
             counted["a receive was lost here"] += 1
-            counted["a receive was lost here, said"] += said[i].cause == "moved" and said[i].named == i
+            counted["a receive was lost here, said"] += said[i].moved == i
             counted["a receive was lost here, said with perhaps"] += said[i].cause == "perhaps"
             counted["a receive was lost here, or a token put back, which is said"] += 5 in said[i].premises
         if event.kind != "print":
@@ -312,7 +310,8 @@ def main():
         print("false:", it)
     for what, count in sorted(counted.items()):
         print(f"{count:7} {what}")
-    is_little = any(counted[f"{what}, said"] < (1 - MOST_UNSAID) * counted[what] for what in ("one origin", "a send wasn't reported"))
+    wanted = ("one origin", "a send wasn't reported", "a send to itself wasn't reported", "a receive was lost here")
+    is_little = any(counted[f"{what}, said"] < (1 - MOST_UNSAID) * counted[what] for what in wanted)
     return bool(false) or is_little or not counted["one origin"]
 
 

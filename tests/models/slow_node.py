@@ -115,11 +115,13 @@ Hop = namedtuple("Hop", "kind place premises")
 
 
 def hop(streams, source, place):
-    """The hop back from an event, as crates/node_hops defines it; what has moved names the event since which that was."""
+    """The hop back from an event, as crates/node_hops defines it, but that a process's message to itself isn't one that it
+    sent later; what has moved names the event since which that was."""
     pid, i = place
     events, event = streams[pid], streams[pid][i]
     if is_receive(event):
-        return Hop("after", source[place], [4]) if source[place] else Hop("unsent", None, [])
+        sent = source[place]
+        return Hop("after", sent, [4]) if sent and (sent[0] != pid or sent[1] < i) else Hop("unsent", None, [])
     start = i
     while start and not is_receive(events[start - 1]) and events[start - 1].prev == event.prev:
         start -= 1

@@ -100,10 +100,23 @@ impl Cause {
 pub(crate) struct Link {
     pub(crate) cause: Cause,
     pub(crate) grade: Grade,
+    /// The event of its process since which its counters were moved unseen, or the beginning, if
+    /// its counts show that. Its tokens may tell the cause nevertheless.
+    pub(crate) moved: Option<Option<Item>>,
 }
 
 impl Link {
-    const UNKNOWN: Link = Link { cause: Cause::Unknown, grade: Grade::Certain };
+    const UNKNOWN: Link = Link { cause: Cause::Unknown, grade: Grade::Certain, moved: None };
+
+    fn of(hop: NodeHop, place: Place) -> Link {
+        let hop = if is_sent_later(hop, place) { NodeHop::Unsent } else { hop };
+        let cause = Cause::of(hop, place);
+        let moved = match cause {
+            Cause::Moved(since) => Some(since),
+            _ => None,
+        };
+        Link { cause, grade: Grade::of(hop), moved }
+    }
 
     pub(crate) fn after(self) -> Option<Item> {
         match self.cause {
@@ -111,6 +124,12 @@ impl Link {
             _ => None,
         }
     }
+}
+
+/// Returns whether the send of a receive comes after it in the stream of one process. Then one like
+/// it came before and wasn't reported: only this process sends such messages to itself.
+fn is_sent_later(hop: NodeHop, (pid, index): Place) -> bool {
+    matches!(hop, NodeHop::Sent(from, sent) if from == pid && sent > index)
 }
 
 /// Finds the receives that answer a spawn. The messages tell it, so without names there are none.
@@ -148,8 +167,7 @@ impl Links {
         let mut found = Links { links: HashMap::new(), are_closed: true };
         for (pid, events) in trace.processes() {
             let link = |(event, index): (&Event, u64)| {
-                let hop = hops.hop((pid, index), event);
-                Link { cause: Cause::of(hop, (pid, index)), grade: Grade::of(hop) }
+                Link::of(hops.hop((pid, index), event), (pid, index))
             };
             let mut links: Vec<Link> = events.iter().zip(0..).map(link).collect();
             found.are_closed &= !links.iter().any(|link| link.cause.is_open());
@@ -216,7 +234,9 @@ impl Tokens {
     fn link(&self, place: Place, own: Link) -> Link {
         let is_asked = self.is_put_back || matches!(own.cause, Cause::Moved(_));
         let cause = if is_asked { self.cause(place) } else { None };
-        cause.map_or(own, |cause| Link { cause, grade: OWN_TOKENS })
+        // An answer that moved them is an event.
+        let moved = own.moved.filter(|_| self.is_put_back);
+        cause.map_or(own, |cause| Link { cause, grade: OWN_TOKENS, moved })
     }
 
     /// Returns the cause of a send or print, if the tokens that its process had tell it.
@@ -414,13 +434,16 @@ impl<'a> Causes<'a> {
     pub(crate) fn link(&self, item: Item) -> Link {
         let Some(place) = self.reported(item) else {
             let cause = self.completed_cause(item);
-            return cause.map_or(Link::UNKNOWN, |cause| Link { cause, grade: Grade::Perhaps });
+            let link = |cause| Link { cause, grade: Grade::Perhaps, ..Link::UNKNOWN };
+            return cause.map_or(Link::UNKNOWN, link);
         };
         let own = self.links.get(place);
+        let moved = own.moved.map(|since| since.map(|item| self.in_shown(item)));
+        let own = Link { moved, ..own };
         let is_send = matches!(own.cause, Cause::After(_));
         match self.completed_cause(item).filter(|_| own.cause.is_open()) {
             Some(cause @ Cause::After(_)) if is_send => Link { cause, ..own },
-            Some(cause @ Cause::After(_)) => Link { cause, grade: Grade::Perhaps },
+            Some(cause @ Cause::After(_)) => Link { cause, grade: Grade::Perhaps, ..own },
             _ => Link { cause: own.cause.map(|item| self.in_shown(item)), ..own },
         }
     }

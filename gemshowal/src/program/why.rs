@@ -158,7 +158,22 @@ impl Answer<'_> {
         }
         let Some(&Step { item, link, .. }) = self.steps.last() else { return Ok(()) };
         let name = self.causes.name(item);
-        writeln!(out, "{}", words::follows(self.causes, item, &name, link))
+        writeln!(out, "{}", words::follows(self.causes, item, &name, link))?;
+        self.write_moved(out)
+    }
+
+    /// Says of the event that was asked about that its counters were moved, if its cause is known
+    /// nevertheless.
+    fn write_moved(&self, out: &mut Output) -> io::Result<()> {
+        let Some(&Step { item, link, .. }) = self.steps.first() else { return Ok(()) };
+        match (link.moved, link.cause) {
+            (None, _) | (_, Cause::Moved(_)) => Ok(()),
+            (Some(since), _) => {
+                let (name, moved) =
+                    (self.causes.name(item), words::moved(self.causes, item, since));
+                writeln!(out, "the counts of {name} show that {moved}")
+            }
+        }
     }
 
     fn write_forth(&self, out: &mut Output) -> io::Result<()> {
@@ -214,6 +229,13 @@ struct Object<'a> {
     rests_on: Vec<String>,
 }
 
+/// Says since which event of its process the counters of an event were moved unseen, or that it was
+/// since the beginning.
+#[derive(Serialize)]
+struct Moved {
+    since: Option<String>,
+}
+
 struct Found<'a> {
     causes: &'a Causes<'a>,
     lines: &'a LineNumbers<'a>,
@@ -225,6 +247,7 @@ impl Serialize for Found<'_> {
         let Found { causes, lines, step: &Step { depth, item, link } } = *self;
         let (names, event, place) = (causes.names(), causes.event(item), causes.place(item));
         let (word, after) = cause_word(link.cause);
+        let moved = link.moved.map(|since| Moved { since: since.map(|item| causes.name(item)) });
         object!(serializer,
             "depth": depth,
             "event": causes.name(item),
@@ -241,6 +264,7 @@ impl Serialize for Found<'_> {
             "at": names.times().zip(place).and_then(|(times, place)| times.of_event(place)),
             "cause": word,
             "after": after.map(|item| causes.name(item)),
+            "moved": moved,
             "grade": match link.grade {
                 Grade::Certain => "certain",
                 Grade::Under(_) => "premises",

@@ -104,16 +104,20 @@ pub(crate) fn follows(causes: &Causes<'_>, item: Item, name: &str, link: Link) -
             format!("{name} {one} or {other}, or another event: several tokens fit{numbers}")
         }
         Cause::Moved(since) => {
-            let since = since.map(|event| format!("since {}", causes.name(event)));
-            format!(
-                "what {name} follows isn't known: {} {} took a token whose receive wasn't \
-                 reported, put one back or spawned a process",
-                since.as_deref().unwrap_or("before it"),
-                causes.process(causes.actor(item))
-            )
+            format!("what {name} follows isn't known: {}", moved(causes, item, since))
         }
         Cause::Unknown => format!("nothing is known of what {name} follows"),
     }
+}
+
+/// Says what moved the counters of an event's process since this event, or before it.
+pub(crate) fn moved(causes: &Causes<'_>, item: Item, since: Option<Item>) -> String {
+    let since = since.map(|event| format!("since {}", causes.name(event)));
+    format!(
+        "{} {} took a token whose receive wasn't reported, put one back or spawned a process",
+        since.as_deref().unwrap_or("before it"),
+        causes.process(causes.actor(item))
+    )
 }
 
 /// Says when a reported event happened.
