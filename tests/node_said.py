@@ -2,8 +2,9 @@
 """Holds what `gemshowal why` says to all runs of small streams: tests/node_said.py GEMSHOWAL [STREAMS [SEED]]
 
 A run is searched for each way in which a process of a standard node can have reported a few events, with whatever
-processes that report nothing. Counted is what is true in all of them, and how much of it `why` says as a fact; what it
-says may be false in no run in which the premises hold that it names."""
+processes that report nothing; or in which it can have reported its prints but no receives, if all messages to it were
+reported when they were sent. Counted is what is true in all of them, and how much of it `why` says as a fact; what it says
+may be false in no run in which the premises hold that it names."""
 import itertools
 import json
 import random
@@ -16,6 +17,7 @@ from concurrent.futures import ThreadPoolExecutor
 from pathlib import Path
 
 MOST_STATES = 20_000
+MOST_SILENT_STATES = 4_000
 MOST_UNSAID = 0.05  # The share of what is true in all runs.
 HOME, LOST = "home", "lost"
 
@@ -125,6 +127,89 @@ def stretch(events, begin, i, may_set):
     return found.get(len(part) - 1, set())
 
 
+# RUNS IN WHICH NO RECEIVE IS REPORTED
+
+# What a process did, and in which order: its tokens, the messages that it received, and the labels that its tokens bore,
+# that it gave, and with which it printed.
+Silent = namedtuple("Silent", "done clock last token held taken borne given stamped")
+
+
+def silent_steps(state, prints, messages, may_give, are_own):
+    """The states that one act leads to, each with the stamp that it reports, if it does. Where its labels are its own, they
+    are new when it gives them, and it prints with them before it receives them."""
+    token = state.token
+
+    def with_token(token, **changes):
+        return state._replace(token=token, held=state.held | {token}, borne=state.borne | {token.label}, **changes), None
+
+    if token:
+        yield state._replace(token=None), None
+    for label in {event.label for event in prints}:
+        if may_give(label) and (not token or token.label != label) and not (are_own and label in state.borne):
+            given = token._replace(label=label, origin=HOME) if token else Token(label, state.last, 0, HOME)
+            yield with_token(given, given=state.given | {label})
+    for old in state.held:
+        yield with_token(old, clock=old.this, last=old.prev)
+    for index, (label, prev, this) in enumerate(messages):
+        if index not in state.taken and not (are_own and label in state.given - state.stamped):
+            yield with_token(Token(label, prev, this, index), clock=max(state.clock, this), last=this, taken=state.taken | {index})
+    if token and state.done < len(prints) and (token.label, state.last, state.clock + 1) == prints[state.done][1:]:
+        after, _ = with_token(token._replace(prev=state.last, this=state.clock + 1), clock=state.clock + 1, done=state.done + 1,
+                              stamped=state.stamped | {token.label})
+        yield after, (state.done, token.origin)
+
+
+def silent_runs(prints, messages, may_give, are_own):
+    """The origins that each print has in some run through all of them, None if that are too many states."""
+    none = frozenset()
+    start = Silent(0, 0, 0, None, none, none, none, none, none)
+    edges, seen, waiting = defaultdict(list), {start}, [start]
+    while waiting:
+        state = waiting.pop()
+        for after, stamp in silent_steps(state, prints, messages, may_give, are_own):
+            edges[after].append((state, stamp))
+            if after not in seen:
+                seen.add(after)
+                waiting.append(after)
+        if len(seen) > MOST_SILENT_STATES:
+            return None
+    origins, waiting = defaultdict(set), [state for state in seen if state.done == len(prints)]
+    good = set(waiting)
+    while waiting:
+        for before, stamp in edges[waiting.pop()]:
+            if stamp:
+                origins[stamp[0]].add(stamp[1])
+            if before not in good:
+                good.add(before)
+                waiting.append(before)
+    return origins
+
+
+def silent_stream(rng):
+    """The prints that a process reports of random acts, and the messages to it, some of which it didn't receive."""
+    messages = [(rng.choice([1, 1, 2]), prev, prev + rng.choice([1, 1, 2])) for prev in rng.choices([0, 0, 1, 2], k=rng.choice([1, 2, 2]))]
+    prints, token, clock, last, saved, left = [], None, 0, 0, [], messages[:]
+    labels = itertools.count(2)
+    for _ in range(7):
+        chance = rng.random()
+        if chance < 0.3 and left:
+            token = Token(*left.pop(rng.randrange(len(left))), None)
+            clock, last = max(clock, token.this), token.this
+        elif chance < 0.65 and token and len(prints) < 3:
+            clock, token = clock + 1, token._replace(prev=last, this=clock + 1)
+            prints.append(Event("print", *token[:3]))
+        elif chance < 0.8 and saved:
+            token = rng.choice(saved)
+            clock, last = token.this, token.prev
+        elif chance < 0.85:
+            token = None
+        elif chance > 0.92:
+            label = next(labels)
+            token = token._replace(label=label) if token else Token(label, last, 0, None)
+        saved += [token] if token and rng.random() < 0.4 else []
+    return prints, messages
+
+
 # THE STREAMS
 
 
@@ -203,6 +288,18 @@ def text_of_messages(batch):
                 word = "'receive'" if kind == "receive" else kind
                 ends = f"<0.{2 * n + sender + 2}.0>,<0.{2 * n + to + 2}.0>"
                 lines.append(f"{{seq_trace,1,{{{word},{{0,1}},{ends},{value}}}}}")
+    return "\n".join(lines) + "\n"
+
+
+def text_of_prints(batch):
+    """What processes print, and one process sends to them."""
+    lines = ["seqtrace 1", "process <0.1.0>"]
+    for n, (_, messages) in enumerate(batch):
+        for label, prev, this in messages:
+            lines.append(f"{{seq_trace,{label},{{send,{{{prev},{this}}},<0.1.0>,<0.{n + 2}.0>,{len(lines)}}}}}")
+    for n, (prints, _) in enumerate(batch):
+        lines.append(f"process <0.{n + 2}.0>")
+        lines += [f"{{seq_trace,{it.label},{{print,{{{it.prev},{it.this}}},<0.{n + 2}.0>,[],{n}}}}}" for it in prints]
     return "\n".join(lines) + "\n"
 
 
@@ -292,6 +389,29 @@ def compare_messages(batch, said, counted):
     return false
 
 
+def compare_prints(prints, messages, said, counted):
+    """Counts the prints of which all runs have one origin, and how many of these are said; returns the places of false
+    sentences. A run is of own labels, or one in which the process didn't give the label of the print."""
+    false = []
+    for i, (event, it) in enumerate(zip(prints, said)):
+        def is_other(label, given=event.label):
+            return label != given
+        own, foreign = (silent_runs(prints, messages, may_give, True) for may_give in (lambda _: True, is_other))
+        if own is None or foreign is None:
+            counted["streams too large"] += 1
+            return false
+        expected = foreign[i] or own[i]
+        what = "one origin, without receives" if len(expected) == 1 else "more than one origin, without receives"
+        counted[what] += bool(expected)
+        counted[f"{what}, said"] += bool(expected) and it.cause in (("message", "begins") if len(expected) == 1 else ("several",))
+        if it.cause in ("message", "begins") and 8 in it.premises:
+            are_own, may_give = 7 in it.premises, is_other if 9 in it.premises else lambda _: True
+            under = silent_runs(prints, messages, may_give, are_own)
+            counted["one origin, without receives, said of too many runs"] += under is None
+            false += [i] * (under is not None and not under[i] <= {HOME if it.cause == "begins" else it.named})
+    return false
+
+
 def main():
     number, seed = (int(it) for it in (sys.argv[2:] + ["60", "1"][len(sys.argv) - 2:])[:2])
     rng, counted, false = random.Random(seed), Counter(), []
@@ -306,13 +426,23 @@ def main():
     receives = {f"<0.{2 * n + pid + 2}.0>#{i}": (streams, pid, i) for n, streams in enumerate(batch)
                 for pid, events in streams.items() for i, event in enumerate(events) if event[0] == "receive"}
     false += compare_messages(receives, program.all_said(list(receives)), counted)
+    silent = [it for it in (silent_stream(rng) for _ in range(number)) if it[0]]
+    program = Program(sys.argv[1], text_of_prints(silent))
+    said = program.all_said([f"<0.{n + 2}.0>#{i}" for n, (prints, _) in enumerate(silent) for i in range(len(prints))])
+    sent = 0
+    for n, (prints, mail) in enumerate(silent):
+        own = [said[f"<0.{n + 2}.0>#{i}"] for i in range(len(prints))]
+        own = [it._replace(named=it.named - sent) if it.cause == "message" else it for it in own]
+        false += [(prints, mail, i, own[i]) for i in compare_prints(prints, mail, own, counted)]
+        sent += len(mail)
     for it in false[:20]:
         print("false:", it)
     for what, count in sorted(counted.items()):
         print(f"{count:7} {what}")
-    wanted = ("one origin", "a send wasn't reported", "a send to itself wasn't reported", "a receive was lost here")
+    wanted = ("one origin", "a send wasn't reported", "a send to itself wasn't reported", "a receive was lost here",
+              "one origin, without receives")
     is_little = any(counted[f"{what}, said"] < (1 - MOST_UNSAID) * counted[what] for what in wanted)
-    return bool(false) or is_little or not counted["one origin"]
+    return bool(false) or is_little or not counted["one origin"] or not counted["one origin, without receives"]
 
 
 if __name__ == "__main__":

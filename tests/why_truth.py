@@ -17,7 +17,6 @@ EVENT = re.compile(r"\{seq_trace,(\d+),\{(send|'receive'|answer|print),\{(-?\d+)
 MARK = re.compile(r"\{m,(\d+),([a-z0-9]+),(true|false)\}")
 SPAWN = re.compile(r"\{<([\d.]+)>,\{(\w+),(\w+)\}\}")
 EITHER = re.compile(r"(?:follows (\S.*?#\d+)|begins this chain) or (?:follows (\S.*?#\d+)|begins this chain), or another event")
-SINCE = re.compile(r"isn't known: (?:before it|since (.+)#(\d+)) ")
 HEAD = ("traces", "doesn't fit", "events", "sends and prints", "facts", "several", "perhaps", "moved",
         "false as a premise fails", "neither of several", "perhaps not", "not judged", "false")
 
@@ -50,6 +49,10 @@ class Trace:
         born = {SPAWN.fullmatch(what)[1] for entries in self.log.values() for word, what in entries if word == "spawned"}
         self.did = {self.pids[pid]: self.all_done(self.pids[pid], entries, pid[1:-1] in born)
                     for pid, entries in self.log.items() if pid in self.pids}
+        # Processes of which a message that they received wasn't reported when it was sent.
+        self.unheard = {self.pids[pid] for pid, entries in self.log.items() if pid in self.pids
+                        if any(word == "received" and ("send", int(what)) not in numbers for word, what in entries)
+                        or pid[1:-1] in born and not self.request_of(self.pids[pid])}
 
     def read_streams(self, path):
         streams, events = {}, None
@@ -121,6 +124,31 @@ class Trace:
         place = self.numbers.get(("receive", int(cause[0])))
         return place[1] if place and place[0] == pid else None
 
+    def source(self, pid, i):
+        """The place of the send whose message gave a send or print its token, "unreported" if that isn't in the trace, "home",
+        or None if nothing says it."""
+        event, mark = self.streams[pid][i], self.mark(self.streams[pid][i])
+        cause = (mark[2], mark[3] == "true") if mark else self.spawns.get((pid, i))
+        if cause is None:
+            return self.request_of(pid) if event.term.startswith("{spawn_reply,") else None
+        if cause[1] or cause[0] == "begins":
+            return "home"
+        if cause[0] == "spawned":
+            return self.request_of(pid) or "unreported"
+        return self.numbers.get(("send", int(cause[0])), "unreported")
+
+    def request_of(self, pid):
+        """The place of the request to spawn this process, or None if it isn't in the trace."""
+        places = ((other, i) for other, events in self.streams.items() for i, event in enumerate(events)
+                  if event.kind == "send" and event.to == pid and is_request(event))
+        return next(places, None)
+
+    def gave_label(self, pid, i):
+        """Whether a process made a token of the label of this event, or set the label on one, as far as its events tell."""
+        events = self.streams[pid]
+        return any(events[j].label == events[i].label and events[j].kind != "receive" and self.source(pid, j) == "home"
+                   for j in range(len(events)))
+
     def last_received(self, pid, i):
         """The receive of the token of a process that leaves its token alone, but for what it prints of a beginning."""
         for j in range(i, -1, -1):
@@ -167,6 +195,10 @@ def holds(trace, pid, after, i, premises):
     everything = {it.word for it in trace.did.get(pid, [])}
     if 5 in premises and any(word.startswith("unreported") for word in everything):
         return False
+    if 8 in premises and (pid in trace.unheard or {"unreported send", "unreported print"} & everything):
+        return False
+    if 9 in premises and trace.gave_label(pid, i):
+        return False
     return not {6, 7} & set(premises) or "handed_over" not in everything
 
 
@@ -205,6 +237,8 @@ class Judge:
             grade = "perhaps" if link["grade"] == "perhaps" else cause
             self.counted[grade if grade in ("perhaps", "several", "moved") else "facts"] += 1
         is_true, after = (self.receive if event.kind == "receive" else self.stamp)(place, link)
+        if link["moved"] and self.is_moved(place, link["moved"]["since"]) is False:
+            self.false.append(("not moved", place, event, link))
         if is_true is None:
             self.counted["not judged"] += 1
         elif not is_true and link["grade"] == "perhaps":
@@ -212,7 +246,7 @@ class Judge:
         elif not is_true and not holds(self.trace, pid, after, i, link["premises"]):
             self.counted["false as a premise fails"] += 1
         elif not is_true:
-            self.false.append((place, event, link, self.trace.origin(pid, i)))
+            self.false.append((place, event, link, self.trace.origin(pid, i), self.trace.source(pid, i)))
 
     def receive(self, place, link):
         """Whether what is said of a receive is true, and no place. A message without a mark is known by its content."""
@@ -228,20 +262,23 @@ class Judge:
     def stamp(self, place, link):
         """Whether what is said of a send or print is true, and the index of the receive that is named."""
         pid, i = place
-        origin, cause = self.trace.origin(pid, i), link["cause"]
+        origin, source, cause = self.trace.origin(pid, i), self.trace.source(pid, i), link["cause"]
         if link["grade"] == "perhaps":
             return self.is_as_completed(place), None
         named = self.places.get(link["after"], (pid, None))
         after = named[1] if named[0] == pid else None
         if cause == "moved":
-            return self.is_moved(place), None
+            return self.is_moved(place, link["moved"]["since"]), None
         if cause == "several":
             found = EITHER.search(self.run("why", self.trace.name, "%s#%d" % place).stdout)
-            either = [self.places[name][1] if name else "home" for name in found.groups()]
-            self.counted["neither of several"] += origin not in either
-            return origin in either or None, None
+            either = [self.places[name] if name else "home" for name in found.groups()]
+            is_among = bool({source, origin if origin == "home" else (pid, origin)} & set(either))
+            self.counted["neither of several"] += not is_among
+            return is_among or None, None
+        if cause == "message":
+            return (None if source is None else named == source), None
         if origin is None:
-            return (False if after is not None and cause == "after" else None), after
+            return (False if cause == "after" else source and source == "home"), after
         return origin == (after if cause == "after" else "home"), after
 
     def is_as_completed(self, place):
@@ -251,12 +288,10 @@ class Judge:
         added = MARK.search(steps[1]["message"] or "")
         return None if not own else own[3] == "false" and bool(added) and added[1] == own[2]
 
-    def is_moved(self, place):
-        """Whether something that moves counters happened where `moved` says it."""
-        found = SINCE.search(self.run("why", self.trace.name, "%s#%d" % place).stdout)
-        if not found:
-            return None
-        return bool(self.trace.words(place[0], int(found[2]) if found[2] else None, place[1]) & MOVES)
+    def is_moved(self, place, since):
+        """Whether something that moves counters happened between this event of a process and the one at this place."""
+        after = self.places[since][1] if since else None
+        return bool(self.trace.words(place[0], after, place[1]) & MOVES)
 
 
 def judged(gemshowal, name):

@@ -49,8 +49,9 @@ export const sentence = row => {
   return self + " " + VERBS[rows.kind[row]] + " " + brief(row) + link;
 };
 
-// On which premises it rests what an event follows, by the last one; the legend has their words.
-const PREMISES = { c: "", 2: " (1, 2)", 3: " (1, 2, 3)", 4: " (4)", 7: " (5, 6, 7)", p: "" };
+// On which premises it rests what an event follows, mostly by the last one; the legend has their words.
+const PREMISES = { c: "", 2: " (1, 2)", 3: " (1, 2, 3)", 4: " (4)", 7: " (5, 6, 7)", 8: " (6, 8)",
+  o: " (6, 7, 8)", 9: " (6, 8, 9)", p: "" };
 
 // In the words of `gemshowal why`.
 export const causeText = row => {
@@ -61,7 +62,8 @@ export const causeText = row => {
   const premises = PREMISES[rows.grade[row]];
   const follows = () => rows.kind[cause] === "h" ? "nobody reported the send that it follows" : "it " + perhaps + after(cause) + premises;
   return {
-    s: follows, r: follows, b: () => "it " + perhaps + "begins this chain" + premises,
+    s: follows, r: follows, g: () => "it follows the message of " + eventName(cause) + ", whose receive wasn't reported" + premises,
+    b: () => "it " + perhaps + "begins this chain" + premises,
     l: () => "it " + perhaps + "begins label " + labelOf(row) + ", or its process set that on its token; it had last received "
       + eventName(others[0]) + " of label " + labelOf(others[0]) + premises,
     e: () => "it " + origin(others[0]) + " or " + origin(others[1]) + ", or another event: several tokens fit" + premises,

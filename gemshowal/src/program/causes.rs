@@ -7,6 +7,7 @@
 //! said with `perhaps`.
 
 use crate::audit;
+use crate::messages::{Found, LabelUse, Messages, Source, Sources};
 use crate::names::Names;
 use crate::reason::paired;
 use crate::view::{Kept, Place, Shown, View};
@@ -28,6 +29,12 @@ pub(crate) enum Grade {
 
 /// The premises where a token was put back, or a spawn moved the counters.
 const OWN_TOKENS: Grade = Grade::Under(&[5, 6, 7]);
+
+/// The premises where receives weren't reported: of the first event of a label that no message
+/// gave, of later ones, and of a label that its process may have received.
+const NO_MESSAGE: Grade = Grade::Under(&[6, 8]);
+const OWN_LABEL: Grade = Grade::Under(&[6, 7, 8]);
+const LABEL_RECEIVED: Grade = Grade::Under(&[6, 8, 9]);
 
 impl Grade {
     fn of(hop: NodeHop) -> Grade {
@@ -54,9 +61,13 @@ pub(crate) enum Cause {
     /// The send of a receive, or the receive that brought the token of a send or print. A hidden
     /// send is one that wasn't reported, and that no completion adds.
     After(Item),
+    /// The message of this send, whose receive wasn't reported, brought the token of a send or
+    /// print.
+    Message(Item),
     /// Its process made the token, or set its label; it had taken this token last.
     Begins(Option<Item>),
-    /// One of two, and there may be more: a receive, or the process itself.
+    /// One of two, and there may be more: a receive, or the send of a message whose receive wasn't
+    /// reported, or the process itself.
     Either(Option<Item>, Option<Item>),
     /// Something moved the counters of its process after this event of it, and nothing that was
     /// reported tells what.
@@ -83,6 +94,7 @@ impl Cause {
     fn map(self, with: impl Fn(Item) -> Item) -> Cause {
         match self {
             Cause::After(item) => Cause::After(with(item)),
+            Cause::Message(send) => Cause::Message(with(send)),
             Cause::Begins(had) => Cause::Begins(had.map(with)),
             Cause::Either(one, other) => Cause::Either(one.map(&with), other.map(&with)),
             Cause::Moved(since) => Cause::Moved(since.map(with)),
@@ -118,9 +130,37 @@ impl Link {
         Link { cause, grade: Grade::of(hop), moved }
     }
 
+    /// Returns this link as the messages to its process tell it, if they do.
+    fn by_messages(self, found: Found) -> Link {
+        let item = |source| match source {
+            Source::Home => None,
+            Source::Message((pid, index)) => Some(Item::Reported(pid, index)),
+        };
+        let cause = match found.sources {
+            Sources::Unknown => return self,
+            Sources::One(source) => item(source).map_or(Cause::Begins(None), Cause::Message),
+            Sources::Several(one, other) => Cause::Either(item(one), item(other)),
+        };
+        let grade = match found.label_use {
+            LabelUse::Begun => NO_MESSAGE,
+            LabelUse::Own => OWN_LABEL,
+            LabelUse::Received => LABEL_RECEIVED,
+        };
+        Link { cause, grade, ..self }
+    }
+
+    /// Returns the receive that a send or print follows, or the send of a receive.
     pub(crate) fn after(self) -> Option<Item> {
         match self.cause {
             Cause::After(item) => Some(item),
+            _ => None,
+        }
+    }
+
+    /// Returns the event that it follows: where the receive between wasn't reported, the send.
+    pub(crate) fn follows(self) -> Option<Item> {
+        match self.cause {
+            Cause::After(item) | Cause::Message(item) => Some(item),
             _ => None,
         }
     }
@@ -178,7 +218,21 @@ impl Links {
     }
 
     pub(crate) fn of_view(view: &View<'_>) -> Result<Links, OutOfMemory> {
-        Links::of(view.trace, |place| is_answer(view.trace, view.names, place))
+        let links = Links::of(view.trace, |place| is_answer(view.trace, view.names, place))?;
+        Ok(links.with_messages(view.trace, view.names))
+    }
+
+    /// Returns them with what the messages tell, if no receive was reported.
+    pub(crate) fn with_messages(mut self, trace: &Trace, names: &Names) -> Links {
+        let Some(messages) = Messages::of(trace, names) else { return self };
+        for (&pid, links) in &mut self.links {
+            for found in messages.found(pid) {
+                if let Some(link) = links.get_mut(found.index as usize) {
+                    *link = link.by_messages(found);
+                }
+            }
+        }
+        self
     }
 
     fn get(&self, (pid, index): Place) -> Link {

@@ -20,6 +20,7 @@ mod fuzz;
 mod input;
 mod lint;
 mod list;
+mod messages;
 mod moment;
 mod names;
 mod object;

@@ -24,6 +24,7 @@ pub(crate) fn run(args: &Why, task: Task<'_>) -> Result<Status, Failure> {
     let (headline, is_never) =
         if is_headed { headline_of_node(&trace, &names)? } else { (String::new(), false) };
     let links = Links::of(trace.trace(), |place| trace.is_answer(place))?;
+    let links = links.with_messages(trace.trace(), &names);
     let view = View::whole(trace.trace(), &names);
     let mut write = |causes: &Causes<'_>, headline: &str| {
         let first = causes.item_at(place).unwrap_or(Item::Reported(place.0, place.1));
@@ -70,7 +71,7 @@ struct Step {
 fn parent(link: Link, args: &Why) -> Option<Item> {
     match link.cause {
         Cause::Begins(had) => had.filter(|_| args.across),
-        _ => link.after(),
+        _ => link.follows(),
     }
 }
 
@@ -145,16 +146,18 @@ impl Answer<'_> {
     }
 
     fn write_back(&self, out: &mut Output) -> io::Result<()> {
-        let mut follower: Option<Grade> = None;
+        let mut follower: Option<Link> = None;
         for &Step { item, link, .. } in &self.steps {
             let (what, at) = (self.described(item), self.at(item));
             match follower {
                 None => writeln!(out, "{what}, label {}{at}", words::label(self.causes, item))?,
-                Some(grade) => {
-                    writeln!(out, "{}because {what}{at}{}", grade.perhaps(), grade.numbers())?;
+                Some(Link { grade, cause, .. }) => {
+                    let (perhaps, numbers) = (grade.perhaps(), grade.numbers());
+                    let unreceived = words::unreceived(cause);
+                    writeln!(out, "{perhaps}because {what}{unreceived}{at}{numbers}")?;
                 }
             }
-            follower = Some(link.grade);
+            follower = Some(link);
         }
         let Some(&Step { item, link, .. }) = self.steps.last() else { return Ok(()) };
         let name = self.causes.name(item);
@@ -167,7 +170,7 @@ impl Answer<'_> {
     fn write_moved(&self, out: &mut Output) -> io::Result<()> {
         let Some(&Step { item, link, .. }) = self.steps.first() else { return Ok(()) };
         match (link.moved, link.cause) {
-            (None, _) | (_, Cause::Moved(_)) => Ok(()),
+            (None, _) | (_, Cause::Moved(_) | Cause::Message(_)) => Ok(()),
             (Some(since), _) => {
                 let (name, moved) =
                     (self.causes.name(item), words::moved(self.causes, item, since));
@@ -279,6 +282,7 @@ fn cause_word(cause: Cause) -> (&'static str, Option<Item>) {
     match cause {
         Cause::After(Item::Hidden(..)) => ("unsent", None),
         Cause::After(item) => ("after", Some(item)),
+        Cause::Message(send) => ("message", Some(send)),
         Cause::Begins(None) => ("begins", None),
         Cause::Begins(had) => ("other_label", had),
         Cause::Either(..) => ("several", None),

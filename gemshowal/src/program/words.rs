@@ -11,16 +11,21 @@ const UNKNOWN: &str = "an unknown message";
 
 const RUNS: &str =
     "this holds in each run of a standard node without a reset that reports the trace";
-pub(crate) const PREMISES: [&str; 7] = [
+pub(crate) const PREMISES: [&str; 9] = [
     "if in between, or before a beginning, its process took no token whose receive wasn't reported",
     "if there it put no token back, and spawned no process",
     "if there it made no token, and set no label",
     "if each send of such a message was reported",
     "if the process of the send or print reported each of its sends, prints and receives of tokens",
-    "if it put back only tokens that it had held",
+    "if the process of the send or print put back only tokens that it had held",
     "if each label that it gave to a token was new to it, and it sent or printed with that label \
      before it received it",
+    "if it reported each of its sends and prints, and each message to it was reported when it was \
+     sent",
+    "if it made no token with the label of the send or print, and set that label on none",
 ];
+/// The premise of what isn't proved.
+const TESTED: u8 = 8;
 const PERHAPS: &str =
     "perhaps: it is so in the run that gemshowal complete finds, and another may \
      have something else there";
@@ -53,8 +58,10 @@ pub(crate) fn rests_on(links: impl Iterator<Item = Link>) -> Vec<String> {
     let rests_on = |premise| grades.iter().any(|grade| grade.premises().contains(&premise));
     let premises = (1..).zip(PREMISES).filter(|&(premise, _)| rests_on(premise));
     let premises = premises.map(|(premise, line)| format!("({premise}) {line}"));
+    let tested = rests_on(TESTED)
+        .then(|| format!("what rests on ({TESTED}) is not proved, and only tested"));
     let perhaps = grades.contains(&Grade::Perhaps).then(|| PERHAPS.to_owned());
-    [RUNS.to_owned()].into_iter().chain(premises).chain(perhaps).collect()
+    [RUNS.to_owned()].into_iter().chain(premises).chain(tested).chain(perhaps).collect()
 }
 
 /// Returns what is said after the name of an event that wasn't reported.
@@ -63,6 +70,14 @@ pub(crate) fn unreported(causes: &Causes<'_>, item: Item) -> &'static str {
         ""
     } else {
         ", which wasn't reported"
+    }
+}
+
+/// Returns what is said after the send of a message that an event follows.
+pub(crate) fn unreceived(cause: Cause) -> &'static str {
+    match cause {
+        Cause::Message(_) => ", whose receive wasn't reported",
+        _ => "",
     }
 }
 
@@ -86,6 +101,10 @@ pub(crate) fn follows(causes: &Causes<'_>, item: Item, name: &str, link: Link) -
         Cause::After(other) => {
             let (cause, unreported) = (causes.name(other), unreported(causes, other));
             format!("{name} {perhaps}follows {cause}{unreported}{numbers}")
+        }
+        Cause::Message(send) => {
+            let (send, unreceived) = (causes.name(send), unreceived(link.cause));
+            format!("{name} follows the message of {send}{unreceived}{numbers}")
         }
         Cause::Begins(None) => format!("{name} {perhaps}begins this chain{numbers}"),
         Cause::Begins(Some(had)) => format!(

@@ -77,7 +77,8 @@ struct Rows {
     /// A letter an event, for what it follows: its send, a receive, another label, either of two;
     /// it begins; its counters moved; or nothing is known.
     how: String,
-    /// A sign an event: certain, perhaps, or the number of the last premise.
+    /// A sign an event: certain, perhaps, or which premises it rests on, mostly the last one's
+    /// number.
     grade: String,
     label: Vec<usize>,
     /// The number of the message; -1 if nobody knows it.
@@ -188,7 +189,7 @@ impl Rows {
             rows.term.push(values.or_none(causes.message(item)));
             rows.serial.push(format!("{},{}", event.serial.prev, event.serial.this));
             rows.at.push(causes.number(item));
-            rows.cause.push(places.or_none(link.after()));
+            rows.cause.push(places.or_none(link.follows()));
             let others: Vec<i64> =
                 others(link.cause).into_iter().map(|other| places.or_none(other)).collect();
             if !others.is_empty() {
@@ -215,6 +216,7 @@ fn how(kind: Kind, link: Link) -> char {
     match link.cause {
         Cause::After(_) if kind == Kind::Receive => 's',
         Cause::After(_) => 'r',
+        Cause::Message(_) => 'g',
         Cause::Begins(None) => 'b',
         Cause::Begins(Some(_)) => 'l',
         Cause::Either(..) => 'e',
@@ -228,13 +230,14 @@ fn others(cause: Cause) -> Vec<Option<Item>> {
         Cause::Begins(Some(had)) => vec![Some(had)],
         Cause::Either(one, other) => vec![one, other],
         Cause::Moved(since) => vec![since],
-        Cause::After(_) | Cause::Begins(None) | Cause::Unknown => Vec::new(),
+        Cause::After(_) | Cause::Message(_) | Cause::Begins(None) | Cause::Unknown => Vec::new(),
     }
 }
 
 fn grade(grade: Grade) -> char {
     match grade {
         Grade::Certain => 'c',
+        Grade::Under([6, 7, 8]) => 'o',
         Grade::Under(premises) => premises.last().map_or('c', |&last| char::from(b'0' + last)),
         Grade::Perhaps => 'p',
     }
