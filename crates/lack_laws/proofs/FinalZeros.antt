@@ -137,7 +137,7 @@ module _ (top : ℕ) (wholes : List Whole) (sound : IsStreams (all_streams whole
       (omega arith, full.goes_on p k e at)))
 
   -- a told event is one of all
-  in_all : (p : Pid) (i : ℕ) (e : Event) → event_at told p i ≡ Some e
+  pub in_all : (p : Pid) (i : ℕ) (e : Event) → event_at told p i ≡ Some e
       → (k : ℕ) × (event_at all p k ≡ Some e)
   in_all p i e at =
       let place = told_at (marked_of wholes p) i e (told_there top wholes full p i e at) in
@@ -164,11 +164,11 @@ module _ (top : ℕ) (wholes : List Whole) (sound : IsStreams (all_streams whole
       absurd (omega arith)
 
   -- each event tells of a stamp of the process that it is from
-  record Tells (e : Event) : Type 0 where
-    stamp : HasStamp all e.from e.serial.this
-    prev : stamp.event.serial.prev ≡ e.serial.prev
+  pub record Tells (e : Event) : Type 0 where
+    pub stamp : HasStamp all e.from e.serial.this
+    pub prev : stamp.event.serial.prev ≡ e.serial.prev
 
-  tells : (p : Pid) (i : ℕ) (e : Event) → event_at all p i ≡ Some e → Tells e
+  pub tells : (p : Pid) (i : ℕ) (e : Event) → event_at all p i ≡ Some e → Tells e
   tells p i e at = elim (is_stamp e) as (λ b. is_stamp e ≡ b → Tells e) [
     | true ↦ λ stamps.
         let from = stamper e.kind e.from e.to p stamps (own_at all p i e sound.draft.own at) in

@@ -3,10 +3,12 @@
 -- ---- streams, and what pairing says of them
 pub use Rattle.lack_laws.proofs.InsertedEvents.{unlisted_events}
 pub use Rattle.lack_laws.proofs.Renumbering.{streams_with}
-pub use Rattle.lack_laws.proofs.AcceptedStreams.{accepted_if, FitTogether}
-pub use Rattle.lack_laws.proofs.AcceptedStreams.{own_at, received_to}
+pub use Rattle.lack_laws.proofs.AcceptedStreams.{accepted_if, fit_together, FitTogether}
+pub use Rattle.lack_laws.proofs.AcceptedStreams.{own_at, received_to, stamper}
 -- ---- whole streams, and reasons
-pub use Rattle.lack_laws.proofs.ToldEvents.{events_all}
+pub use Rattle.lack_laws.proofs.ToldEvents.{event_of_mark, events, events_all, events_told}
+pub use Rattle.lack_laws.proofs.ToldEvents.{go_on, told_at, GoOn}
+pub use Rattle.lack_laws.proofs.FinalZeros.{in_all, tells}
 pub use Rattle.lack_laws.proofs.NeedlessStreams.{above_if}
 -- ---- lists of counts that rise
 pub use Rattle.lack_laws.proofs.Ranks.{AllAbove, Climbs, IsIn, above_in, insert_climbs}
