@@ -9,5 +9,11 @@ pub mod Ranking
 pub mod ZeroBehind
 pub mod Noted
 pub mod Merging
+-- The lemmas on what happened in every run.
+pub mod LostReceives
+pub mod CertainLosses
+pub mod AllRuns
+-- Worked cases.
+mod Cases
 -- Lemmas that crates above may cite.
 pub mod ForCallers

@@ -8,6 +8,7 @@
 mod completion;
 mod first_flaws;
 mod flaws;
+mod losses;
 mod ranks;
 mod silent;
 mod unfounded_stamps;
@@ -15,6 +16,7 @@ mod unfounded_stamps;
 pub use completion::{Completion, completion_of, is_marked, marks_at};
 pub use first_flaws::find_flaw;
 pub use flaws::{Flaw, Left, is_stamp, prev_left};
+pub use losses::{is_sent, shows_loss};
 pub use ranks::{counts_of, renumbered};
 pub use silent::{is_unlisted, pids_with, with_silent};
 pub use unfounded_stamps::find_unfounded;
