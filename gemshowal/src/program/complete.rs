@@ -1,14 +1,58 @@
 //! The command `complete`: events that nobody reported, with which a run has the trace.
 
 use crate::args::{Complete, Form};
-use crate::object::{Fields, Number, Place, Sequence};
+use crate::certain::Certain;
+use crate::object::{Fields, Number, Place as PlaceObject, Sequence};
 use crate::output::Output;
 use crate::reason::Against;
-use crate::view::{count, Shown, View};
+use crate::view::{count, short, Place, Shown, View};
 use crate::{Failure, Status, Task};
-use gemshowal::{Answer, Completion, Event, Pid, Trace};
+use gemshowal::{Answer, Completion, Event, Kind, Pid, Trace};
 use serde::Serialize;
+use std::collections::{BTreeSet, HashSet};
 use std::io::{self, Write};
+
+const NOTHING: &str =
+    "adds nothing: the manual's machine has a run with exactly these sends and receives. That is \
+     no evidence that nothing was lost. Events that counts alone show aren't added (gemshowal \
+     audit counts them), and a message whose receive isn't reported may still wait.";
+const LOST_ON_A_NODE: &str =
+    "Not added, and certainly so on a node: before each of these its process received a message \
+     of this count, and didn't report that:";
+
+/// Tells how certain it is that an added event happened.
+#[derive(Clone, Copy, PartialEq, Eq, PartialOrd, Ord, Serialize)]
+#[serde(rename_all = "snake_case")]
+enum Certainty {
+    Certain,
+    CertainOnANode,
+    Perhaps,
+}
+
+impl Certainty {
+    fn words(self) -> &'static str {
+        match self {
+            Certainty::Certain => "certainly",
+            Certainty::CertainOnANode => "certainly on a node",
+            Certainty::Perhaps => "perhaps",
+        }
+    }
+
+    fn meaning(self) -> &'static str {
+        match self {
+            Certainty::Certain => {
+                "Certainly: each run without a reset that has the trace has this send, or a \
+                 receive of this count between the same reported events; on a standard node if its \
+                 process put no token back and spawned no process."
+            }
+            Certainty::CertainOnANode => {
+                "Certainly on a node: so it is on a standard node, where a trace that begins keeps \
+                 the counters, if its process put no token back. This isn't proved."
+            }
+            Certainty::Perhaps => "Perhaps: another run has something else there.",
+        }
+    }
+}
 
 pub(crate) fn run(args: &Complete, task: Task<'_>) -> Result<Status, Failure> {
     let Task { json, input, out, notes } = task;
@@ -16,10 +60,12 @@ pub(crate) fn run(args: &Complete, task: Task<'_>) -> Result<Status, Failure> {
     let view = View::whole(&trace, &names);
     match gemshowal::complete(&trace)? {
         Answer::Whole(completion) => {
-            let shown = Shown::completed(&view, &completion);
             match (args.form, json) {
-                (Form::Added, true) => out.report("completed", &object(&completion, &shown))?,
-                (Form::Added, false) => write_added(&completion, &shown, out)?,
+                (Form::Added, true) => {
+                    let lacks = Lacks::of(&view, &completion);
+                    out.report("completed", &lacks.object())?;
+                }
+                (Form::Added, false) => Lacks::of(&view, &completion).write(out)?,
                 _ if write_text(args.form, &trace, &completion, input.line_name(), out)? => {}
                 _ => notes.say(
                     "note: seqaudit doesn't read so much; seqtool check and gemshowal check do",
@@ -58,24 +104,129 @@ fn write_text(
     }
 }
 
-fn write_added(completion: &Completion, shown: &Shown<'_>, out: &mut Output) -> io::Result<()> {
-    if completion.added() == 0 {
-        return writeln!(
-            out,
-            "adds nothing: each event has what it follows. Events that counts alone show aren't \
-             added (gemshowal audit counts them), and a message whose receive isn't reported may \
-             still wait."
-        );
+/// The events that a completion adds, and which of them are certain.
+struct Lacks<'a> {
+    completion: &'a Completion,
+    shown: Shown<'a>,
+    certain: Certain,
+    /// The added sends of messages whose receives weren't reported, by sender and count.
+    invented: HashSet<(Pid, u64)>,
+}
+
+impl<'a> Lacks<'a> {
+    fn of(view: &'a View<'a>, completion: &'a Completion) -> Lacks<'a> {
+        let certain = Certain::of(view.trace.streams(), completion);
+        let is_invented = |&(pid, index, event): &(Pid, u64, &Event)| {
+            event.kind == Kind::Send && !certain.added.contains(&(pid, index))
+        };
+        let invented = gemshowal::added(completion).filter(is_invented);
+        let invented = invented.map(|(pid, _, event)| (pid, event.serial.this)).collect();
+        Lacks { completion, shown: Shown::completed(view, completion), certain, invented }
     }
-    let of = match completion.unlisted().len() as u64 {
-        0 => String::new(),
-        unlisted => format!(", with {} that the trace doesn't list", count(unlisted, "process")),
-    };
-    writeln!(out, "adds {}{of}:", count(completion.added(), "event"))?;
-    for (pid, index, event) in gemshowal::added(completion) {
-        writeln!(out, "  {}: {}", shown.event((pid, index)), shown.sentence(event))?;
+
+    fn certainty(&self, place: Place) -> Certainty {
+        if self.certain.added.contains(&place) {
+            Certainty::Certain
+        } else if self.certain.added_on_a_node.contains(&place) {
+            Certainty::CertainOnANode
+        } else {
+            Certainty::Perhaps
+        }
     }
-    writeln!(out, "They may have happened, and that is no evidence that they did.")
+
+    /// Returns whether no reported event tells of the event's message.
+    fn is_invented(&self, event: &Event) -> bool {
+        self.invented.contains(&(event.from, event.serial.this))
+    }
+
+    /// Says what happened: of a message that no reported event tells of its count alone, and of a
+    /// certain receive that the message may have been another.
+    fn sentence(&self, event: &Event, certainty: Certainty) -> String {
+        let (process, count) = (|pid| self.shown.process(pid), event.serial.this);
+        match (event.kind, event.to) {
+            (Kind::Receive, Some(to)) if self.is_invented(event) => {
+                format!("{} receives a message of count {count}, sender unknown", process(to))
+            }
+            (Kind::Send, Some(to)) if self.is_invented(event) => {
+                let (from, to) = (process(event.from), process(to));
+                format!("{from} sends a message of count {count} to {to}")
+            }
+            (Kind::Receive, Some(to)) if certainty != Certainty::Perhaps => {
+                let message = self.shown.view.names.brief(event.value);
+                let (to, message, from) = (process(to), short(&message), process(event.from));
+                format!("{to} receives a message of count {count}, perhaps {message} from {from}")
+            }
+            _ => self.shown.sentence(event),
+        }
+    }
+
+    fn write(&self, out: &mut Output) -> io::Result<()> {
+        match self.completion.added() {
+            0 => writeln!(out, "{NOTHING}")?,
+            added => self.write_added(added, out)?,
+        }
+        if !self.certain.lost_on_a_node.is_empty() {
+            writeln!(out, "{LOST_ON_A_NODE}")?;
+        }
+        for lost in self.lost_on_a_node() {
+            writeln!(out, "  {}: count {}, before {}", lost.place.event, lost.count.0, lost.what)?;
+        }
+        self.grades().iter().try_for_each(|grade| writeln!(out, "{}", grade.meaning()))
+    }
+
+    fn write_added(&self, added: u64, out: &mut Output) -> io::Result<()> {
+        let of = match self.completion.unlisted().len() as u64 {
+            0 => String::new(),
+            unlisted => {
+                format!(", with {} that the trace doesn't list", count(unlisted, "process"))
+            }
+        };
+        writeln!(out, "adds {}{of}:", count(added, "event"))?;
+        gemshowal::added(self.completion).try_for_each(|(pid, index, event)| {
+            let (name, grade) = (self.shown.event((pid, index)), self.certainty((pid, index)));
+            writeln!(out, "  {name}: {} {}", grade.words(), self.sentence(event, grade))
+        })
+    }
+
+    /// Returns the grades of what is written.
+    fn grades(&self) -> BTreeSet<Certainty> {
+        let added = gemshowal::added(self.completion);
+        let added = added.map(|(pid, index, _)| self.certainty((pid, index)));
+        let lost = self.certain.lost_on_a_node.iter().map(|_| Certainty::CertainOnANode);
+        added.chain(lost).collect()
+    }
+
+    fn lost_on_a_node(&self) -> impl Iterator<Item = Lost> + '_ {
+        self.certain.lost_on_a_node.iter().filter_map(|&place| {
+            let event = self.completion.streams().event(place.0, place.1)?;
+            Some(Lost {
+                place: PlaceObject::shown(&self.shown, place),
+                count: Number(event.serial.prev),
+                what: self.sentence(&event, Certainty::Perhaps),
+            })
+        })
+    }
+
+    fn object(&self) -> Completed<'_> {
+        let names = self.shown.view.names;
+        let added = move |(pid, index, event): (Pid, u64, &Event)| {
+            let certainty = self.certainty((pid, index));
+            Added {
+                place: PlaceObject::shown(&self.shown, (pid, index)),
+                fields: Fields::new(names, event),
+                grade: certainty,
+                sender_known: !self.is_invented(event),
+                what: self.sentence(event, certainty),
+            }
+        };
+        let unlisted = self.completion.unlisted().iter();
+        Completed {
+            added: Number(self.completion.added()),
+            unlisted: unlisted.map(|&pid| gemshowal::Text(pid).to_string()).collect(),
+            events: Sequence::of(move || gemshowal::added(self.completion).map(added)),
+            lost_on_a_node: Sequence::of(|| self.lost_on_a_node()),
+        }
+    }
 }
 
 #[derive(Serialize)]
@@ -83,28 +234,25 @@ struct Completed<'a> {
     added: Number,
     unlisted: Vec<String>,
     events: Sequence<'a, Added>,
+    lost_on_a_node: Sequence<'a, Lost>,
 }
 
 #[derive(Serialize)]
 struct Added {
     #[serde(flatten)]
-    place: Place,
+    place: PlaceObject,
     #[serde(flatten)]
     fields: Fields,
+    grade: Certainty,
+    sender_known: bool,
     what: String,
 }
 
-fn object<'a>(completion: &'a Completion, shown: &'a Shown<'_>) -> Completed<'a> {
-    let names = shown.view.names;
-    let added = move |(pid, index, event): (Pid, u64, &Event)| Added {
-        place: Place::shown(shown, (pid, index)),
-        fields: Fields::new(names, event),
-        what: shown.sentence(event),
-    };
-    let unlisted = completion.unlisted().iter();
-    Completed {
-        added: Number(completion.added()),
-        unlisted: unlisted.map(|&pid| gemshowal::Text(pid).to_string()).collect(),
-        events: Sequence::of(move || gemshowal::added(completion).map(added)),
-    }
+/// A send or print before which a receive was lost, though none is added.
+#[derive(Serialize)]
+struct Lost {
+    #[serde(flatten)]
+    place: PlaceObject,
+    count: Number,
+    what: String,
 }

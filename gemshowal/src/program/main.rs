@@ -7,6 +7,7 @@
 mod args;
 mod audit;
 mod causes;
+mod certain;
 mod chart;
 mod check;
 mod complete;
