@@ -17,7 +17,7 @@ EVENT = re.compile(r"\{seq_trace,(\d+),\{(send|'receive'|answer|print),\{(-?\d+)
 MARK = re.compile(r"\{m,(\d+),([a-z0-9]+),(true|false)\}")
 SPAWN = re.compile(r"\{<([\d.]+)>,\{(\w+),(\w+)\}\}")
 EITHER = re.compile(r"(?:follows (\S.*?#\d+)|begins this chain) or (?:follows (\S.*?#\d+)|begins this chain), or another event")
-HEAD = ("traces", "doesn't fit", "events", "sends and prints", "facts", "several", "perhaps", "moved",
+HEAD = ("traces", "doesn't fit", "fits if", "events", "sends and prints", "facts", "several", "perhaps", "moved",
         "false as a premise fails", "neither of several", "perhaps not", "not judged", "false")
 
 Event = namedtuple("Event", "kind label sender to term")
@@ -213,7 +213,7 @@ class Judge:
     def judge(self):
         """Asks of events until each was said to follow something, and judges each sentence."""
         said, links = self.run("audit", "--json", self.trace.name), {}
-        self.counted["doesn't fit"] += said.returncode != 0
+        self.counted.update({"never": ["doesn't fit"], "unexplained": ["fits if"]}.get(json.loads(said.stdout)["result"], []))
         left = [(pid, i) for pid, events in self.trace.streams.items() for i in range(len(events))]
         for place in left:
             if place not in links:

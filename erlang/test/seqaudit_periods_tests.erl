@@ -344,7 +344,8 @@ served(There, Service, InSecond) ->
      end || Module <- [?MODULE, seqaudit_test_server, seqaudit_test_services]],
     erpc:call(There, erlang, spawn, [seqaudit_test_services, Service, [InSecond]]).
 
-%% Prints with serials that no process of a node gets by itself: a trace of them doesn't fit.
+%% Prints with serials that no process of a node gets by itself: a trace of them fits only if
+%% something wasn't reported.
 set_by_hand() ->
     seq_trace:set_token(label, 1),
     seq_trace:set_token(print, true),
@@ -358,9 +359,9 @@ set_by_hand() ->
 watched(There, Name, Says, End) ->
     seqaudit_test_nodes:until(fun() -> length(Says("period [0-9]+: fits.*: .* not kept")) >= 3 end),
     ok = erpc:call(There, ?MODULE, set_by_hand, []),
-    seqaudit_test_nodes:until(fun() -> Says("period [0-9]+: doesn't fit.*: ") =/= [] end),
+    seqaudit_test_nodes:until(fun() -> Says("period [0-9]+: fits if .*: ") =/= [] end),
     seqaudit_test_nodes:until(fun() ->
-        Says("doesn't fit.*: .*\n.*period [0-9]+: fits.*: .*; kept as ") =/= [] end),
+        Says("fits if .*: .*\n.*period [0-9]+: fits.*: .*; kept as ") =/= [] end),
     seqaudit_test_nodes:until(fun() -> length(Says("period [0-9]+: fits.*: .* not kept")) >= 5 end),
     Ended = erlang:monotonic_time(millisecond),
     1 = End(),
@@ -368,7 +369,7 @@ watched(There, Name, Says, End) ->
     io:format(user, "watch: ended in ~b ms~n", [Took]),
     %% On a machine with other work it may take longer than the second that it is to take.
     true = Took < 10_000,
-    [[_, Unfit]] = Says("period ([0-9]+): doesn't fit.*: "),
+    [[_, Unfit]] = Says("period ([0-9]+): fits if .*: "),
     Around = lists:sort([integer_to_list(list_to_integer(Unfit) + N) || N <- [-1, 0, 1]]),
     Around = lists:sort([Number || One <- filelib:wildcard(Name ++ ".*.seqtrace"),
                                    ["w", Number, "seqtrace"] <-

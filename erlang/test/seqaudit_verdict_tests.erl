@@ -17,8 +17,9 @@ verdicts_test_() ->
                  end,
             {fits, <<"fits: 2 events of 1 process; nothing is known to be missing">>} =
                 Of(["0,1", "0,2"]),
+            {unfit, <<"fits if something wasn't reported: ", _/binary>>} = Of(["1,5", "2,4"]),
             {unfit, <<"doesn't fit: no run without a reset reports this trace, because of ",
-                      _/binary>>} = Of(["1,5", "2,4"]),
+                      _/binary>>} = Of(["0,1", "0,1"]),
             {error, {refused, Words}} = Of(["0,x"]),
             {_, _} = binary:match(Words, <<"verdict of a trace.seqtrace, line 3, column ">>),
             Wrapped = fun(Serial) ->

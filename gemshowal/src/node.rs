@@ -62,6 +62,17 @@ pub struct NodeFinding {
     pub ways: Vec<(Pid, Vec<Way>)>,
 }
 
+/// A process whose counters go on from before the trace.
+#[derive(Debug)]
+pub struct FromBefore {
+    /// Its first send or print.
+    pub place: (Pid, u64),
+    /// The way in which each of its events is given then.
+    pub ways: Vec<Way>,
+    /// Tells whether a token that it had saved before the trace was put back for that.
+    pub is_put_back: bool,
+}
+
 impl NodeFinding {
     /// Returns the places of the events that are given in a way for which the function is true.
     pub fn places(&self, is_so: impl Fn(Way) -> bool) -> Vec<(Pid, u64)> {
@@ -131,15 +142,36 @@ impl NodeTrace {
         Ok(judgement.unsent.is_empty() && judgement.cycle.is_empty())
     }
 
-    /// Finds the processes whose first send or print is ungiven, unless their counters go on from
-    /// before the trace: its index, and the way in which each event is given then. One that was
-    /// spawned in the trace isn't among them.
-    pub fn from_before(
-        &self,
-        finding: &NodeFinding,
-    ) -> Result<Vec<(Pid, u64, Vec<Way>)>, OutOfMemory> {
+    /// Returns the processes that were spawned in the trace.
+    pub fn spawned(&self) -> HashSet<Pid> {
         let answers = self.events(Kind::Receive).filter(|&(place, _)| self.is_answer(place));
-        let spawned: HashSet<Pid> = answers.map(|(_, event)| event.from).collect();
+        answers.map(|(_, event)| event.from).collect()
+    }
+
+    /// Returns those of these receives whose unreported sends can have come before the trace: the
+    /// first send or print of the sender's has a greater count, if there is one.
+    pub fn sent_before(&self, unsent: &[(Pid, u64)]) -> Vec<(Pid, u64)> {
+        let spawned = self.spawned();
+        let first = |(pid, events): (Pid, &[Event])| {
+            let stamp = events.iter().find(|event| event.kind != Kind::Receive)?;
+            Some((pid, stamp.serial.this))
+        };
+        let firsts: HashMap<Pid, u64> = self.trace.processes().filter_map(first).collect();
+        let can_be_before = |&(pid, index): &(Pid, u64)| {
+            let Some(event) = self.trace.streams().event(pid, index) else { return false };
+            let is_below = |&first: &u64| {
+                let distance = first.wrapping_sub(event.serial.this) % COUNTS;
+                (1..COUNTS / 2).contains(&distance)
+            };
+            !spawned.contains(&event.from) && firsts.get(&event.from).is_none_or(is_below)
+        };
+        unsent.iter().copied().filter(can_be_before).collect()
+    }
+
+    /// Finds the processes whose first send or print is ungiven, unless their counters go on from
+    /// before the trace. One that was spawned in the trace isn't among them.
+    pub fn from_before(&self, finding: &NodeFinding) -> Result<Vec<FromBefore>, OutOfMemory> {
+        let spawned = self.spawned();
         let mut found = Vec::new();
         for &(pid, ref ways) in finding.ways.iter().filter(|(pid, _)| !spawned.contains(pid)) {
             let first = ways.iter().position(|&way| way != Way::Receive);
@@ -151,8 +183,12 @@ impl NodeTrace {
             }
             // Counters that haven't wrapped have no bits that a serial hides.
             let uppers = if self.is_wrapped { UPPERS } else { 0..1 };
-            let given = given_from_before(&seen, first, uppers)?;
-            found.extend(given.map(|ways| (pid, first as u64, ways)));
+            let place = (pid, first as u64);
+            let goes_on = given_from_before(&seen, first, uppers)?;
+            found.push(match goes_on {
+                Some(ways) => FromBefore { place, ways, is_put_back: false },
+                None => FromBefore { place, ways: given_saved(&seen, first)?, is_put_back: true },
+            });
         }
         Ok(found)
     }
@@ -261,6 +297,13 @@ fn given_from_before(
     }
     let ways = |(_, upper)| given_after(past(seen, first, upper), seen);
     best.map(ways).transpose()
+}
+
+/// Returns what gives each event of a process if it had saved the token of its first stamp.
+fn given_saved(seen: &[Seen], first: usize) -> Result<Vec<Way>, OutOfMemory> {
+    let Serial { prev, this } = seen[first].serial;
+    let serial = Serial { prev, this: this.wrapping_sub(1) % COUNTS };
+    given_after(vec![Seen { kind: Kind::Receive, serial, answer: false, ..seen[first] }], seen)
 }
 
 fn given_after(mut past: Vec<Seen>, seen: &[Seen]) -> Result<Vec<Way>, OutOfMemory> {

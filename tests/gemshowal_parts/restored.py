@@ -26,6 +26,11 @@ REPLY, REPLIED = line("send", 1, 2, SERVER, CLIENT, 8), line("'receive'", 1, 2, 
 AGAIN, ASKED_AGAIN = line("send", 0, 2, value=9), line("'receive'", 0, 2, value=9)
 LATER, LATER_REPLIED = line("send", 2, 3, SERVER, CLIENT, 10), line("'receive'", 2, 3, SERVER, CLIENT, 10)
 
+MET, IS_MET = line("send", 0, 1, label=2), line("'receive'", 0, 1, label=2)
+OVER = line("print", 0, 4, SERVER)
+LATE = [line("print", 3, 9, SERVER), line("send", 3, 10, SERVER, CLIENT, 8), line("print", 3, 10, SERVER, value=9), line("print", 3, 11, SERVER)]
+BACK_LATE = line("'receive'", 3, 10, SERVER, CLIENT, 8)
+
 # A trace in words, its text, the status, and the sentences in their order.
 SAID = (
     ("a token that was put back", trace([ASK, REPLIED, AGAIN], [ASKED, REPLY, ASKED_AGAIN]), 0,
@@ -44,9 +49,27 @@ SAID = (
      ["; 2 tokens were put back\n", "  <0.30.0>#2: a token that it had made, {0,0}, was put back\n",
       "A reset would explain 2 put-backs, as two runs in one trace would: between <0.30.0>#1 and <0.30.0>#2, between <0.31.0>#1 and <0.31.0>#2.\n"]),
     ("a serial that no token gives", trace([line("print", 0, 1), AGAIN, LATER_REPLIED, line("send", 1, 2)], [ASKED_AGAIN, LATER, line("'receive'", 1, 2)]), 1,
-     ["doesn't fit: no run without a reset reports this trace, because of <0.30.0>#3 (notrising)\n", "What to look at: ",
-      "A standard node that puts tokens back doesn't report it either, unless something wasn't reported or a token was handed over: 1 of 4 "
-      "serials isn't explained by what was\n", "  <0.30.0>#3 {1,2}: nothing that <0.30.0> had gives it"]),
+     ["fits if something wasn't reported: 1 of 4 serials isn't explained by what was\n", "  <0.30.0>#3 {1,2}: nothing that <0.30.0> had gives it\n",
+      "If all was reported, it doesn't fit, because of <0.30.0>#3 (notrising):\n", "What to look at: "]),
+    ("a token that was handed over", trace([MET, line("print", 0, 2), line("print", 0, 3)], [IS_MET, line("print", 1, 2, SERVER, label=2), OVER]), 0,
+     ["fits: 6 events of 2 processes; nothing is known to be missing; 1 token was handed over\n",
+      "  <0.31.0>#2: the token of <0.30.0>#2, {0,3}, was handed over\n", "that a standard node has such a run, and its words, are only tested"]),
+    ("the same, if its process had it only later",
+     trace([MET, line("print", 0, 2), line("'receive'", 0, 5, SERVER, CLIENT), line("print", 0, 3)],
+           [IS_MET, line("print", 1, 2, SERVER, label=2), OVER, line("send", 0, 5, SERVER, CLIENT)]), 1,
+     ["fits if something wasn't reported: 1 of 6 serials isn't explained by what was\n", "  <0.31.0>#2 {0,4}: "]),
+    ("the same, if its process was under way with that label and prev",
+     trace([MET, line("print", 0, 2), line("print", 0, 3)], [IS_MET, line("print", 1, 2, SERVER, label=2), line("print", 0, 2, SERVER), OVER]), 1,
+     ["fits if something wasn't reported: 1 of 6 serials isn't explained by what was\n"]),
+    ("a tracer that came late", trace([line("send", 0, 4), BACK_LATE], [line("'receive'", 0, 3, value=6), *LATE]), 0,
+     ["fits: 7 events of 2 processes, with 1 send that nobody reported; the counters of 2 processes go on from before; 1 message has no "
+      "reported receive, and may still wait; 1 token was put back\n",
+      "  <0.31.0>#0: the send of value 6 by <0.30.0> wasn't reported, and can have come before the trace\n"]),
+    ("the same, if only the sender's counter shows it",
+     trace([line("send", 0, 4)], [line("'receive'", 0, 3, value=6), line("print", 3, 4, SERVER), line("print", 3, 5, SERVER), line("print", 3, 5, SERVER, value=9)]), 1,
+     ["fits if something wasn't reported: 1 receive has no reported send\n"]),
+    ("a send that isn't reported, and came after others", trace([line("send", 0, 1), BACK_LATE], [line("'receive'", 0, 3, value=6), *LATE]), 1,
+     ["fits if something wasn't reported: 1 receive has no reported send\n", "  <0.31.0>#0: the send of value 6 by <0.30.0> wasn't reported\n"]),
     ("a message that is received twice", trace([ASK], [ASKED, ASKED]), 1,
      ["doesn't fit: no run without a reset", "doesn't report it either, if each send of a token was reported: messages were received more "
       "often than they were sent: <0.31.0>#1\n"]),
@@ -93,10 +116,6 @@ def told_of(program, streams):
     return got.status, json.loads(got.output)
 
 
-def places(told, key):
-    return [(int(it["pid"].split(".")[1]), it["index"]) for it in told.get(key, [])]
-
-
 def whole_runs(program):
     """What a node did fits, with as many tokens put back as the model says."""
     judged = 0
@@ -106,7 +125,7 @@ def whole_runs(program):
         by_node = "law" in told
         judged += by_node
         wanted = slow_node.judge(streams).put_backs if by_node else []
-        is_right = status in (0, 1 if told["said"] == "empty" else 0) and places(told, "put_backs") == wanted
+        is_right = status in (0, 1 if told["said"] == "empty" else 0) and wrapped.places(told, "put_backs") == wanted
         yield Check(f"audit of the run {seed}", None if is_right else f"{told['headline']}\nwanted {wanted}")
     yield Check("audit of runs that the manual's machine hasn't", None if judged > RUNS // 2 else str(judged), note=str(judged))
 
@@ -146,6 +165,8 @@ def damaged_runs(program):
         if kinds < {"send", "receive", "print"} or "law" not in told:
             continue
         judged = slow_node.judge(streams)
-        against = judged.unsent + judged.cycle + [it for it in judged.ungiven if it not in places(told, "earlier")]
+        said = wrapped.places(told, "earlier", "handed_over", "sent_before")
+        against = judged.cycle + [it for it in judged.unsent + judged.ungiven if it not in said]
+        against += wrapped.wrongly_handed_over(streams, told)
         is_right = (status == 0) == (not against and not told["copies"])
         yield Check(f"audit of the damaged run {seed}", None if is_right else f"{told['headline']}\nthe model: {judged}")

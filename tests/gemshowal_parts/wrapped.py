@@ -36,7 +36,7 @@ def spawn(parent=(), child=(), other=()):
 SAID = (
     ("a spawn, whose answer multiplies the counter by 16", spawn([line("print", 47, 48)]), 0,
      ["fits: 5 events of 3 processes; nothing is known to be missing\n", "This answer is not proved"]),
-    ("the same as an ordinary receive", spawn([line("print", 47, 48)]).replace(b"{answer,", b"{'receive',"), 0,
+    ("the same as an ordinary receive", spawn([line("print", 47, 48)]).replace(b"{answer,", b"{'receive',"), 1,
      ["fits if something wasn't reported: 1 of 3 serials isn't explained by what was\n",
       "  <0.30.0>#2 {47,48}: nothing that <0.30.0> had gives it\n"]),
     ("the greatest count, and the least after it", trace([line("print", 0, 1), line("'receive'", 3, 2**59 - 1, CHILD, PARENT),
@@ -51,27 +51,30 @@ SAID = (
                 line("send", 7, 2**58 + 1, OTHER), line("'receive'", 2**58 + 1, 8, CHILD, OTHER)]), 0,
      ["fits: 8 events of 3 processes; the counters of 2 processes go on from before; nothing is known to be missing\n",
       "the counter of <0.31.0> was 6, that of <0.32.0> 288230376151711743. "]),
-    ("a prev that isn't the count of the receive before it", trace([], [line("'receive'", 3, 9, OTHER), line("print", 8, 10, CHILD)],
-                                                                       [line("send", 3, 9, OTHER)]), 0,
+    ("a prev that isn't the count of the receive before it", trace([], [line("'receive'", 0, 1, OTHER), line("print", 8, 10, CHILD)],
+                                                                       [line("send", 0, 1, OTHER)]), 1,
      ["fits if something wasn't reported: 1 of 2 serials isn't explained by what was\n", "  <0.31.0>#1 {8,10}: nothing that <0.31.0> had gives it\n"]),
+    ("the same, if another counter shows that the trace began late", trace([], [line("'receive'", 3, 9, OTHER), line("print", 8, 10, CHILD)],
+                                                                               [line("send", 3, 9, OTHER)]), 0,
+     ["fits: 3 events of 3 processes; the counters of 2 processes go on from before; nothing is known to be missing\n"]),
     ("a process that was spawned here, and so has no counter from before",
-     trace([REQUEST, line("answer", 1, 5, CHILD, PARENT, 8)], [BORN, line("send", 1, 5, CHILD, PARENT, 8)], []), 0,
+     trace([REQUEST, line("answer", 1, 5, CHILD, PARENT, 8)], [BORN, line("send", 1, 5, CHILD, PARENT, 8)], []), 1,
      ["fits if something wasn't reported: 1 of 2 serials isn't explained by what was\n", "  <0.31.0>#1 {1,5}: 3 counts before it"]),
     ("a token that was put back", spawn([line("print", 47, 48), line("print", 0, 2)]), 0,
      ["; nothing is known to be missing; 1 token was put back\n", "  <0.30.0>#3: the token of <0.30.0>#0 was put back\n"]),
     ("a token that was put back before a receive", spawn([line("print", 47, 48), line("'receive'", 1, 3, CHILD, PARENT, 9), line("print", 3, 4)],
                                                          [line("send", 1, 3, CHILD, PARENT, 9)]), 0,
      ["; 1 token was put back\n", "  <0.30.0>#4: a token that it had made, {0,0}, was put back before <0.30.0>#3\n"]),
-    ("a receive that wasn't reported", spawn([], [line("send", 1, 3, CHILD, OTHER, 9)], [line("print", 3, 4, OTHER)]), 0,
+    ("a receive that wasn't reported", spawn([], [line("send", 1, 3, CHILD, OTHER, 9)], [line("print", 3, 4, OTHER)]), 1,
      ["fits if something wasn't reported: 1 of 4 serials isn't explained by what was\n",
       "  <0.32.0>#0 {3,4}: the receive of <0.31.0>#2 (value 9) wasn't reported\n"]),
     ("a token that was handed over", spawn([], [], [line("print", 1, 3, OTHER)]), 0,
-     ["  <0.32.0>#0 {1,3}: nothing that <0.32.0> had gives it; the token of <0.31.0>#1, {1,2} of the same label, does: was it handed over?\n"]),
-    ("counts that nobody has", spawn([line("print", 47, 50)]), 0,
+     ["; nothing is known to be missing; 1 token was handed over\n", "  <0.32.0>#0: the token of <0.31.0>#1, {1,2}, was handed over\n"]),
+    ("counts that nobody has", spawn([line("print", 47, 50)]), 1,
      ["  <0.30.0>#2 {47,50}: 2 counts before it that no event here has: what <0.30.0> may have sent or printed unreported\n"]),
     ("a message that waits", spawn([], [line("send", 1, 3, CHILD, OTHER, 9)]), 0,
      ["; 1 message has no reported receive, and may still wait\n"]),
-    ("a send that wasn't reported", trace([ANSWER], [BORN], []), 0,
+    ("a send that wasn't reported", trace([ANSWER], [BORN], []), 1,
      ["fits if something wasn't reported: 2 receives have no reported send\n", "  <0.30.0>#0: the send of value 8 by <0.31.0> wasn't reported\n"]),
     ("a message that is received twice", spawn([], [BORN]), 1,
      ["doesn't fit: messages were received more often than they were sent: <0.31.0>#2\nthis holds if each send of a token was reported\n"]),
@@ -116,6 +119,23 @@ def sentences(program):
         yield Check(f"audit {words[0]} of a wrapped trace", None if is_right else str(got))
 
 
+def places(told, *keys):
+    return [(int(it["pid"].split(".")[1]), it["index"]) for key in keys for it in told.get(key, [])]
+
+
+def wrongly_handed_over(streams, told):
+    """Those that no token of another process gives, and all if no order of the events has each token before."""
+    handed, wrong = told.get("handed_over", []), []
+    source = slow_node.sources(streams)
+    for it, (pid, i), (other, at) in zip(handed, places(told, "handed_over"), places({"of": [it["of"] for it in handed]}, "of")):
+        event, had = streams[pid][i], streams[other][at]
+        if other == pid or (had.prev, had.this) != (event.prev, (event.this - 1) % SERIAL):
+            wrong.append(it)
+    needs = {(pid, i): (other, at) for (pid, i), (other, at)
+             in zip(places(told, "handed_over"), places({"of": [it["of"] for it in handed]}, "of"))}
+    return wrong or (handed if slow_node.waits(streams, source | needs) and not slow_node.waits(streams, source) else [])
+
+
 def random_runs(program):
     for seed in range(RUNS):
         rng = random.Random(seed)
@@ -123,9 +143,11 @@ def random_runs(program):
         judged = slow_node.judge(streams)
         got = program.run(("audit", "--json"), slow_node.text(streams).encode())
         told = json.loads(got.output)
-        named = {"unsent": judged.unsent, "cycle": judged.cycle, "put_backs": judged.put_backs, "unexplained": judged.ungiven}
-        wrong = [f"{key}: {found} for {wanted}" for key, wanted in named.items()
-                 if (found := [(it["pid"], it["index"]) for it in told.get(key, [])]) != [(f"<0.{pid}.0>", i) for pid, i in wanted]]
+        named = {("unsent", "sent_before"): judged.unsent, ("cycle",): judged.cycle, ("put_backs",): judged.put_backs,
+                 ("unexplained", "handed_over"): judged.ungiven}
+        wrong = [f"{keys}: {found} for {wanted}" for keys, wanted in named.items()
+                 if (found := sorted(places(told, *keys))) != sorted(wanted)]
+        wrong += [f"handed over: {it}" for it in wrongly_handed_over(streams, told)]
         yield Check(f"audit of the wrapped run {seed}", "\n".join(wrong) or None)
 
 

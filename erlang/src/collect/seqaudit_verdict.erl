@@ -28,7 +28,7 @@ said(Program, {Status, Output}) ->
     [Line | _] = binary:split(Output, <<"\n">>),
     case {Status, Line} of
         {0, <<"fits: ", _/binary>>} -> {fits, Line};
-        {0, <<"fits if ", _/binary>>} -> {unfit, Line};
+        {1, <<"fits if ", _/binary>>} -> {unfit, Line};
         {1, <<"doesn't fit: ", _/binary>>} -> {unfit, Line};
         {_, <<"error: ", Words/binary>>} -> {error, {refused, Words}};
         _ -> {error, {ended, Program, Status}}

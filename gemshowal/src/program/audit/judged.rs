@@ -1,13 +1,16 @@
 //! Judges a trace by the rules of a standard node. They ask nothing of the order of counts, so
 //! counters may wrap, and a token that is put back may move them anywhere.
 
+use super::handed_over::{had_elsewhere, handed_over, HandedOver};
 use super::lives;
 use super::unexplained::Explainer;
 use super::walk::{walk, Run};
 use crate::names::Names;
 use crate::view::{Kept, Place};
 use crate::Failure;
-use gemshowal::{Event, Kind, MessageContent, NodeFinding, NodeTrace, Pid, Serial, Way, COUNTS};
+use gemshowal::{
+    Event, FromBefore, Kind, MessageContent, NodeFinding, NodeTrace, Pid, Serial, Way, COUNTS,
+};
 use serde::Serialize;
 use std::collections::{HashMap, HashSet};
 
@@ -42,10 +45,16 @@ pub(super) struct Found {
 #[derive(Clone, Debug, Default)]
 pub(super) struct Judged {
     pub(super) put_backs: Vec<PutBack>,
-    /// The sends and prints that nothing their process had gives.
+    pub(super) handed_over: Vec<HandedOver>,
+    /// The sends and prints that no token of this trace gives.
     pub(super) ungiven: Vec<Place>,
+    /// The first event of another process with the token of a send or print that is ungiven.
+    pub(super) elsewhere: HashMap<Place, Place>,
     /// The first send or print of each process whose counter goes on from before the trace.
     pub(super) earlier: Vec<Place>,
+    /// The receives whose unreported sends can have come before the trace.
+    pub(super) sent_before: Vec<Place>,
+    /// The other receives without a reported send.
     pub(super) unsent: Vec<Place>,
     /// The receives of messages that were sent less often than received.
     pub(super) doubled: Vec<Place>,
@@ -68,32 +77,76 @@ impl Judged {
         let is_sent = |&place: &Place| {
             event_at(trace, place).is_some_and(|event| sent.contains(&MessageContent::of(&event)))
         };
-        let waiting = trace.unreceived();
-        let explainer = Explainer::new(trace, names, &waiting);
-        // Leaves out what the trace itself may explain.
-        let from_before = trace.from_before(&finding)?.into_iter();
-        let from_before = from_before.filter(|it| !explainer.has_source((it.0, it.1)));
-        let mut earlier = Vec::new();
-        for (pid, first, ways) in from_before {
-            earlier.push((pid, first));
-            let own = finding.ways.binary_search_by_key(&pid, |it| it.0);
-            match own.map(|at| &mut finding.ways[at].1) {
-                Ok(own) if trace.is_wrapped() => *own = ways,
-                // A token from before the trace explains nothing later.
-                Ok(own) => own[first as usize] = Way::Plain,
-                Err(_) => {}
-            }
+        let mut judged = Judged { waiting: trace.unreceived(), ..Judged::default() };
+        let explainer = Explainer::new(trace, names, &judged.waiting);
+        let has_messages = !sent.is_empty() && trace.events(Kind::Receive).next().is_some();
+        judged.elsewhere = had_elsewhere(trace, &finding.places(is_ungiven));
+        judged.go_on_from_before(trace, &mut finding, &explainer)?;
+        if has_messages {
+            let mut before = trace.sent_before(&finding.unsent);
+            before.retain(|place| !is_sent(place) && judged.is_late_for(trace, *place));
+            judged.sent_before = before;
         }
+        let mut ungiven = finding.places(is_ungiven);
+        if has_messages {
+            let strange = ungiven.iter().copied().filter(|&place| {
+                !explainer.has_message(place)
+                    && !(judged.is_late() && explainer.may_have_saved(place.0))
+            });
+            judged.handed_over = handed_over(trace, &strange.collect::<Vec<_>>());
+        }
+        ungiven.retain(|place| !judged.is_handed_over(place));
+        finding.unsent.retain(|place| judged.sent_before.binary_search(place).is_err());
         Ok(Judged {
             put_backs: put_backs(trace, &finding),
-            ungiven: finding.places(|way| way == Way::Ungiven),
-            earlier,
+            ungiven,
             doubled: finding.unsent.iter().copied().filter(is_sent).collect(),
             unsent: finding.unsent,
             cycle: finding.cycle,
-            waiting,
-            ..Judged::default()
+            ..judged
         })
+    }
+
+    /// Lets the counters of processes go on from before the trace if nothing of the trace gives
+    /// their first send or print. If another process has its token, or only a saved one leads to
+    /// it, the counter of a third one has to show that the trace began late.
+    fn go_on_from_before(
+        &mut self,
+        trace: &NodeTrace,
+        finding: &mut NodeFinding,
+        explainer: &Explainer<'_>,
+    ) -> Result<(), Failure> {
+        let mut found = trace.from_before(finding)?;
+        found.retain(|it| !explainer.has_message(it.place));
+        let shows = |it: &FromBefore| !it.is_put_back && !self.elsewhere.contains_key(&it.place);
+        let is_late = found.iter().any(shows);
+        for FromBefore { place, ways, .. } in found.into_iter().filter(|_| is_late) {
+            self.earlier.push(place);
+            let Ok(at) = finding.ways.binary_search_by_key(&place.0, |it| it.0) else { continue };
+            let own = &mut finding.ways[at].1;
+            // A token from before the trace explains nothing later.
+            if trace.is_wrapped() {
+                *own = ways;
+            }
+            own[place.1 as usize] = Way::Plain;
+        }
+        Ok(())
+    }
+
+    /// Returns whether another process than the sender shows that the trace began late: the
+    /// sender's counter alone would, if one of its events was lost.
+    fn is_late_for(&self, trace: &NodeTrace, receive: Place) -> bool {
+        let sender = event_at(trace, receive).map(|event| event.from);
+        self.earlier.iter().any(|place| Some(place.0) != sender)
+    }
+
+    fn is_handed_over(&self, place: &Place) -> bool {
+        self.handed_over.binary_search_by_key(place, |it| it.place).is_ok()
+    }
+
+    /// Returns whether the counter of a process shows that the trace began late.
+    pub(super) fn is_late(&self) -> bool {
+        !self.earlier.is_empty()
     }
 
     /// Judges a trace of which the manual's machine has no run. If it has no sends, no receives or
@@ -103,7 +156,8 @@ impl Judged {
         let lacks = |kind| trace.events(kind).next().is_none();
         let is_partial = [Kind::Send, Kind::Receive, Kind::Print].into_iter().any(lacks)
             && trace.trace().events().all(|(_, event)| event.serial.this < COUNTS);
-        if judged.verdict() != Verdict::Fits && is_partial {
+        let is_plain = judged.handed_over.is_empty() && judged.sent_before.is_empty();
+        if is_partial && !(is_plain && judged.verdict() == Verdict::Fits) {
             let run = walk(trace, |event| names.is_spawned(event.value));
             if run.stuck.is_empty() && lives::has_run(trace, &run)? {
                 judged = Judged::found(trace, run);
@@ -111,7 +165,8 @@ impl Judged {
                 judged = Judged { ungiven: run.stuck, ..Judged::default() };
             }
         }
-        judged.copies = copies(trace, names, &judged.put_backs);
+        judged.copies = copies(trace, names, &judged);
+        judged.ungiven.retain(|place| judged.copies.binary_search(place).is_err());
         Ok(judged)
     }
 
@@ -139,11 +194,16 @@ impl Judged {
             kept.get(&pid).is_some_and(|own| own.binary_search(&index).is_ok())
         };
         part.put_backs.retain(|it| has(&it.place));
-        let Judged { ungiven, earlier, unsent, doubled, copies, cycle, waiting, .. } = &mut part;
-        for places in [ungiven, earlier, unsent, doubled, copies, cycle, waiting] {
-            places.retain(has);
-        }
+        part.handed_over.retain(|it| has(&it.place));
+        let Judged { ungiven, earlier, sent_before, unsent, .. } = &mut part;
+        [ungiven, earlier, sent_before, unsent].into_iter().for_each(|it| it.retain(has));
+        let Judged { doubled, copies, cycle, waiting, .. } = &mut part;
+        [doubled, copies, cycle, waiting].into_iter().for_each(|it| it.retain(has));
         part
+    }
+
+    pub(super) fn is_unexplained(&self, place: Place) -> bool {
+        self.ungiven.contains(&place) || self.unsent.contains(&place)
     }
 
     pub(super) fn verdict(&self) -> Verdict {
@@ -159,13 +219,17 @@ impl Judged {
     }
 }
 
+fn is_ungiven(way: Way) -> bool {
+    way == Way::Ungiven
+}
+
 pub(super) fn event_at(trace: &NodeTrace, (pid, index): Place) -> Option<Event> {
     trace.trace().streams().event(pid, index)
 }
 
-/// Finds the sends and prints that show a put-back and are as an earlier one of their process, if
-/// the node gave them no other time.
-fn copies(trace: &NodeTrace, names: &Names, put_backs: &[PutBack]) -> Vec<Place> {
+/// Finds the sends and prints that show a put-back, or are ungiven, and are as an earlier one of
+/// their process, if the node gave them no other time.
+fn copies(trace: &NodeTrace, names: &Names, judged: &Judged) -> Vec<Place> {
     let time = |place| names.times()?.of_event(place);
     let key = |(place, event): (Place, &Event)| {
         (event.kind as u8, MessageContent::of(event), time(place))
@@ -177,8 +241,11 @@ fn copies(trace: &NodeTrace, names: &Names, put_backs: &[PutBack]) -> Vec<Place>
         .filter(|&(place, event)| event.kind != Kind::Receive && !seen.insert(key((place, event))))
         .map(|(place, _)| place)
         .collect();
-    let shown = put_backs.iter().filter(|it| !it.is_hidden).map(|it| it.place);
-    shown.filter(|place| again.contains(place)).collect()
+    let shown = judged.put_backs.iter().filter(|it| !it.is_hidden).map(|it| it.place);
+    let shown = shown.chain(judged.ungiven.iter().copied());
+    let mut copies: Vec<Place> = shown.filter(|place| again.contains(place)).collect();
+    copies.sort_unstable();
+    copies
 }
 
 fn put_backs(trace: &NodeTrace, finding: &NodeFinding) -> Vec<PutBack> {

@@ -1,5 +1,6 @@
 //! The command `audit`: whether the events of a trace fit together, and what is missing.
 
+mod handed_over;
 mod judged;
 mod lives;
 mod missing;
@@ -260,7 +261,7 @@ impl Auditor<'_> {
             writeln!(out, "{}", summary(self.view.trace, times))?;
         }
         if others.is_empty() {
-            let is_of_node = audited.outcome.judged.is_some() && audited.outcome.is_fit();
+            let is_of_node = audited.outcome.judged.is_some() && !audited.outcome.is_never();
             writeln!(out, "{}", sentences::not_proved(self.node.is_wrapped(), is_of_node))?;
         }
         others.iter().try_for_each(|other| writeln!(out, "{other}"))?;

@@ -87,7 +87,7 @@ struct Question {
 /// Says what the other programs are asked: they know the manual's machine alone.
 fn what(outcome: &Outcome) -> &'static str {
     match outcome.said {
-        Said::Never(_) if outcome.is_fit() => "That the manual's machine has no run of it",
+        Said::Never(_) if !outcome.is_never() => "That the manual's machine has no run of it",
         _ => "This answer",
     }
 }

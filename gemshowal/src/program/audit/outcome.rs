@@ -71,15 +71,28 @@ impl Outcome {
     }
 
     pub(super) fn verdict(&self) -> Verdict {
-        match (&self.said, &self.judged) {
-            (Said::Never(_), Some(judged)) if judged.verdict() != Verdict::Fits => Verdict::Never,
-            (_, Some(judged)) => judged.verdict(),
-            (_, None) => Verdict::Fits,
-        }
+        self.judged.as_ref().map_or(Verdict::Fits, Judged::verdict)
     }
 
     pub(super) fn is_fit(&self) -> bool {
-        self.verdict() != Verdict::Never
+        self.verdict() == Verdict::Fits
+    }
+
+    pub(super) fn is_never(&self) -> bool {
+        self.verdict() == Verdict::Never
+    }
+
+    /// Returns the reason of the manual's machine, if it tells what is wrong: a standard node may
+    /// explain the event that it names.
+    pub(super) fn against(&self) -> Option<&Against> {
+        match (&self.said, &self.judged) {
+            (Said::Never(against), Some(judged))
+                if self.is_never() || judged.is_unexplained(against.place) =>
+            {
+                Some(against)
+            }
+            _ => None,
+        }
     }
 
     pub(super) fn word(&self) -> &'static str {

@@ -1,11 +1,12 @@
 //! The report on a trace as a whole: its parts, its copies, and the object for programs.
 
+use super::handed_over::HandedOver;
 use super::judged::{Found, Judged, PutBack};
 use super::missing::{Known, Lack};
 use super::others::{Asked, Comparison};
 use super::sentences::{not_proved, of_processes, write_losses, Sentences};
 use super::unexplained::{serial_text, Explainer};
-use super::{Audited, Auditor, Said};
+use super::{Audited, Auditor};
 use crate::object::{Number, Place as PlaceObject};
 use crate::output::Output;
 use crate::reason::Refused;
@@ -71,8 +72,10 @@ pub(super) struct Part {
 struct NodeObject {
     law: &'static str,
     put_backs: Vec<PutBackObject>,
+    handed_over: Vec<HandedOverObject>,
     unexplained: Vec<UnexplainedObject>,
     earlier: Vec<PlaceObject>,
+    sent_before: Vec<PlaceObject>,
     unsent: Vec<PlaceObject>,
     copies: Vec<PlaceObject>,
     cycle: Vec<PlaceObject>,
@@ -89,6 +92,14 @@ struct PutBackObject {
     before: PlaceObject,
     #[serde(skip_serializing_if = "Option::is_none")]
     of: Option<PlaceObject>,
+}
+
+#[derive(Serialize)]
+struct HandedOverObject {
+    #[serde(flatten)]
+    place: PlaceObject,
+    serial: String,
+    of: PlaceObject,
 }
 
 #[derive(Serialize)]
@@ -126,10 +137,7 @@ impl Part {
     pub(super) fn new(sentences: &Sentences<'_>) -> Part {
         let (outcome, shown) = (sentences.outcome, sentences.shown);
         let streams = shown.view.trace.streams();
-        let refused = match &outcome.said {
-            Said::Never(against) if !outcome.is_fit() => Some(against.refused(shown.view, true)),
-            _ => None,
-        };
+        let refused = outcome.against().map(|against| against.refused(shown.view, true));
         let missing = outcome.judged.is_none().then(|| MissingObject::new(sentences));
         Part {
             fits: outcome.is_fit() && streams.total() > 0,
@@ -157,13 +165,22 @@ impl NodeObject {
             before: place(&it.before),
             of: it.of.as_ref().map(place),
         };
-        let unexplained =
-            |it: &Place| UnexplainedObject { place: place(it), why: explainer.explanation(*it) };
+        let handed_over = |it: &HandedOver| HandedOverObject {
+            place: place(&it.place),
+            serial: serial_text(it.token),
+            of: place(&it.of),
+        };
+        let unexplained = |it: &Place| UnexplainedObject {
+            place: place(it),
+            why: explainer.explanation(*it, judged),
+        };
         NodeObject {
             law: "node",
             put_backs: judged.put_backs.iter().map(put_back).collect(),
+            handed_over: judged.handed_over.iter().map(handed_over).collect(),
             unexplained: judged.ungiven.iter().map(unexplained).collect(),
             earlier: places(&judged.earlier),
+            sent_before: places(&judged.sent_before),
             unsent: places(&judged.unsent),
             copies: places(&judged.copies),
             cycle: places(&judged.cycle),

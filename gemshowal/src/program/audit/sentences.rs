@@ -17,7 +17,6 @@ const LISTED: usize = 20;
 const EMPTY: &str = "nothing to audit: the trace has no events";
 /// The premise of what no run has: an unreported send can stand for an alike one.
 const FINAL: &str = "this holds if each send of a token was reported";
-const NEITHER: &str = "A standard node that puts tokens back doesn't report it either";
 /// The other explanation of an event that a message without a reported receive explains.
 const ANEW: &str = "begun anew with a counter left from an earlier trace";
 
@@ -48,7 +47,7 @@ impl Sentences<'_> {
 
     pub(super) fn headline(&self) -> String {
         match (&self.outcome.said, &self.outcome.judged) {
-            (Said::Never(against), _) if !self.outcome.is_fit() => {
+            (Said::Never(against), _) if self.outcome.is_never() => {
                 against.headline(self.shown.view)
             }
             (_, Some(judged)) => of_node(self.node, self.shown.view, judged).headline(),
@@ -165,12 +164,22 @@ impl Sentences<'_> {
 
     pub(super) fn write_details(&self, out: &mut Output) -> io::Result<()> {
         if let Some(judged) = &self.outcome.judged {
-            if let Said::Never(against) = &self.outcome.said {
-                if !self.outcome.is_fit() {
-                    write!(out, "{}", against.refused(self.shown.view, true))?;
-                }
+            let node = of_node(self.node, self.shown.view, judged);
+            let against = self.outcome.against();
+            let refused = against.map(|it| it.refused(self.shown.view, true).to_string());
+            let refused = refused.unwrap_or_default();
+            if self.outcome.is_never() {
+                write!(out, "{refused}")?;
+                return node.write(self.outcome, out);
             }
-            return of_node(self.node, self.shown.view, judged).write(self.outcome, out);
+            node.write(self.outcome, out)?;
+            let Some(against) = against else { return Ok(()) };
+            let event = self.shown.event(against.place);
+            let word = against.word();
+            return write!(
+                out,
+                "If all was reported, it doesn't fit, because of {event} ({word}):\n{refused}"
+            );
         }
         self.write_lacks(out)?;
         if !self.missing.waiting.is_empty() {
@@ -452,11 +461,9 @@ impl NodeSentences<'_> {
 
     /// Says what the run that was found has besides the events of the trace.
     fn found(&self) -> String {
-        let Some(Found { sends, receives, counts }) =
-            self.judged.found.filter(|_| !self.view.is_cut)
-        else {
-            return String::new();
-        };
+        let before = Found { sends: self.judged.sent_before.len() as u64, receives: 0, counts: 0 };
+        let found = self.judged.found.filter(|_| !self.view.is_cut);
+        let Found { sends, receives, counts } = found.unwrap_or(before);
         let mut said = Vec::new();
         if sends + receives > 0 {
             said.push(format!("{} that nobody reported", by_kind([sends, receives], "")));
@@ -493,11 +500,8 @@ impl NodeSentences<'_> {
 
     fn tokens(&self) -> String {
         let found = if self.judged.found.is_some() { " in the run that was found" } else { "" };
-        match self.judged.put_backs.len() as u64 {
-            0 => String::new(),
-            1 => format!("; 1 token was put back{found}"),
-            more => format!("; {} were put back{found}", count(more, "token")),
-        }
+        let put_back = tokens_were(self.judged.put_backs.len(), &format!("put back{found}"));
+        put_back + &tokens_were(self.judged.handed_over.len(), "handed over")
     }
 
     fn unexplained(&self) -> String {
@@ -524,10 +528,10 @@ impl NodeSentences<'_> {
     }
 
     fn write(&self, outcome: &Outcome, out: &mut Output) -> io::Result<()> {
-        if let (Said::Never(_), Some(either)) = (&outcome.said, self.either()) {
-            writeln!(out, "{either}")?;
-        } else if self.judged.verdict() == Verdict::Never {
-            writeln!(out, "{FINAL}")?;
+        match (&outcome.said, self.judged.verdict()) {
+            (Said::Never(_), Verdict::Never) => writeln!(out, "{}", self.either())?,
+            (_, Verdict::Never) => writeln!(out, "{FINAL}")?,
+            _ => {}
         }
         self.write_unexplained(out)?;
         if !self.view.is_cut {
@@ -536,37 +540,42 @@ impl NodeSentences<'_> {
         if self.judged.found.is_some() && !self.judged.put_backs.is_empty() {
             writeln!(out, "Another run may have fewer tokens put back, or others. This one has:")?;
         }
-        write_all(out, &self.judged.put_backs, |put_back| self.put_back(put_back))
+        write_all(out, &self.judged.put_backs, |put_back| self.put_back(put_back))?;
+        write_all(out, &self.judged.handed_over, |it| {
+            let (place, of) = (self.event(it.place), self.event(it.of));
+            format!("{place}: the token of {of}, {}, was handed over", serial_text(it.token))
+        })
     }
 
     /// Says why a standard node has no run either.
-    fn either(&self) -> Option<String> {
+    fn either(&self) -> String {
         let Judged { doubled, cycle, copies, .. } = self.judged;
-        let said = match self.judged.verdict() {
-            Verdict::Fits => return None,
-            Verdict::Unexplained => format!(
-                "{NEITHER}, unless something wasn't reported or a token was handed over: {}",
-                self.unexplained()
-            ),
-            Verdict::Never if doubled.is_empty() && cycle.is_empty() => format!(
+        if doubled.is_empty() && cycle.is_empty() {
+            return format!(
                 "A standard node that puts tokens back may report it, or events were collected \
                  twice, which no times tell apart: {}",
                 self.listed(copies)
-            ),
-            Verdict::Never => {
-                format!("{NEITHER}, if each send of a token was reported: {}", self.against())
-            }
-        };
-        Some(said)
+            );
+        }
+        format!(
+            "A standard node that puts tokens back doesn't report it either, if each send of a \
+             token was reported: {}",
+            self.against()
+        )
     }
 
     fn write_unexplained(&self, out: &mut Output) -> io::Result<()> {
         let explainer = Explainer::new(self.node, self.view.names, &self.judged.waiting);
         write_all(out, &self.judged.ungiven, |&place| {
-            format!("{}: {}", self.stamp(place), explainer.explanation(place))
+            let why = explainer.explanation(place, self.judged);
+            format!("{}: {why}", self.stamp(place))
         })?;
         write_all(out, &self.judged.unsent, |&place| {
             format!("{}: {}", self.event(place), explainer.unsent(place))
+        })?;
+        write_all(out, &self.judged.sent_before, |&place| {
+            let unsent = explainer.unsent(place);
+            format!("{}: {unsent}, and can have come before the trace", self.event(place))
         })
     }
 
@@ -608,6 +617,15 @@ impl NodeSentences<'_> {
 
     fn listed(&self, places: &[Place]) -> String {
         listed(places, |&place| self.event(place), "more")
+    }
+}
+
+/// Says that tokens were put back or handed over, if any were.
+fn tokens_were(number: usize, done: &str) -> String {
+    match number as u64 {
+        0 => String::new(),
+        1 => format!("; 1 token was {done}"),
+        more => format!("; {} were {done}", count(more, "token")),
     }
 }
 

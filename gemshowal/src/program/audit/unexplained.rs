@@ -1,11 +1,11 @@
 //! Finds what may explain a serial that nothing its process had gives. The first that applies is
 //! said, and none of them is certain.
 
-use super::judged::event_at;
+use super::judged::{event_at, Judged};
 use crate::names::Names;
 use crate::view::{count, short, Place};
 use gemshowal::{signed, Event, Kind, NodeTrace, Pid, Serial, COUNTS};
-use std::collections::HashMap;
+use std::collections::{HashMap, HashSet};
 
 /// The greatest number of counts that unreported sends and prints are said to have taken. Beyond it
 /// the counter rather jumped, as at a spawn.
@@ -22,7 +22,7 @@ pub(super) struct Explainer<'a> {
     by_count: HashMap<(Pid, u64), Place>,
     /// A send without a reported receive, by receiver and serial.
     by_serial: HashMap<(Pid, u64, u64), Place>,
-    holders: HashMap<(u32, u64, u64), Place>,
+    spawned: HashSet<Pid>,
 }
 
 impl<'a> Explainer<'a> {
@@ -34,15 +34,11 @@ impl<'a> Explainer<'a> {
             by_count.entry((to, this)).or_insert(place);
             by_serial.entry((to, prev, this)).or_insert(place);
         }
-        let kinds = [Kind::Receive, Kind::Send, Kind::Print];
-        let holder = |(place, event): (Place, &Event)| {
-            ((event.label.0, event.serial.prev, event.serial.this), place)
-        };
-        let holders = kinds.into_iter().flat_map(|kind| trace.events(kind)).map(holder).collect();
-        Explainer { trace, names, by_count, by_serial, holders }
+        Explainer { trace, names, by_count, by_serial, spawned: trace.spawned() }
     }
 
-    pub(super) fn explanation(&self, place: Place) -> String {
+    /// Says what may explain this event.
+    pub(super) fn explanation(&self, place: Place, judged: &Judged) -> String {
         let Some(event) = event_at(self.trace, place) else { return String::new() };
         if event.kind == Kind::Receive {
             let sender = self.names.process(event.from);
@@ -59,23 +55,29 @@ impl<'a> Explainer<'a> {
         if let Some(send) = self.unreported_receive(place.0, event.serial) {
             return format!("the receive of {} wasn't reported", self.message(send));
         }
-        match self.holder(place.0, &event) {
-            Some((holder, token)) => format!(
-                "nothing that {process} had gives it; the token of {}, {} of the same label, does: \
-                 was it handed over?",
+        let other = match judged.elsewhere.get(&place) {
+            Some(&holder) => format!(
+                "; the token of {}, {} of the same label, does: was it handed over?",
                 self.names.event(holder),
-                serial_text(token)
+                serial_text(before(event.serial))
             ),
-            None => format!("nothing that {process} had gives it"),
-        }
+            None if judged.is_late() && self.may_have_saved(place.0) => {
+                ", unless it put back a token from before the trace".into()
+            }
+            None => String::new(),
+        };
+        format!("nothing that {process} had gives it{other}")
     }
 
-    /// Returns whether a message or a token of this trace may explain the serial.
-    pub(super) fn has_source(&self, place: Place) -> bool {
-        event_at(self.trace, place).is_some_and(|event| {
-            self.unreported_receive(place.0, event.serial).is_some()
-                || self.holder(place.0, &event).is_some()
-        })
+    /// Returns whether a process may have saved a token before a trace that began late.
+    pub(super) fn may_have_saved(&self, pid: Pid) -> bool {
+        !self.spawned.contains(&pid)
+    }
+
+    /// Returns whether a message whose receive wasn't reported may explain the serial.
+    pub(super) fn has_message(&self, place: Place) -> bool {
+        event_at(self.trace, place)
+            .is_some_and(|event| self.unreported_receive(place.0, event.serial).is_some())
     }
 
     /// Says what may explain this receive, whose send wasn't reported.
@@ -117,13 +119,6 @@ impl<'a> Explainer<'a> {
         let token = before(serial);
         let next = || self.by_serial.get(&(pid, token.prev, token.this));
         self.by_count.get(&(pid, serial.prev)).or_else(next).copied()
-    }
-
-    /// Returns an event of another process that has the token before this stamp, with that token.
-    fn holder(&self, pid: Pid, event: &Event) -> Option<(Place, Serial)> {
-        let token = before(event.serial);
-        let holder = self.holders.get(&(event.label.0, token.prev, token.this)).copied();
-        holder.filter(|holder| holder.0 != pid).map(|holder| (holder, token))
     }
 
     fn message(&self, send: Place) -> String {
