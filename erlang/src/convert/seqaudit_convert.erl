@@ -33,12 +33,13 @@
 %% @doc Converts files of events.
 -spec from_files([file:filename()], file:filename()) -> {ok, summary()} | {error, term()}.
 from_files(Files, Name) ->
-    alone(fun() ->
+    %% The tables of a conversion, and what it leaves on the heap, end with a process of its own.
+    seqaudit_workers:result(seqaudit_workers:begun(fun() ->
         case fold_files(Files, seqaudit_batches:new(seqaudit_build:new())) of
             {ok, Batches} -> write_events(seqaudit_batches:build(Batches), Files, Name);
             {error, Reason} -> {error, Reason}
         end
-    end).
+    end)).
 
 %% A file without events makes a trace only if a collector wrote it.
 write_events(#build{packed = <<>>} = Build, Files, Name) ->
@@ -56,10 +57,6 @@ fold_files([File | Files], Batches) ->
         {ok, More} -> fold_files(Files, More);
         {error, Reason} -> {error, Reason}
     end.
-
-%% The tables of a conversion, and what it leaves on the heap, end with a process of its own.
-alone(Do) ->
-    seqaudit_workers:result(seqaudit_workers:begun(Do)).
 
 write(Build, Name) ->
     {Parts, Facts} = parts(Build),
@@ -149,10 +146,8 @@ parts(#build{actors = Actors, others = Others} = Whole) ->
     Sorted = lists:sort([{Number, Party} || {Party, Number} <- maps:to_list(Numbers)]),
     Counts = maps:merge(Build#build.counts, Resolved#{nameless => Nameless}),
     Collections = lists:reverse(Build#build.collections),
-    IsAnswer = case Wrapped of
-                   true -> fun(Before, Event) ->
-                       seqaudit_spawns:is_answer(Before, Event, Senders, Spawns) end;
-                   false -> fun(_, _) -> false end
+    IsAnswer = fun(Before, Event) ->
+                       Wrapped andalso seqaudit_spawns:is_answer(Before, Event, Senders, Spawns)
                end,
     ByLabel = lists:sort([{Number, Label} || {Label, Number} <- maps:to_list(LabelNumbers)]),
     Bundle = fun(Out) ->

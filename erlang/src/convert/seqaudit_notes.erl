@@ -35,8 +35,6 @@ count(Kind, Counts) ->
     maps:get(Kind, Counts, 0).
 
 %% Adds what a collection says of itself to what was found in it.
-known(dropped, #{facts := Facts} = Collection) ->
-    count(dropped, Facts) + count(dropped, Collection);
 known(left, #{facts := Facts} = Collection) ->
     count(cut, Facts) + count(left, Collection);
 known(Kind, #{facts := Facts} = Collection) ->
