@@ -1,4 +1,4 @@
-%% A gen_server whose state is a fun of its requests.
+%% A gen_server whose state is a fun of its requests, but of one that is to be replied to later.
 -module(seqaudit_test_server).
 -behaviour(gen_server).
 
@@ -16,6 +16,9 @@ start(Name, Fun) ->
 init(Fun) ->
     {ok, Fun}.
 
+handle_call({later, Do}, From, Fun) ->
+    Do(From),
+    {noreply, Fun};
 handle_call(Request, _From, Fun) ->
     {reply, Fun(Request), Fun}.
 

@@ -2,7 +2,7 @@
 %% makes the requests has no token.
 -module(seqaudit_test_services).
 
--export([calls/1, spawns/1, request/2]).
+-export([calls/1, spawns/1, request/2, awaited/1]).
 %% Called by name.
 -export([answer/0, ask/2]).
 
@@ -40,12 +40,18 @@ request(Server, N) ->
     seqaudit_trace:with_trace({request, N}, fun() ->
         seq_trace:print({'begin', N}),
         user = gen_server:call(Server, user),
-        Self = self(),
-        {Task, Monitor} = spawn_monitor(fun() ->
-            receive {Self, Reference} ->
-                Self ! {Reference, gen_server:call(Server, {row, N})} end
-        end),
-        Task ! {Self, Monitor},
-        receive {Monitor, Row} -> demonitor(Monitor, [flush]), Row end,
+        Row = awaited(fun() -> gen_server:call(Server, {row, N}) end),
         gen_server:call(Server, {done, Row})
     end).
+
+%% Waits for a task that does this.
+awaited(Do) ->
+    Self = self(),
+    {Task, Monitor} = spawn_monitor(fun() ->
+        receive {Self, Reference} -> Self ! {Reference, Do()} end
+    end),
+    Task ! {Self, Monitor},
+    receive
+        {Monitor, Result} -> demonitor(Monitor, [flush]), Result;
+        {'DOWN', Monitor, process, Task, Reason} -> Reason
+    end.
