@@ -84,7 +84,7 @@ pair(Command, Application, {Node, _}) ->
     {0, Watched} = watched(Command, [Application, "/seqaudit-node watch --every 1 --node ", Node,
                                      " -o ", Name, ".watch --unload"], Name ++ ".said"),
     [{_, _} = binary:match(Watched, Word)
-     || Word <- [<<"period 1: ">>, <<"period 2: ">>, <<" events ">>]],
+     || Word <- [<<"period 1: ">>, <<"period 2: ">>, <<" events">>]],
     nomatch = binary:match(Watched, <<"no events came">>).
 
 %% Waits until the command has told of its second period, for which a busy machine needs a while.
