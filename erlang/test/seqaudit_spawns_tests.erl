@@ -4,7 +4,7 @@
 
 -export([requests_are_whole_test_/0, births_come_first_test/0, only_births_move_test/0,
          answers_test/0, signs_test/0, children_that_spawn_test_/0, exit_test_/0,
-         small_again_test_/0]).
+         past_the_greatest_test_/0]).
 
 %% Each request runs in a process of its own, calls the server, waits for a task that calls it, and
 %% calls it again: 21 events with its print. Nothing is left out, by either tracer, whatever the
@@ -81,35 +81,33 @@ linked() ->
     Child ! go_on,
     receive {'DOWN', Monitor, process, Child, normal} -> ok end.
 
-%% A server whose clock has passed 2^60 shows small counts again, below those that it receives. Its
-%% text needs no version 3, and the laws of a node know where its counter goes on from.
-small_again_test_() ->
+%% The counters of two servers that have spawned under tokens are past 2^60, and show counts without
+%% a minus, the second one a smaller count than it receives.
+past_the_greatest_test_() ->
     {timeout, 60, fun() ->
-        Name = seqaudit_audits:file("small_again"),
-        Server = spawn(fun() -> raised(), seqaudit_test_services:answer() end),
+        Name = seqaudit_audits:file("past_the_greatest"),
+        Nothing = fun() -> ok end,
+        [A, B] = Servers = [seqaudit_test_server:start(fun(Do) -> Do() end) || _ <- [1, 2]],
+        [seqaudit_test_server:with_token(fun(_) ->
+             gen_server:call(Server, fun() -> spawn(Nothing), ok end)
+         end) || Server <- lists:duplicate(15, A) ++ lists:duplicate(30, B)],
         ok = seqaudit_trace:start(#{name => Name}),
-        seqaudit_trace:with_trace(2, fun() ->
-            [seq_trace:print(N) || N <- lists:seq(1, 100)],
-            Server ! {self(), ask},
-            receive {Server, answer} -> ok end
+        {_, Monitor} = spawn_monitor(fun() ->
+            seqaudit_trace:with_trace(1, fun() ->
+                [ok = gen_server:call(Server, Nothing) || Server <- Servers] end)
         end),
-        {ok, #{events := 104, dropped := 0}} = seqaudit_trace:stop(),
-        exit(Server, kill),
-        {ok, <<"seqtrace 1\n", Text/binary>>} = file:read_file(Name ++ ".seqtrace"),
-        {_, _} = binary:match(Text, <<",{send,{101,16},">>),
-        seqaudit_audits:with_gemshowal("small counts again", fun(_) ->
-            ok = file:write_file(Name ++ ".seqtrace", ["seqtrace 3\n", Text]),
+        receive {'DOWN', Monitor, process, _, normal} -> ok end,
+        {ok, #{events := 8, dropped := 0}} = seqaudit_trace:stop(),
+        [ok = gen_server:stop(Server) || Server <- Servers],
+        {ok, <<"seqtrace 3\n", _/binary>>} = file:read_file(Name ++ ".seqtrace"),
+        true = lists:all(fun(#{prev := Prev, this := This}) -> Prev >= 0 andalso This > 0 end,
+                         seqaudit_test_traces:events(Name)),
+        seqaudit_audits:with_gemshowal("past the greatest count", fun(_) ->
             {0, Said} = seqaudit_audits:gemshowal(["audit", Name]),
-            {0, _} = binary:match(Said, <<"fits: 104 events of 2 processes; the counter">>)
+            {0, _} = binary:match(Said, <<"fits: 8 events of 3 processes; the counters of 2 "
+                                          "processes go on from before; nothing is known">>)
         end)
     end}.
-
-%% The answer of a spawn makes the clock 2^60 + 15.
-raised() ->
-    seq_trace:set_token(label, 1),
-    seq_trace:set_token(serial, {0, (1 bsl 56) - 2}),
-    spawn(fun() -> ok end),
-    seq_trace:set_token([]).
 
 %% The receive of the request and the send of the reply go first, wherever they came.
 births_come_first_test() ->
@@ -144,14 +142,23 @@ answers_test() ->
     [<<"send">>, <<"answer">>] = Kinds({erlang, apply, 2}, Wrap),
     [<<"send">>, <<"'receive'">>] = Kinds({erts_internal, spawn_init, 1}, Wrap).
 
-%% Counts are as the node prints them; a number that no node has is no serial.
+%% Counts are as the node prints them; a number that no node has is no serial. A count that isn't
+%% above the other number is of a counter past 2^60, unless such counts go on from 1, as those of a
+%% token that a process made while it had none and put back.
 signs_test() ->
     Print = fun(Prev, This) -> {seq_trace, 1, {print, {Prev, This}, self(), [], seen}} end,
     Least = -(1 bsl 59),
     #{seqtrace := Text, dropped := 0} = converted([Print(-3, Least)]),
     {match, _} = re:run(Text, "^seqtrace 3\n.*\n.*\\{print,\\{-3,-576460752303423488\\},"),
     #{dropped := 1} = converted([Print(Least - 1, 5)]),
-    #{seqtrace := <<"seqtrace 1\n", _/binary>>} = converted([Print(3, -Least - 1)]).
+    [1, 1, 1, 3, 3, 3] =
+        [version([Print(Prev, This) || {Prev, This} <- Serials])
+         || Serials <- [[{3, -Least - 1}], [{7, 1}, {7, 2}, {7, 3}], [{7, 1}, {0, 8}, {7, 2}],
+                        [{7, 2}], [{7, 1}, {7, 3}], [{7, 0}]]].
+
+version(Events) ->
+    #{seqtrace := <<"seqtrace ", Version, $\n, _/binary>>} = converted(Events),
+    Version - $0.
 
 %% The request and its receive, the reply and its receive, and a print of the child.
 birth(Call) ->

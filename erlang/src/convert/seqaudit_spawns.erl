@@ -223,15 +223,24 @@ owned([_Node, _Name, Process]) ->
 owned(_) ->
     #{}.
 
-%% @doc Whether a counter has passed what a serial shows without a minus.
+%% @doc Whether a counter has passed what a serial shows without a minus. One past 2^60 shows small
+%% counts again, perhaps below the other number of the serial. So do those of a token that was put
+%% back and that its process had made while it had none, but they go on from 1.
 -spec has_wrapped(seqaudit_build:packed(), spawns()) -> boolean().
-has_wrapped(<<?PACKED(_K, _L, Prev, This, _F, _O, _V, _Time), _/binary>>, _Spawns)
+has_wrapped(Packed, Spawns) -> has_wrapped(Packed, Spawns, #{}).
+
+has_wrapped(<<?PACKED(_K, _L, Prev, This, _F, _O, _V, _Time), _/binary>>, _Spawns, _Made)
   when Prev < 0; This < 0 -> true;
-has_wrapped(<<?PACKED(?RECEIVE, _L, _P, This, _F, _O, Value, _Time), Rest/binary>>, Spawns)
+has_wrapped(<<?PACKED(Kind, _L, Prev, This, _F, _O, _V, _Time), Rest/binary>>, Spawns, Made)
+  when Prev >= This ->
+    (Kind =/= ?RECEIVE andalso This =/= 1 andalso not is_map_key({Prev, This - 1}, Made))
+        orelse has_wrapped(Rest, Spawns, Made#{{Prev, This} => made});
+has_wrapped(<<?PACKED(?RECEIVE, _L, _P, This, _F, _O, Value, _Time), Rest/binary>>, Spawns, Made)
   when This >= ?LEAST_TO_WRAP ->
-    atomics:get(Spawns, Value + 1) rem ?KINDS =:= ?REPLY orelse has_wrapped(Rest, Spawns);
-has_wrapped(<<_:?PACKED_SIZE/binary, Rest/binary>>, Spawns) -> has_wrapped(Rest, Spawns);
-has_wrapped(<<>>, _Spawns) -> false.
+    atomics:get(Spawns, Value + 1) rem ?KINDS =:= ?REPLY orelse has_wrapped(Rest, Spawns, Made);
+has_wrapped(<<_:?PACKED_SIZE/binary, Rest/binary>>, Spawns, Made) ->
+    has_wrapped(Rest, Spawns, Made);
+has_wrapped(<<>>, _Spawns, _Made) -> false.
 
 %% @doc Whether an event is the answer of a spawn, by the event that comes before it in its
 %% process's stream.
