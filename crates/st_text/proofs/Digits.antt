@@ -11,17 +11,9 @@ use Rattle.std.proofs.lemmas.List.Sums.{prefix_len-le-length}
 use Rattle.std.proofs.lemmas.List.Folds.{length-prefix_len}
 use Rattle.std.proofs.lemmas.Fmt.{decimal_digit}
 use Rattle.st_text.specs.Parsing.{number_from, number}
-use Rattle.st_text.proofs.Numbers.{digits_len, front, worth, further, all_digits, number_is}
+use Rattle.st_text.specs.Parts.Digits.{digits_len, front, HasRead}
+use Rattle.st_text.proofs.Numbers.{further, all_digits, number_is}
 use Rattle.st_text.proofs.Numbers.{number_again, none_by_value, none_by_lead, some_by}
-
--- the first digits are read, and the rest is left
-pub record HasRead (bytes rest : List ℕ) (n : ℕ) : Type 0 where
-  pub count : ℕ
-  pub some : 0 < count
-  pub within : count ≤ digits_len bytes
-  pub left : rest ≡ drop count bytes
-  pub small : n < 2 ^ 64
-  pub value : n ≡ worth count bytes
 
 -- the byte after the first ones
 record Next (bytes : List ℕ) (count b : ℕ) (more : List ℕ) : Type 0 where
@@ -115,9 +107,9 @@ zero_alone most first bytes rest small is e none =
     (number_again most 0 rest (omega arith) small none) in
     ap (number most) (e ∙ ap (λ (z : ℕ). (48 + z) ∷ rest) is) ∙ at
 
-pub begins : (d n : ℕ) (bytes rest : List ℕ) → d < 10 → bytes ≡ (48 + d) ∷ rest → n ≡ d
+pub begins : (d n : ℕ) (bytes rest : List ℕ) → 0 < d → d < 10 → bytes ≡ (48 + d) ∷ rest → n ≡ d
     → HasRead bytes rest n
-begins d n bytes rest digit e is =
+begins d n bytes rest some digit e is =
     let b = next bytes 0 (48 + d) rest e in
     let test : is_ascii_digit (get_or bytes 0 0) ≡ true =
     ap is_ascii_digit b.here ∙ byte_of d digit in
@@ -126,6 +118,7 @@ begins d n bytes rest digit e is =
       count = 1;
       some = omega arith;
       within = f.within;
+      leads = omega (arith, b.here);
       left = b.behind;
       small = omega arith;
       value = omega (arith, is, f.value, b.here);
@@ -143,6 +136,7 @@ goes_on d n m bytes rest more digit h e is small =
       count = h.count + 1;
       some = omega arith;
       within = f.within;
+      leads = h.leads;
       left = b.behind;
       small = small;
       value = omega (arith, is, f.value, b.here, h.value);
@@ -189,14 +183,11 @@ none_of_more most n bytes rest h none more =
     let w = whole most n bytes rest h none in
     w.are ∙ none_by_value most w.digits rest (omega (arith, w.value))
 
-pub number_read : (most n first : ℕ) (bytes behind rest : List ℕ) → most < 2 ^ 64
-    → HasRead bytes rest n
-    → digits_len rest ≡ 0 → n ≤ most → bytes ≡ (48 + first) ∷ behind → 0 < first
-    → number most bytes ≡ Some (n, rest)
-number_read most n first bytes behind rest small h none within e some =
+pub number_read : (most n : ℕ) (bytes rest : List ℕ) → most < 2 ^ 64 → HasRead bytes rest n
+    → digits_len rest ≡ 0 → n ≤ most → number most bytes ≡ Some (n, rest)
+number_read most n bytes rest small h none within =
     let w = whole most n bytes rest h none in
-    let byte : get_or bytes 0 0 ≡ 48 + first = ap (λ (t : List ℕ). get_or t 0 0) e in
     let lead : get_or w.digits 0 0 ≡ 48 → length w.digits ≡ 1 =
-    λ zero. absurd (omega (arith, w.first, byte, zero)) in
+    λ zero. absurd (omega (arith, w.first, h.leads, zero)) in
     let made = some_by most w.digits rest small w.all w.some lead (omega (arith, w.value)) in
     w.are ∙ made ∙ ap (λ (v : ℕ). Some (v, rest)) (sym w.value)

@@ -21,6 +21,7 @@ use Rattle.std.proofs.lemmas.Str.Parse.{IsNumeralModel, numerals_by_value, tells
 use Rattle.std.proofs.lemmas.Str.Parse.{digits_value-take-le, digit_at}
 use Rattle.std.proofs.lemmas.Fmt.{decimal_is_IsNumeral, decimal_digit, first_decimal}
 use Rattle.std.proofs.lemmas.Fmt.{decimal-digits_value}
+use Rattle.st_text.specs.Parts.Digits.{digits_len, front, worth}
 use Rattle.st_text.specs.Parts.Words.{Gives}
 use Rattle.st_text.specs.Parsing.{after, number_from, number}
 use Rattle.st_core.proofs.ForCallers.{both_of}
@@ -96,17 +97,6 @@ digits_front (b ∷ bs) = by (is_ascii_digit b) refl (digits_front bs)
         omega arith in
         rw one (digit_small b e, more)
     by false e more = tt
-
--- how many digits are at the front, and these digits
-abbrev pub digits_len : List ℕ → ℕ
-digits_len bytes = prefix_len is_ascii_digit bytes
-
-abbrev pub front : List ℕ → List ℕ
-front bytes = take (digits_len bytes) bytes
-
--- what the first i digits at the front are worth
-abbrev pub worth : ℕ → List ℕ → ℕ
-worth i bytes = digits_value 10 (take i (front bytes))
 
 more_digits : (bytes : List ℕ) (i : ℕ) → i ≤ digits_len bytes → i < length bytes
     → is_ascii_digit (get_or bytes i 0) ≡ true → i < digits_len bytes

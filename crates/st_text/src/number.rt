@@ -1,15 +1,20 @@
 //! Decimal numbers: digits without a leading zero, up to the limit of their place. Every number of
 //! a text is read here.
 
-ghost use Rattle.std.specs.Prelude.{◌≡◌, ◌≤◌, ◌<◌, ◌+◌, ◌*◌, ◌^◌, ◌∷◌, IfSome, MatchOption};
+ghost use Rattle.std.specs.Prelude.{◌≡◌, ◌≤◌, ◌<◌, ◌+◌, ◌*◌, ◌^◌, ◌∷◌, ℕ, List, IfSome, MatchOption};
 ghost use Rattle.std.specs.Option.{SomeIff};
 ghost use Rattle.std.specs.Char.{is_ascii_digit};
 ghost use Rattle.std.specs.List.{prefix_len};
+ghost use Rattle.st_text.specs.Parts.Digits.{HasRead};
 ghost use Rattle.st_text.specs.Parts.Words.{Gives};
 ghost use Rattle.st_text.specs.Parsing.{number};
 
 /// Another digit fits after any number below this one.
 const FITS_BELOW: u64 = u64::MAX / 10;
+
+/// The digits that most numbers have at most after the first. If so many bytes are left, the
+/// compiler tests none of them for the end of the bytes, or for a number that is too great.
+const FEW: usize = 4;
 
 /// The number with another digit after it, if that fits.
 #[inline(always)]
@@ -35,6 +40,59 @@ fn digit_at(bytes: &[u8]) -> Option<(u8, &[u8])>
     }
 }
 
+/// The number `n`, if it is at most `most`, and the rest of the bytes.
+#[inline(always)]
+fn at_most(most: u64, n: u64, rest: &[u8]) -> Option<(u64, &[u8])>
+    requires { prefix_len is_ascii_digit rest.now ≡ 0 }
+    ensures exact { (bytes : List ℕ) → HasRead bytes rest.now n →
+        Gives (λ x. (x.0, x.1.now)) result (number most bytes) }
+    ensures bound { IfSome result (λ x. x.0 ≤ most) }
+{
+    if n > most {
+        return None;
+    }
+    Some((n, rest))
+}
+
+/// The number of at most `most` that goes on after `n` with the digits in front of the bytes, and
+/// the bytes after it.
+#[inline(always)]
+fn more_digits(most: u64, n: u64, bytes: &[u8]) -> Option<(u64, &[u8])>
+    ensures exact { (all : List ℕ) → HasRead all bytes.now n →
+        Gives (λ x. (x.0, x.1.now)) result (number most all) }
+    ensures bound { IfSome result (λ x. x.0 ≤ most) }
+{
+    let mut n = n;
+    let mut rest = bytes;
+    while let Some((digit, more)) = digit_at(rest) {
+        n = with_digit(n, digit)?;
+        rest = more;
+    }
+    at_most(most, n, rest)
+}
+
+/// Does what `more_digits` does, in fewer steps if `FEW` bytes are left.
+#[inline(always)]
+fn few_digits(most: u64, n: u64, bytes: &[u8]) -> Option<(u64, &[u8])>
+    ensures exact { (all : List ℕ) → HasRead all bytes.now n →
+        Gives (λ x. (x.0, x.1.now)) result (number most all) }
+    ensures bound { IfSome result (λ x. x.0 ≤ most) }
+{
+    if bytes.len() < FEW {
+        return more_digits(most, n, bytes);
+    }
+    let mut n = n;
+    let mut rest = bytes;
+    for _ in 0..FEW {
+        let Some((digit, more)) = digit_at(rest) else {
+            return at_most(most, n, rest);
+        };
+        n = with_digit(n, digit)?;
+        rest = more;
+    }
+    more_digits(most, n, rest)
+}
+
 /// The number of at most `most` that the bytes begin with, and the bytes after it.
 #[inline(always)]
 pub(crate) fn number(most: u64, bytes: &[u8]) -> Option<(u64, &[u8])>
@@ -48,14 +106,5 @@ pub(crate) fn number(most: u64, bytes: &[u8]) -> Option<(u64, &[u8])>
             Some(_) => None,
         };
     }
-    let mut n = u64::from(first);
-    let mut rest = after_first;
-    while let Some((digit, more)) = digit_at(rest) {
-        n = with_digit(n, digit)?;
-        rest = more;
-    }
-    if n > most {
-        return None;
-    }
-    Some((n, rest))
+    few_digits(most, u64::from(first), after_first)
 }

@@ -1,0 +1,17 @@
+-- A digit more is that of the number too, unless the number has become too great for any.
+use Rattle.std.proofs.Common.{arith}
+use Rattle.st_text.proofs.Digits.{goes_on, none_that_fits}
+use Rattle.st_text.proofs.number.few_digits.Goals as goal
+
+pub loop-preserved : goal.loop-preserved
+loop-preserved c = λ all h.
+    goes_on c.in-Some.digit c.loop.n c.in_ok-n.n all c.loop.rest.now
+    c.in-Some.more.now c.in-Some.ensures.0 (c.loop.invariant all h) c.in-Some.ensures.1
+    (omega (arith, c.in_ok-n.ensures)) (omega (arith, c.in_ok-n.ensures))
+
+pub returns-in_err-n-clause-exact : goal.returns-in_err-n-clause-exact
+returns-in_err-n-clause-exact c = λ all h.
+    rw c.from_residual.ensures
+    (none_that_fits c.args.most c.in-Some.digit c.loop.n all c.loop.rest.now
+    c.in-Some.more.now (omega arith) c.in-Some.ensures.0 (c.loop.invariant all h)
+    c.in-Some.ensures.1 (omega (arith, c.in_err-n.ensures)))

@@ -1,0 +1,27 @@
+-- How far the digits of a number are read, in `number.rt`.
+use Rattle.std.specs.Prelude.{◌≡◌, ℕ, ◌^◌, ◌<◌, ◌≤◌, List, take, drop, slice_index_or}
+use Rattle.std.specs.Char.{is_ascii_digit}
+use Rattle.std.specs.List.{prefix_len}
+use Rattle.std.specs.Str.Parse.{digits_value}
+
+-- how many digits are at the front, and these digits
+abbrev pub digits_len : List ℕ → ℕ
+digits_len bytes = prefix_len is_ascii_digit bytes
+
+abbrev pub front : List ℕ → List ℕ
+front bytes = take (digits_len bytes) bytes
+
+-- what the first i digits at the front are worth
+abbrev pub worth : ℕ → List ℕ → ℕ
+worth i bytes = digits_value 10 (take i (front bytes))
+
+-- The first digits of the bytes are read, of which the first is no zero. They are worth n, and the
+-- rest is left.
+pub record HasRead (bytes rest : List ℕ) (n : ℕ) : Type 0 where
+  pub count : ℕ
+  pub some : 0 < count
+  pub within : count ≤ digits_len bytes
+  pub leads : 48 < slice_index_or bytes 0 0
+  pub left : rest ≡ drop count bytes
+  pub small : n < 2 ^ 64
+  pub value : n ≡ worth count bytes
