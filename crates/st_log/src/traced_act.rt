@@ -3,11 +3,12 @@
 
 ghost use Rattle.std.specs.Prelude.{◌≡◌, IfSome, IsTrue};
 ghost use Rattle.st_core.specs.Step.{actor};
-ghost use Rattle.st_log.specs.TracedActs.{event_of_parts, mail_rest, print_rest, receive_rest};
-ghost use Rattle.st_log.specs.TracedActs.{send_rest, token_of_parts, traced_rest, with_rank};
+ghost use Rattle.st_log.specs.TracedActs.{event_of_parts, receive_rest, send_rest, token_of_parts};
+ghost use Rattle.st_log.specs.TracedActs.{traced_rest, with_rank};
 
 use crate::entry::Entry;
 use crate::row::Unranked;
+use crate::same::is_same_entry;
 use st_core::{Act, Event, Flags, Kind, Label, Pid, Reply, Serial, Token, Want};
 
 /// The forms of acts under a token.
@@ -48,122 +49,51 @@ const _: () = prove!(size_of::<TracedAct>() == 40);
 pub fn traced_of(entry: &Entry) -> Option<TracedAct>
     ensures { IfSome result (λ t. with_rank entry.now.rank (traced_rest t) ≡ entry.now) }
 {
-    match (entry.act, entry.reply, entry.report, entry.carried) {
-        (Act::Send(me, to, value), Reply::Done, report, Some(token)) => {
-            traced_send(me, to, value, report, token)
-        }
-        (Act::Print(me, value), Reply::Done, Some(report), None) => {
-            traced_print(me, value, report)
-        }
-        (Act::Receive(me, want), Reply::Mail(from, value), Some(report), None) => {
-            traced_receive(me, want, from, value, report)
-        }
-        _ => None,
+    let act = likely_act(entry)?;
+    if is_same_entry(&act.without_rank().with_rank(entry.rank), entry) {
+        return Some(act);
     }
+    None
 }
 
-/// The form of a send that carried this token, if it says the report too.
-fn traced_send(
-    actor: Pid,
-    other: Pid,
-    value: u64,
-    report: Option<Event>,
-    carried: Token,
-) -> Option<TracedAct>
-    ensures { IfSome result (λ t. traced_rest t ≡ send_rest actor other value report carried) }
+/// The one act under a token that may say all of the entry: it does if the entry's report and token
+/// follow from it. There is none for a receive by place.
+fn likely_act(entry: &Entry) -> Option<TracedAct>
+    ensures { IfSome result (λ t. t.actor ≡ actor entry.now.act) }
 {
-    let Token {
-        label,
-        flags,
-        serial,
-        from,
-    } = carried;
-    if from != actor {
-        return None;
-    }
-    let Some(told) = report else {
-        return Some(traced(TracedForm::Send(flags), label, actor, other, value, serial));
+    let (label, serial) = match (entry.carried, entry.report) {
+        (Some(token), _) => (token.label, token.serial),
+        (None, Some(event)) => (event.label, event.serial),
+        (None, None) => return None,
     };
-    if told != event(Kind::Send, label, serial, actor, Some(other), value) {
-        return None;
-    }
-    Some(traced(
-        TracedForm::ReportedSend(flags),
-        label,
-        actor,
-        other,
-        value,
-        serial,
-    ))
-}
-
-/// The form of a print, if it says this report.
-fn traced_print(actor: Pid, value: u64, report: Event) -> Option<TracedAct>
-    ensures { IfSome result (λ t. traced_rest t ≡ print_rest actor value report) }
-{
-    let Event { label, serial, .. } = report;
-    if report != event(Kind::Print, label, serial, actor, None, value) {
-        return None;
-    }
-    Some(traced(TracedForm::Print, label, actor, actor, value, serial))
-}
-
-/// The form of a receive that took a message from the other process and of this value, if it says
-/// the report too. One by place has none.
-fn traced_receive(
-    actor: Pid,
-    want: Want,
-    other: Pid,
-    value: u64,
-    report: Event,
-) -> Option<TracedAct>
-    ensures { IfSome result (λ t. traced_rest t ≡ mail_rest actor want other value report) }
-{
-    let Event { label, serial, .. } = report;
-    if report != event(Kind::Receive, label, serial, other, Some(actor), value) {
-        return None;
-    }
-    match want {
-        Want::First => Some(traced(TracedForm::First, label, actor, other, value, serial)),
-        Want::From(from) if from == other => {
-            Some(traced(TracedForm::From, label, actor, other, value, serial))
+    let (form, actor, other, value) = match (entry.act, entry.reply, entry.carried, entry.report) {
+        (Act::Send(me, to, value), _, Some(token), None) => {
+            (TracedForm::Send(token.flags), me, to, value)
         }
-        Want::Value(asked) if asked == value => {
-            Some(traced(TracedForm::Value, label, actor, other, value, serial))
+        (Act::Send(me, to, value), _, Some(token), Some(_)) => {
+            (TracedForm::ReportedSend(token.flags), me, to, value)
         }
-        Want::Both(from, asked) if from == other && asked == value => {
-            Some(traced(TracedForm::Both, label, actor, other, value, serial))
+        (Act::Print(me, value), ..) => (TracedForm::Print, me, me, value),
+        (Act::Receive(me, want), Reply::Mail(from, value), ..) => {
+            let form = match want {
+                Want::First => TracedForm::First,
+                Want::From(_) => TracedForm::From,
+                Want::Value(_) => TracedForm::Value,
+                Want::Both(..) => TracedForm::Both,
+                Want::Place(_) => return None,
+            };
+            (form, me, from, value)
         }
-        _ => None,
-    }
-}
-
-/// The act of these parts.
-fn traced(
-    form: TracedForm,
-    label: Label,
-    actor: Pid,
-    other: Pid,
-    value: u64,
-    serial: Serial,
-) -> TracedAct
-    ensures { result ≡ record {
-      form = form;
-      label = label;
-      actor = actor;
-      other = other;
-      value = value;
-      serial = serial;
-    } }
-{
-    TracedAct {
+        _ => return None,
+    };
+    Some(TracedAct {
         form,
         label,
         actor,
         other,
         value,
         serial,
-    }
+    })
 }
 
 /// Whether they are the same form.
@@ -178,53 +108,22 @@ impl TracedAct {
     pub fn without_rank(self) -> Unranked
         ensures { result ≡ traced_rest self }
     {
-        let TracedAct {
-            form,
-            label,
-            actor,
-            other,
-            value,
-            serial,
-        } = self;
-        match form {
-            TracedForm::Send(flags) => {
-                send_rest(
-                    actor,
-                    other,
-                    value,
-                    None,
-                    token(flags, label, serial, actor),
-                )
-            }
+        match self.form {
+            TracedForm::Send(flags) => self.send_rest(flags, None),
             TracedForm::ReportedSend(flags) => {
-                let report = event(Kind::Send, label, serial, actor, Some(other), value);
-                send_rest(
-                    actor,
-                    other,
-                    value,
-                    Some(report),
-                    token(flags, label, serial, actor),
-                )
+                let report = self.event(Kind::Send, self.actor, Some(self.other));
+                self.send_rest(flags, Some(report))
             }
             TracedForm::Print => Unranked {
-                act: Act::Print(actor, value),
+                act: Act::Print(self.actor, self.value),
                 reply: Reply::Done,
-                report: Some(event(Kind::Print, label, serial, actor, None, value)),
+                report: Some(self.event(Kind::Print, self.actor, None)),
                 carried: None,
             },
-            TracedForm::First => receive_rest(actor, Want::First, label, other, value, serial),
-            TracedForm::From => receive_rest(actor, Want::From(other), label, other, value, serial),
-            TracedForm::Value => receive_rest(
-                actor,
-                Want::Value(value),
-                label,
-                other,
-                value,
-                serial,
-            ),
-            TracedForm::Both => {
-                receive_rest(actor, Want::Both(other, value), label, other, value, serial)
-            }
+            TracedForm::First => self.receive_rest(Want::First),
+            TracedForm::From => self.receive_rest(Want::From(self.other)),
+            TracedForm::Value => self.receive_rest(Want::Value(self.value)),
+            TracedForm::Both => self.receive_rest(Want::Both(self.other, self.value)),
         }
     }
 
@@ -235,61 +134,49 @@ impl TracedAct {
     {
         self.actor
     }
-}
 
-/// A send that carried a token, without its rank.
-fn send_rest(me: Pid, to: Pid, value: u64, report: Option<Event>, token: Token) -> Unranked
-    ensures { result ≡ send_rest me to value report token }
-{
-    Unranked {
-        act: Act::Send(me, to, value),
-        reply: Reply::Done,
-        report,
-        carried: Some(token),
+    /// The event of this kind between these processes.
+    fn event(self, kind: Kind, from: Pid, to: Option<Pid>) -> Event
+        ensures { result ≡ event_of_parts kind self.label self.serial from to self.value }
+    {
+        Event {
+            label: self.label,
+            kind,
+            to,
+            from,
+            serial: self.serial,
+            value: self.value,
+        }
     }
-}
 
-/// A receive that was reported, without its rank.
-fn receive_rest(
-    me: Pid,
-    want: Want,
-    label: Label,
-    from: Pid,
-    value: u64,
-    serial: Serial,
-) -> Unranked
-    ensures { result ≡ receive_rest me want label from value serial }
-{
-    Unranked {
-        act: Act::Receive(me, want),
-        reply: Reply::Mail(from, value),
-        report: Some(event(Kind::Receive, label, serial, from, Some(me), value)),
-        carried: None,
+    /// A send that carried a token with these flags, without its rank.
+    fn send_rest(self, flags: Flags, report: Option<Event>) -> Unranked
+        ensures { result ≡ send_rest self.actor self.other self.value report
+            (token_of_parts flags self.label self.serial self.actor) }
+    {
+        Unranked {
+            act: Act::Send(self.actor, self.other, self.value),
+            reply: Reply::Done,
+            report,
+            carried: Some(Token {
+                label: self.label,
+                flags,
+                serial: self.serial,
+                from: self.actor,
+            }),
+        }
     }
-}
 
-/// The event of these parts.
-fn event(kind: Kind, label: Label, serial: Serial, from: Pid, to: Option<Pid>, value: u64) -> Event
-    ensures { result ≡ event_of_parts kind label serial from to value }
-{
-    Event {
-        label,
-        kind,
-        to,
-        from,
-        serial,
-        value,
-    }
-}
-
-/// The token of these parts.
-fn token(flags: Flags, label: Label, serial: Serial, from: Pid) -> Token
-    ensures { result ≡ token_of_parts flags label serial from }
-{
-    Token {
-        label,
-        flags,
-        serial,
-        from,
+    /// A receive by this pattern, without its rank.
+    fn receive_rest(self, want: Want) -> Unranked
+        ensures { result
+            ≡ receive_rest self.actor want self.label self.other self.value self.serial }
+    {
+        Unranked {
+            act: Act::Receive(self.actor, want),
+            reply: Reply::Mail(self.other, self.value),
+            report: Some(self.event(Kind::Receive, self.other, Some(self.actor))),
+            carried: None,
+        }
     }
 }
