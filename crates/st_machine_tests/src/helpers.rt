@@ -11,11 +11,6 @@ pub(crate) fn same<T: PartialEq + Debug>(rt: &impl Abort, found: &T, wanted: &T)
     assert_eq!(rt; found, wanted);
 }
 
-/// Asserts that two values are equal, and tells the place.
-pub(crate) fn same_at<T: PartialEq + Debug>(rt: &impl Abort, place: u64, found: &T, wanted: &T) {
-    assert_eq!(rt; found, wanted, "at {place}");
-}
-
 /// Makes a sink for this many bytes. If memory runs out, the second try succeeds.
 pub(crate) fn sink_at_last(rt: &impl Abort, alloc: Global, room: usize) -> MemorySink {
     match MemorySink::new(alloc, room, None) {

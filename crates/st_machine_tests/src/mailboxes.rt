@@ -29,26 +29,24 @@ fn two_at_last(alloc: Global) -> Result<Mailboxes, AllocError>
     }
 }
 
-/// Puts a message into mailbox 1, which has this many. If memory runs out, nothing has changed, and
-/// the second try succeeds.
-fn put_at_last(rt: &impl Abort, mail: &mut Mailboxes, count: u64)
+/// Puts a message of this value into mailbox 1. If memory runs out, the second try succeeds.
+fn put_at_last(rt: &impl Abort, mail: &mut Mailboxes, value: u64)
     requires { 1 < length mail.old.boxes }
     ensures { length mail.new.boxes ≡ length mail.old.boxes }
 {
-    if mail.put(1, plain_message(count)).is_err() {
-        same(rt, &mail.len(1), &count);
-        assert!(rt; mail.put(1, plain_message(count)).is_ok());
+    if mail.put(1, plain_message(value)).is_err() {
+        assert!(rt; mail.put(1, plain_message(value)).is_ok());
     }
 }
 
-// No machine has this much room. What a put that fails leaves is seen if this test runs with an
-// allocation that fails.
+// No machine has this much room. That a put which failed may be asked again is seen if this test
+// runs with an allocation that fails.
 #[test]
-fn a_put_without_memory_leaves_all_mailboxes(rt: HostRuntime) -> Result<(), Fail> {
+fn a_put_without_memory_may_be_asked_again(rt: HostRuntime) -> Result<(), Fail> {
     let mut mail = two_at_last(rt.alloc())?;
     assert!(rt; mail.reserve(usize::MAX).is_err());
-    for count in 0..20 {
-        put_at_last(&rt, &mut mail, count);
+    for value in 0..20 {
+        put_at_last(&rt, &mut mail, value);
     }
     same(&rt, &(mail.len(0), mail.len(1)), &(0, 20));
     Ok(())

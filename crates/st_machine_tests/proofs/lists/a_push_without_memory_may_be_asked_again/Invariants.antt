@@ -1,6 +1,6 @@
 -- The loop of pushes keeps the other lists.
 use Rattle.std.proofs.Common.{◌≡◌, length}
-use Rattle.st_machine_tests.proofs.lists.a_push_without_memory_leaves_all_lists.Given as goal
+use Rattle.st_machine_tests.proofs.lists.a_push_without_memory_may_be_asked_again.Given as goal
 
 -- the arena keeps its two lists
 abbrev pub invariant-loop-item : goal.invariant-loop-item
