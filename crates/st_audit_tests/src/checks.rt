@@ -63,17 +63,6 @@ fn a_hundred_thousand_acts_are_replayed_and_checked(rt: HostRuntime) -> Result<(
     Ok(())
 }
 
-#[test]
-fn a_full_clock_is_stuck(rt: HostRuntime) -> Result<(), Fail> {
-    let print = Act::Print(p30(), 0);
-    let set = Act::Set(p30(), Component::Label(Label(1)));
-    let acts = [set, print, print, print, print];
-    let streams = streams_at_last(&rt, rt.alloc(), "seqtrace 1\nprocess <0.30.0>\n");
-    let verdict = check::<3>(rt.alloc(), &streams, &acts)?;
-    assert!(rt; matches!(verdict, Verdict::Stuck(4)));
-    Ok(())
-}
-
 /// A traced send and its receive.
 fn send_one() -> [Act; 5] {
     [
