@@ -96,28 +96,9 @@ fn chart_streams<H: Threads + Sync, W: ByteSink>(
     }
 }
 
-/// Reads a bundle within these limits and writes the chart of the label, with status 0. If no item
-/// has the label, or the streams can't be paired, it says so with status 1. Faulty input is 2; if
-/// memory runs out, or a reader or a writer fails, it is 4. It sorts on several threads.
-pub fn run_chart_within<H: Threads + Sync, R: ByteSource, W: ByteSink>(
-    rt: &H,
-    alloc: Global,
-    reader: &mut R,
-    writer: &mut W,
-    limits: Limits,
-    label: Label,
-) -> u8
-    ensures { Performs limits (call R.ByteSource reader.old reader.new)
-        (call W.ByteSink writer.old writer.new)
-        (IsCharted limits label) (MeansCharted limits label) (MeansNoChart limits label) result }
-{
-    match read_within(alloc, reader, limits) {
-        Ok(bundle) => chart_streams(rt, alloc, &bundle.streams, label, writer),
-        Err(fault) => tell_fault(writer, fault),
-    }
-}
-
-/// Does what `run_chart_within` does, within the standard limits.
+/// Reads a bundle within the standard limits and writes the chart of the label, with status 0. If
+/// no item has the label, or the streams can't be paired, it says so with status 1. Faulty input is
+/// 2; if memory runs out, or a reader or a writer fails, it is 4. It sorts on several threads.
 pub fn run_chart<H: Threads + Sync, R: ByteSource, W: ByteSink>(
     rt: &H,
     alloc: Global,
@@ -130,5 +111,8 @@ pub fn run_chart<H: Threads + Sync, R: ByteSource, W: ByteSink>(
         (IsCharted standard label) (MeansCharted standard label)
         (MeansNoChart standard label) result }
 {
-    run_chart_within(rt, alloc, reader, writer, Limits::STANDARD, label)
+    match read_within(alloc, reader, Limits::STANDARD) {
+        Ok(bundle) => chart_streams(rt, alloc, &bundle.streams, label, writer),
+        Err(fault) => tell_fault(writer, fault),
+    }
 }

@@ -116,28 +116,10 @@ fn drive_bundle<H: Threads + Wait + Sync, W: ByteSink>(
     }
 }
 
-/// Reads a bundle within these limits, drives the acts of each process on a thread of its own, and
-/// writes the bundle of the one run that they made, with status 0. Faulty input is 2; if memory
-/// runs out, a thread can't be started, or a reader or a writer fails, it is 4. An act that is
-/// refused would be status 1 (`MeansStray`). It waits for locks and for the threads.
-pub fn run_drive_within<H: Threads + Wait + Sync, R: ByteSource, W: ByteSink>(
-    rt: &H,
-    alloc: Global,
-    reader: &mut R,
-    writer: &mut W,
-    limits: Limits,
-) -> u8
-    ensures { Performs limits (call R.ByteSource reader.old reader.new)
-        (call W.ByteSink writer.old writer.new)
-        (IsRecorded limits) (MeansDriven limits) (MeansStray limits) result }
-{
-    match read_within(alloc, reader, limits) {
-        Ok(bundle) => drive_bundle(rt, alloc, bundle, writer),
-        Err(fault) => tell_fault(writer, fault),
-    }
-}
-
-/// Does what `run_drive_within` does, within the standard limits.
+/// Reads a bundle within the standard limits, drives the acts of each process on a thread of its
+/// own, and writes the bundle of the one run that they made, with status 0. Faulty input is 2; if
+/// memory runs out, a thread can't be started, or a reader or a writer fails, it is 4. An act that
+/// is refused would be status 1 (`MeansStray`). It waits for locks and for the threads.
 pub fn run_drive<H: Threads + Wait + Sync, R: ByteSource, W: ByteSink>(
     rt: &H,
     alloc: Global,
@@ -148,5 +130,8 @@ pub fn run_drive<H: Threads + Wait + Sync, R: ByteSource, W: ByteSink>(
         (call W.ByteSink writer.old writer.new)
         (IsRecorded standard) (MeansDriven standard) (MeansStray standard) result }
 {
-    run_drive_within(rt, alloc, reader, writer, Limits::STANDARD)
+    match read_within(alloc, reader, Limits::STANDARD) {
+        Ok(bundle) => drive_bundle(rt, alloc, bundle, writer),
+        Err(fault) => tell_fault(writer, fault),
+    }
 }

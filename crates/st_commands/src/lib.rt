@@ -20,10 +20,10 @@ mod words;
 
 pub use answer::{status_of, tell_bundle, tell_fault, tell_finding, tell_line, tell_refusal};
 pub use audit::{run_audit, run_audit_within};
-pub use chart::{run_chart, run_chart_within};
+pub use chart::run_chart;
 pub use check::{TOP, run_check, run_check_within};
-pub use drive::{run_drive, run_drive_within};
+pub use drive::run_drive;
 pub use pipe::Pipe;
 pub use program::run;
-pub use replay::{run_replay, run_replay_within};
+pub use replay::run_replay;
 pub use words::{Refusal, Task, read_words};

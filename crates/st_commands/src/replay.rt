@@ -50,32 +50,17 @@ fn replay_bundle<W: ByteSink>(alloc: Global, bundle: &Bundle, writer: &mut W) ->
     }
 }
 
-/// Reads a bundle within these limits and writes the bundle of what its acts report, with status 0.
-/// An act without a step would be status 1, but there is none, since limits let fewer acts pass
-/// than a clock has counts. Faulty input is 2; if memory runs out, or a reader or a writer fails,
-/// it is
-/// 4.
-pub fn run_replay_within<R: ByteSource, W: ByteSink>(
-    alloc: Global,
-    reader: &mut R,
-    writer: &mut W,
-    limits: Limits,
-) -> u8
-    ensures { Performs limits (call R.ByteSource reader.old reader.new)
-        (call W.ByteSink writer.old writer.new)
-        (IsReplayed limits) (MeansReplayed limits) NeverMeant result }
-{
-    match read_within(alloc, reader, limits) {
-        Ok(bundle) => replay_bundle(alloc, &bundle, writer),
-        Err(fault) => tell_fault(writer, fault),
-    }
-}
-
-/// Does what `run_replay_within` does, within the standard limits.
+/// Reads a bundle within the standard limits and writes the bundle of what its acts report, with
+/// status 0. An act without a step would be status 1, but there is none, since the limits let fewer
+/// acts pass than a clock has counts. Faulty input is 2; if memory runs out, or a reader or a
+/// writer fails, it is 4.
 pub fn run_replay<R: ByteSource, W: ByteSink>(alloc: Global, reader: &mut R, writer: &mut W) -> u8
     ensures { Performs standard (call R.ByteSource reader.old reader.new)
         (call W.ByteSink writer.old writer.new)
         (IsReplayed standard) (MeansReplayed standard) NeverMeant result }
 {
-    run_replay_within(alloc, reader, writer, Limits::STANDARD)
+    match read_within(alloc, reader, Limits::STANDARD) {
+        Ok(bundle) => replay_bundle(alloc, &bundle, writer),
+        Err(fault) => tell_fault(writer, fault),
+    }
 }
