@@ -5,10 +5,8 @@
 mod meetings;
 mod scripts;
 
-use crate::helpers::same;
 use scripts::{Places, processes, scripts};
 use st_check::{CheckFault, Verdict, check};
-use st_core::{Act, Pid};
 use st_runtime::{OpenGate, Record, drive};
 use std::alloc::Global;
 use std::process::Abort;
@@ -25,18 +23,7 @@ fn is_one_run(alloc: Global, record: &Record) -> Result<bool, CheckFault> {
     Ok(matches!(verdict, Verdict::Yes(_)))
 }
 
-/// Asserts that the acts of a process among these are its script.
-fn assert_script(rt: &impl Abort, pid: Pid, script: &[Act], acts: &[Act]) {
-    let mut left = script.iter();
-    for act in acts {
-        if act.actor() == pid {
-            same(rt, &left.next(), &Some(act));
-        }
-    }
-    same(rt, &left.next(), &None);
-}
-
-/// Drives busy processes, asserts what the record has, and returns how many events they reported.
+/// Drives busy processes, asserts that they made one run, and returns how many events they reported.
 fn assert_driven<R: Threads + Wait + Sync + Abort>(
     rt: &R,
     alloc: Global,
@@ -47,10 +34,6 @@ fn assert_driven<R: Threads + Wait + Sync + Abort>(
     let driven = scripts(alloc, pids.as_slice(), places, acts)?;
     assert_eq!(rt; driven.len(), pids.len());
     let record = drive::<MOST, MOST, R, OpenGate>(rt, alloc, &pids, driven, &OpenGate)?;
-    let wanted = scripts(alloc, pids.as_slice(), places, acts)?;
-    for (pid, script) in pids.iter().zip(&wanted) {
-        assert_script(rt, *pid, script.as_slice(), record.acts.as_slice());
-    }
     assert!(rt; is_one_run(alloc, &record)?);
     Ok(record.streams.total())
 }
