@@ -1,13 +1,12 @@
 -- One event more: how many pass a test, which is the nth that does, and contents that are one.
-use Rattle.std.proofs.Common.{◌≡◌, ℕ, ◌+◌, ◌<◌, ◌==◌, ◌&&◌, zero, suc, cond, Bool, true, false}
+use Rattle.std.proofs.Common.{◌≡◌, ℕ, ◌+◌, ◌<◌, ◌==◌, zero, suc, cond, Bool, true, false}
 use Rattle.std.proofs.Common.{List, [], ◌∷◌, ◌++◌}
-use Rattle.std.proofs.Common.{length, get_or, Option, Some, None, refl, arith, sym, ◌∙◌, ap, take}
+use Rattle.std.proofs.Common.{length, get_or, Some, None, refl, arith, sym, ◌∙◌, ap, take}
 use Rattle.std.specs.List.{count_by, slice_get}
 use Rattle.std.specs.HashMap.{get}
-use Rattle.std.specs.Option.{option_map, unwrap_or}
+use Rattle.std.specs.Option.{unwrap_or}
 use Rattle.std.proofs.lemmas.Bool.{and_parts, eqb-true}
 use Rattle.std.proofs.Common.{eq-eqb}
-use Rattle.std.proofs.lemmas.Bool.Decides.{nat_tests}
 use Rattle.std.proofs.lemmas.List.Sums.{sum_by-append, sum_by-cons}
 use Rattle.std.proofs.lemmas.Option.{same_Some}
 use Rattle.st_core.specs.declared.types.Pid.{Pid}
@@ -18,7 +17,7 @@ use Rattle.st_core.specs.Event.{to_eq}
 use Rattle.st_core.proofs.ForCallers.{pid_eq-refl, pid_eq-true, to_eq-same, to_eq-true}
 use Rattle.node_streams.specs.declared.content.MessageContent.{MessageContent}
 use Rattle.node_streams.specs.declared.counter.Counter.{Counter}
-use Rattle.node_streams.specs.Messages.{content_eq, nth}
+use Rattle.node_streams.specs.Messages.{content_eq}
 use Rattle.node_streams.specs.Order.{turns}
 use Rattle.node_streams.specs.Tables.{count_in}
 
@@ -32,10 +31,6 @@ blank = record {
   serial = record { prev = 0; this = 0 };
   value = 0;
 }
-
-pub not_both : (a b : Bool) → b ≡ false → (a && b) ≡ false
-not_both true b is = is
-not_both false b is = refl
 
 pub count_first : {A : Type 0} (test : A → Bool) (x : A) (xs : List A)
     → count_by test (x ∷ xs) ≡ cond (test x) 1 0 + count_by test xs
@@ -67,74 +62,6 @@ pub taken_more : {A : Type 0} (xs : List A) (i : ℕ) (x : A) → slice_get xs i
 taken_more [] i x at = absurd (cc)
 taken_more (y ∷ xs) zero x at = ap (λ z. z ∷ []) (same_Some y x at)
 taken_more (y ∷ xs) (suc i) x at = ap (λ ys. y ∷ ys) (taken_more xs i x at)
-
-shifted : (b : Bool) (n : ℕ) (o : Option ℕ)
-    → option_map suc (cond b (Some n) o) ≡ cond b (Some (suc n)) (option_map suc o)
-shifted true n o = refl
-shifted false n o = refl
-
-zero_add : (n : ℕ) → 0 + n ≡ n
-zero_add n = omega arith
-
-zero_apart : (k : ℕ) → (1 + k == 0) ≡ false
-zero_apart k = grind (arith, nat_tests)
-
-same_below : (k m : ℕ) → (1 + k == suc m) ≡ (k == m)
-same_below k m = grind (arith, nat_tests)
-
-never : (b : Bool) (k : ℕ) (u v : Option ℕ) → cond (b && (1 + k == 0)) u v ≡ v
-never true k u v = ap (λ a. cond a u v) (zero_apart k)
-never false k u v = refl
-
-alone : (b : Bool) → cond {A = Option ℕ} b (Some 0) None ≡ cond (b && 0 == 0) (Some 0) None
-alone true = refl
-alone false = refl
-
-zero_later : (n : ℕ) → (0 == suc n) ≡ false
-zero_later n = grind (arith, nat_tests)
-
-alone_later : (b : Bool) (n : ℕ) → cond {A = Option ℕ} b (option_map suc None) None
-    ≡ cond (b && 0 == suc n) (Some 0) None
-alone_later true n = ap (λ b. cond b (Some 0) None) (sym (zero_later n))
-alone_later false n = refl
-
--- the nth event that passes a test, with an event more
-pub nth_more : (test : Event → Bool) (n : ℕ) (es : List Event) (e : Event)
-    → nth test n (es ++ e ∷ [])
-    ≡ cond (test e && count_by test es == n) (Some (length es)) (nth test n es)
-nth_more test zero [] e = alone (test e)
-nth_more test (suc n) [] e = alone_later (test e) n
-nth_more test zero (d ∷ es) e =
-    (elim (test d) as (λ b. cond b (Some 0) (option_map suc (nth test zero (es ++ e ∷ [])))
-    ≡ cond (test e && (cond b 1 0 + count_by test es) == zero) (Some (suc (length es)))
-    (cond b (Some 0) (option_map suc (nth test zero es)))) [
-      | true ↦ sym (never (test e) (count_by test es) (Some (suc (length es))) (Some 0))
-      | false ↦ ap (option_map suc) (nth_more test zero es e)
-          ∙ shifted (test e && count_by test es == zero) (length es) (nth test zero es)
-          ∙ ap (λ m. cond (test e && m == zero) (Some (suc (length es)))
-          (option_map suc (nth test zero es)))
-          (sym (zero_add (count_by test es)))
-    ])
-    ∙ ap (λ m. cond (test e && m == zero) (Some (suc (length es))) (nth test zero (d ∷ es)))
-    (sym (count_first test d es))
-nth_more test (suc n) (d ∷ es) e =
-    (elim (test d) as (λ b.
-    cond b (option_map suc (nth test n (es ++ e ∷ [])))
-    (option_map suc (nth test (suc n) (es ++ e ∷ [])))
-    ≡ cond (test e && (cond b 1 0 + count_by test es) == suc n) (Some (suc (length es)))
-    (cond b (option_map suc (nth test n es)) (option_map suc (nth test (suc n) es)))) [
-      | true ↦ ap (option_map suc) (nth_more test n es e)
-          ∙ shifted (test e && count_by test es == n) (length es) (nth test n es)
-          ∙ ap (λ a. cond (test e && a) (Some (suc (length es))) (option_map suc (nth test n es)))
-          (sym (same_below (count_by test es) n))
-      | false ↦ ap (option_map suc) (nth_more test (suc n) es e)
-          ∙ shifted (test e && count_by test es == suc n) (length es) (nth test (suc n) es)
-          ∙ ap (λ m. cond (test e && m == suc n) (Some (suc (length es)))
-          (option_map suc (nth test (suc n) es)))
-          (sym (zero_add (count_by test es)))
-    ])
-    ∙ ap (λ m. cond (test e && m == suc n) (Some (suc (length es))) (nth test (suc n) (d ∷ es)))
-    (sym (count_first test d es))
 
 -- the next index is one more
 pub taken_next : {A : Type 0} (xs : List A) (i : ℕ) (x : A) → slice_get xs i ≡ Some x

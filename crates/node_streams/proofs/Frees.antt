@@ -1,5 +1,5 @@
 -- Tells what a process can do next, by what the walk and the table have.
-use Rattle.std.proofs.Common.{◌≡◌, ℕ, ◌<◌, ◌≤◌, true, false, List, take, Option, Some, None}
+use Rattle.std.proofs.Common.{◌≡◌, ℕ, ◌<◌, ◌≤◌, cond, true, false, List, take, Option, Some, None}
 use Rattle.std.proofs.Common.{refl, arith, sym, ◌∙◌, ap, subst}
 use Rattle.std.specs.List.{slice_get}
 use Rattle.std.proofs.lemmas.Bool.{false≢true}
@@ -9,30 +9,15 @@ use Rattle.st_core.specs.declared.types.Kind.TheVariants as kind
 use Rattle.st_core.specs.declared.types.Event.{Event}
 use Rattle.st_core.specs.Event.{kind_eq}
 use Rattle.st_core.specs.Run.{Stream}
-use Rattle.st_core.specs.Streams.{AreOwn, events_of}
-use Rattle.node_streams.specs.declared.content.MessageContent.{MessageContent}
+use Rattle.st_core.specs.Streams.{events_of}
 use Rattle.node_streams.specs.declared.walk.Walk.{Walk}
 use Rattle.node_streams.specs.declared.walk.Turn.{Turn}
 use Rattle.node_streams.specs.declared.walk.Turn.TheVariants as turn
-use Rattle.node_streams.specs.Messages.{content_of, takes_message, nth, send_of, tells}
+use Rattle.node_streams.specs.Messages.{takes_message, send_of, taken_send}
 use Rattle.node_streams.specs.Order.{CanGo, next_event, turns}
-use Rattle.node_streams.specs.Tables.{count_in, done_in, IsAt, IsTurn, Waits}
-use Rattle.node_streams.proofs.Owners.{own_event, receive_to}
+use Rattle.node_streams.specs.Tables.{done_in, IsAt, IsTurn, Waits}
 
--- the send that the table has for a content that the walk has a number of
-pub found_for : (streams : List Stream) (w : Walk) (e : Event) (d : MessageContent) (n : ℕ)
-    (place : Option ℕ)
-    → d ≡ content_of e → n ≡ count_in w.received d
-    → place ≡ nth (tells kind.Send d) n (events_of streams d.from)
-    → place ≡ nth (tells kind.Send (content_of e)) (count_in w.received (content_of e))
-    (events_of streams e.from)
-found_for streams w e d n place of number is = is
-    ∙ ap (λ (x : MessageContent). nth (tells kind.Send x) n (events_of streams x.from)) of
-    ∙ ap (λ m. nth (tells kind.Send (content_of e)) m (events_of streams e.from))
-    (number ∙ ap (count_in w.received) of)
-
-module _ (streams : List Stream) (order : List Pid) (w : Walk) (p : Pid)
-    (own : AreOwn streams) (at : IsAt streams order w) where
+module _ (streams : List Stream) (order : List Pid) (w : Walk) (p : Pid) (at : IsAt order w) where
   pub no_event : slice_get (events_of streams p) (done_in w p) ≡ None
       → next_event streams order p ≡ None
   no_event none = ap (slice_get (events_of streams p)) (sym (at.done p)) ∙ none
@@ -50,13 +35,12 @@ module _ (streams : List Stream) (order : List Pid) (w : Walk) (p : Pid)
     }
 
     module _ (is : kind_eq e.kind kind.Receive ≡ true) (place : Option ℕ)
-        (found : place ≡ nth (tells kind.Send (content_of e)) (count_in w.received (content_of e))
-        (events_of streams e.from)) where
+        (found : place ≡ taken_send streams (take (done_in w p) (events_of streams p)) e) where
       send_is : send_of streams (take (turns p order) (events_of streams p)) e ≡ place
-      send_is =
-          let to = receive_to p e (own_event streams p (done_in w p) e own here) is in
-          sym (found ∙ ap (λ n. nth (tells kind.Send (content_of e)) n (events_of streams e.from))
-          (at.received p (content_of e) to))
+      send_is = sym (found
+          ∙ ap (λ n. taken_send streams (take n (events_of streams p)) e) (at.done p)
+          ∙ ap (λ b. cond b (send_of streams (take (turns p order) (events_of streams p)) e) None)
+          is)
 
       -- a receive is free if its send came
       pub free_receive : ((j : ℕ) → place ≡ Some j → j < done_in w e.from) → CanGo streams order p

@@ -1,8 +1,10 @@
 -- The lemmas.
 pub mod Counting
 pub mod Owners
-pub mod EndTables
 pub mod Unsents
+pub mod SortedEnds
+pub mod EachEvents
+pub mod Takes
 pub mod OtherEnds
 pub mod Turns
 pub mod Frees

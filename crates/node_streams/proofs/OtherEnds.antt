@@ -1,9 +1,8 @@
--- The other ends of messages, with one event more. Two ends are each other's: before each of them
--- as many alike ones came.
+-- Two ends of a message are each other's: before each of them as many alike ones came.
 use Rattle.std.proofs.Common.{◌≡◌, ℕ, ◌+◌, ◌&&◌, zero, suc, cond, Bool, true, false, List, []}
-use Rattle.std.proofs.Common.{◌∷◌, ◌++◌}
-use Rattle.std.proofs.Common.{take, drop, Option, Some, None, option_map, refl, arith, sym, ◌∙◌}
-use Rattle.std.proofs.Common.{ap, append_assoc, append-nil, subst}
+use Rattle.std.proofs.Common.{◌∷◌}
+use Rattle.std.proofs.Common.{take, Option, Some, None, option_map, refl, arith, sym, ◌∙◌}
+use Rattle.std.proofs.Common.{ap, subst}
 use Rattle.std.specs.List.{count_by, slice_get}
 use Rattle.std.proofs.lemmas.Bool.{and_parts}
 use Rattle.std.proofs.lemmas.Option.{same_Some, none-some}
@@ -16,48 +15,15 @@ use Rattle.st_core.specs.Run.{Stream}
 use Rattle.st_core.specs.Streams.{AreOwn, events_of}
 use Rattle.node_streams.specs.declared.content.MessageContent.{MessageContent}
 use Rattle.node_streams.specs.Messages.{content_eq, content_of, nth, owner, other_end_of}
-use Rattle.node_streams.specs.Messages.{partners_from}
 use Rattle.node_streams.specs.Messages.{partners, send_of, tells}
-use Rattle.node_streams.proofs.Counting.{content_itself, content_same, count_first, taken_next}
+use Rattle.node_streams.proofs.Counting.{content_itself, content_same, count_first}
+use Rattle.node_streams.proofs.EachEvents.{each_at}
 use Rattle.node_streams.proofs.Owners.{kind_same, own_event, owner_is}
-use Rattle.node_streams.proofs.Unsents.{first_left}
-
-module _ (streams : List Stream) (es : List Event) (i : ℕ) (e : Event)
-    (at : slice_get es i ≡ Some e) where
-  pub partner_step : (old new all : List (Option ℕ)) (o : Option ℕ)
-      → old ++ partners_from streams (take i es) (drop i es) ≡ all
-      → new ≡ old ++ o ∷ [] → o ≡ other_end_of streams (take i es) e
-      → new ++ partners_from streams (take (i + 1) es) (drop (i + 1) es) ≡ all
-  partner_step old new all o so_far now is =
-      let next : i + 1 ≡ suc i = omega arith in
-      let rest = λ (xs : List Event) (n : ℕ). partners_from streams xs (drop n es) in
-      ap (λ xs. xs ++ rest (take (i + 1) es) (i + 1)) now
-      ∙ append_assoc old (o ∷ []) (rest (take (i + 1) es) (i + 1))
-      ∙ ap (λ x. old ++ x ∷ rest (take (i + 1) es) (i + 1)) is
-      ∙ ap (λ n. old ++ other_end_of streams (take i es) e ∷ rest (take (i + 1) es) n) next
-      ∙ ap (λ xs. old ++ other_end_of streams (take i es) e ∷ rest xs (suc i))
-      (taken_next es i e at)
-      ∙ ap (λ xs. old ++ partners_from streams (take i es) xs) (sym (first_left es i e at))
-      ∙ so_far
-
--- WHAT IS READ
-
-partner_from : (streams : List Stream) (before es : List Event) (i : ℕ) (e : Event)
-    → slice_get es i ≡ Some e
-    → slice_get (partners_from streams before es) i
-    ≡ Some (other_end_of streams (before ++ take i es) e)
-partner_from streams before [] i e at = absurd (none-some e at)
-partner_from streams before (d ∷ es) zero e at =
-    ap (λ x. Some (other_end_of streams before x)) (same_Some d e at)
-    ∙ ap (λ xs. Some (other_end_of streams xs e)) (sym (append-nil before))
-partner_from streams before (d ∷ es) (suc i) e at =
-    partner_from streams (before ++ d ∷ []) es i e at
-    ∙ ap (λ xs. Some (other_end_of streams xs e)) (append_assoc before (d ∷ []) (take i es))
 
 pub partner_at : (streams : List Stream) (es : List Event) (i : ℕ) (e : Event)
     → slice_get es i ≡ Some e
     → slice_get (partners streams es) i ≡ Some (other_end_of streams (take i es) e)
-partner_at streams es i e at = partner_from streams [] es i e at
+partner_at streams es i e at = each_at (other_end_of streams) es i e at
 
 -- THE NTH
 

@@ -15,7 +15,7 @@ first_left [] i x at = absurd (cc)
 first_left (y ∷ xs) zero x at = ap (λ z. z ∷ xs) (same_Some y x at)
 first_left (y ∷ xs) (suc i) x at = first_left xs i x at
 
-length_taken : {A : Type 0} (xs : List A) (i : ℕ) (x : A) → slice_get xs i ≡ Some x
+pub length_taken : {A : Type 0} (xs : List A) (i : ℕ) (x : A) → slice_get xs i ≡ Some x
     → length (take i xs) ≡ i
 length_taken [] i x at = absurd (cc)
 length_taken (y ∷ xs) zero x at = refl

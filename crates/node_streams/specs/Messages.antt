@@ -82,15 +82,26 @@ other_end_of streams before e = let c = content_of e in elim e.kind [
   | kind.Print ↦ None
 ]
 
--- those of these events, before which their process reported the others
-abbrev pub partners_from : List Stream → List Event → List Event → List (Option ℕ)
-partners_from streams before [] = []
-partners_from streams before (e ∷ es) =
-    other_end_of streams before e ∷ partners_from streams (before ++ e ∷ []) es
+-- what a function has of each of these events and of those before it, of which these are the first
+abbrev pub each_from : {A : Type 0} → (List Event → Event → A) → List Event → List Event → List A
+each_from f before [] = []
+each_from f before (e ∷ es) = f before e ∷ each_from f (before ++ e ∷ []) es
 
 abbrev pub partners : List Stream → List Event → List (Option ℕ)
-partners streams es = partners_from streams [] es
+partners streams es = each_from (other_end_of streams) [] es
 
 -- those of each process
 abbrev pub all_partners : List Stream → List (List (Option ℕ))
 all_partners streams = map (λ x. partners streams x.events) streams
+
+-- the index of the send that an event took, if it is a receive
+abbrev pub taken_send : List Stream → List Event → Event → Option ℕ
+taken_send streams before e = if takes_message e then send_of streams before e else None
+
+-- those of a process's events
+abbrev pub taken_sends : List Stream → List Event → List (Option ℕ)
+taken_sends streams es = each_from (taken_send streams) [] es
+
+-- those of each process
+abbrev pub all_taken_sends : List Stream → List (List (Option ℕ))
+all_taken_sends streams = map (λ x. taken_sends streams x.events) streams

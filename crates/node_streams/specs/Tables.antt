@@ -1,26 +1,28 @@
--- Says what the table of sends and the walk over all events keep.
-use Rattle.std.specs.Prelude.{◌≡◌, ℕ, ◌==◌, ◌&&◌, ◌≤◌, true, Bool, List, take, count_by}
-use Rattle.std.specs.Prelude.{Some, None, if◌then◌else◌}
-use Rattle.std.specs.Option.{unwrap_or}
+-- Says what the lists of ends and the walk over all events keep.
+use Rattle.std.specs.Prelude.{◌≡◌, ℕ, ◌+◌, ◌≤◌, true, Bool, List, [], ◌∷◌, ◌++◌, length, take}
+use Rattle.std.specs.Prelude.{Option, Some, None, count_by, if◌then◌else◌, slice_get}
+use Rattle.std.specs.Option.{option_cmp, unwrap_or}
 use Rattle.std.specs.HashMap.{get}
+use Rattle.std.specs.List.{filter}
+use Rattle.std.specs.List.Sorted.{IsSortedByKey}
+use Rattle.std.specs.Ordering.{nat_cmp, ordering_then}
+use Rattle.std.specs.declared.cmp.Ordering.{Ordering}
 use Rattle.st_core.specs.declared.types.Pid.{Pid}
 use Rattle.st_core.specs.declared.types.Kind.{Kind}
 use Rattle.st_core.specs.declared.types.Kind.TheVariants as kind
 use Rattle.st_core.specs.declared.types.Event.{Event}
-use Rattle.st_core.specs.Pid.{pid_eq}
-use Rattle.st_core.specs.Run.{Stream}
-use Rattle.st_core.specs.Streams.{events_of}
+use Rattle.st_core.specs.Event.{kind_eq}
+use Rattle.st_core.specs.Pid.{pid_cmp, pid_eq}
+use Rattle.st_core.specs.Run.{Stream, pids_of}
+use Rattle.st_core.specs.Streams.{IsStreams, events_of}
 use Rattle.node_streams.specs.declared.content.MessageContent.{MessageContent}
 use Rattle.node_streams.specs.declared.counter.Counter.{Counter}
-use Rattle.node_streams.specs.declared.ends.Ends.{Ends}
+use Rattle.node_streams.specs.declared.ends.End.{End}
 use Rattle.node_streams.specs.declared.walk.Walk.{Walk}
 use Rattle.node_streams.specs.declared.walk.Turn.{Turn}
 use Rattle.node_streams.specs.declared.walk.Turn.TheVariants as turn
-use Rattle.node_streams.specs.Messages.{content_eq, takes_message, nth, owner, send_of, tells}
+use Rattle.node_streams.specs.Messages.{content_eq, content_of, takes_message, send_of, tells}
 use Rattle.node_streams.specs.Order.{CanGo, next_event, turns}
-
-abbrev pub numbered_eq : MessageContent × ℕ → MessageContent × ℕ → Bool
-numbered_eq a b = content_eq a.0 b.0 && a.1 == b.1
 
 -- the number of a content
 abbrev pub count_in : Counter → MessageContent → ℕ
@@ -30,40 +32,57 @@ count_in counter c = unwrap_or (get content_eq counter.counts c) 0
 abbrev pub CountsKind : Kind → List Event → Counter → Type 0
 CountsKind k es counter = (c : MessageContent) → count_in counter c ≡ count_by (tells k c) es
 
--- the receives among them
-abbrev pub AreReceived : List Event → Counter → Type 0
-AreReceived es counter = CountsKind kind.Receive es counter
+-- the ends of this kind among these events, of which the first has this index
+abbrev pub ends_from : Kind → ℕ → List Event → List End
+ends_from k i [] = []
+ends_from k i (e ∷ es) =
+    (if kind_eq e.kind k then record { content = content_of e; index = i } ∷ [] else [])
+    ++ ends_from k (i + 1) es
 
--- the table has the ends of this kind among these events of each process
-pub record AreEnds (k : Kind) (told : Pid → List Event) (t : Ends) : Type 0 where
-  pub counts : (c : MessageContent)
-      → count_in t.counter c ≡ count_by (tells k c) (told (owner k c))
-  pub places : (c : MessageContent) (n : ℕ)
-      → get numbered_eq t.places (c, n) ≡ nth (tells k c) n (told (owner k c))
+-- an end of this content
+abbrev pub alike : MessageContent → End → Bool
+alike c x = content_eq x.content c
 
--- the sends among them
-abbrev pub AreSends : (Pid → List Event) → Ends → Type 0
-AreSends told t = AreEnds kind.Send told t
+-- the order of contents, by one part after the other
+abbrev pub content_cmp : MessageContent → MessageContent → Ordering
+content_cmp c d = ordering_then (pid_cmp c.from d.from) (ordering_then (option_cmp pid_cmp c.to d.to)
+    (ordering_then (nat_cmp c.label d.label) (ordering_then (nat_cmp c.prev d.prev)
+    (ordering_then (nat_cmp c.this d.this) (nat_cmp c.value d.value)))))
 
--- the tables have the sends and the receives of streams
-pub record AreBothEnds (streams : List Stream) (sends receives : Ends) : Type 0 where
-  pub sent : AreEnds kind.Send (events_of streams) sends
-  pub received : AreEnds kind.Receive (events_of streams) receives
+-- a list has these ends by their content, alike ones in their order
+pub record AreByContent (all sorted : List End) : Type 0 where
+  pub rise : IsSortedByKey (λ (x : End). x.content) content_cmp sorted
+  pub groups : (c : MessageContent) → filter (alike c) sorted ≡ filter (alike c) all
 
--- with these events for p's
-abbrev pub with_events : Pid → List Event → (Pid → List Event) → Pid → List Event
-with_events p es told q = if pid_eq p q then es else told q
+-- the lists have the ends of this kind of each process
+pub record AreEnds (k : Kind) (streams : List Stream) (lists : List (List End)) : Type 0 where
+  pub each : length lists ≡ length (pids_of streams)
+  pub sorted : (i : ℕ) (p : Pid) (v : List End) → slice_get (pids_of streams) i ≡ Some p
+      → slice_get lists i ≡ Some v → AreByContent (ends_from k 0 (events_of streams p)) v
+
+-- the index of an end, if it is of this content
+abbrev pub index_if : MessageContent → Option End → Option ℕ
+index_if c None = None
+index_if c (Some x) = if alike c x then Some x.index else None
+
+-- the lists have the sends of streams
+pub record AreSends (streams : List Stream) (sends : List (List End)) : Type 0 where
+  pub sound : IsStreams streams
+  pub sent : AreEnds kind.Send streams sends
+
+-- and these the sends and the receives
+pub record AreBothEnds (streams : List Stream) (sends receives : List (List End)) : Type 0 where
+  pub sound : IsStreams streams
+  pub sent : AreEnds kind.Send streams sends
+  pub received : AreEnds kind.Receive streams receives
 
 -- how many events of p came
 abbrev pub done_in : Walk → Pid → ℕ
 done_in w p = unwrap_or (get pid_eq w.done p) 0
 
 -- the walk is where these turns lead
-pub record IsAt (streams : List Stream) (order : List Pid) (w : Walk) : Type 0 where
+pub record IsAt (order : List Pid) (w : Walk) : Type 0 where
   pub done : (p : Pid) → done_in w p ≡ turns p order
-  pub received : (p : Pid) (c : MessageContent) → c.to ≡ Some p
-      → count_in w.received c
-      ≡ count_by (tells kind.Receive c) (take (turns p order) (events_of streams p))
 
 -- p's next event, a receive, waits for event j of q
 pub record Waits (streams : List Stream) (order : List Pid) (p q : Pid) (j : ℕ) : Type 0 where

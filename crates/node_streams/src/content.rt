@@ -6,7 +6,7 @@ ghost use Rattle.node_streams.specs.Messages.{content_of};
 use st_core::{Event, Pid};
 
 /// All that a send or a receive says of its message. Messages of one content are alike.
-#[derive(Clone, Copy, Debug, PartialEq, Eq, Hash)]
+#[derive(Clone, Copy, Debug, PartialEq, Eq, PartialOrd, Ord, Hash)]
 pub struct MessageContent {
     /// The sender.
     pub from: Pid,

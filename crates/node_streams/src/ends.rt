@@ -1,20 +1,21 @@
 //! The reported ends of messages, by their content: all sends, or all receives.
+//!
+//! They are sorted, and not in a hash table: whoever writes a trace could choose contents whose
+//! hashes meet.
 
-ghost use Rattle.std.specs.Prelude.{◌≡◌, [], ◌∷◌, ◌++◌, true, length, List, IfOk, OnOk};
-ghost use Rattle.std.specs.List.{AllByRecursion};
+ghost use Rattle.std.specs.Prelude.{◌≡◌, ◌≤◌, IfOk, List, OnOk, drop, length, option_map, slice_get};
+ghost use Rattle.std.specs.List.{filter};
 ghost use Rattle.st_core.specs.Event.{kind_eq};
-ghost use Rattle.st_core.specs.Streams.{events_of, is_own};
-ghost use Rattle.st_core.specs.declared.types.Event.{Event as EventValue};
+ghost use Rattle.st_core.specs.Run.{pids_of};
+ghost use Rattle.st_core.specs.Streams.{IsStreams, events_of};
 ghost use Rattle.st_core.specs.declared.types.Kind.{Kind as KindValue};
-ghost use Rattle.st_core.specs.declared.types.Pid.{Pid as PidValue};
-ghost use Rattle.node_streams.specs.Messages.{nth, owner, tells};
-ghost use Rattle.node_streams.specs.Tables.{AreEnds, with_events};
+ghost use Rattle.node_streams.specs.Messages.{nth, tells};
+ghost use Rattle.node_streams.specs.Tables.{AreByContent, AreEnds, alike, ends_from, index_if};
+ghost use Rattle.node_streams.specs.declared.ends.End.{End as EndValue};
 
 use crate::content::MessageContent;
-use crate::counter::Counter;
-use st_core::{Event, Kind, Pid, Streams};
+use st_core::{Event, Kind, Pid, Sequence, Streams};
 use std::alloc::{AllocError, Global};
-use std::collections::HashMap;
 
 /// Whether the event is of this kind.
 fn is_of_kind(kind: Kind, event: &Event) -> bool
@@ -28,76 +29,108 @@ fn is_of_kind(kind: Kind, event: &Event) -> bool
     }
 }
 
-/// The reported sends or receives, by the content of their messages.
-#[derive(Drop)]
-pub(crate) struct Ends {
-    /// How many messages of a content there were.
-    pub(crate) counter: Counter,
-    /// The index of an end in its process's stream, by its content and the number of alike ones
-    /// before it.
-    pub(crate) places: HashMap<(MessageContent, u64), u64>,
+/// The reported end of a message.
+#[derive(Clone, Copy, Debug, PartialEq, Eq)]
+pub(crate) struct End {
+    /// What it says of the message.
+    pub(crate) content: MessageContent,
+    /// Its index in its process's stream.
+    pub(crate) index: u64,
 }
 
-impl Ends {
-    /// No ends.
-    fn new(alloc: Global) -> Ends
-        ensures { (kind : KindValue) → AreEnds kind (λ p. []) result }
-    {
-        Ends {
-            counter: Counter::new(alloc),
-            places: HashMap::new(alloc),
+/// The ends of this kind among a process's events, in order.
+fn own_ends(alloc: Global, kind: Kind, events: &[Event]) -> Result<Vec<End>, AllocError>
+    ensures { IfOk result (λ v. v.items ≡ ends_from kind 0 events.now) }
+{
+    let mut ends = Vec::new(alloc);
+    for (i, event) in events.iter().enumerate() {
+        if is_of_kind(kind, event) {
+            let content = MessageContent::of(event);
+            ends.push(End {
+                content,
+                index: i as u64,
+            })?;
         }
     }
+    Ok(ends)
+}
 
-    /// With an event of this process more, which has this index.
-    fn note(&mut self, kind: Kind, pid: Pid, index: u64, event: &Event) -> Result<(), AllocError>
-        requires { is_own pid event.now ≡ true }
-        ensures { (told : PidValue → List EventValue) → length (told pid) ≡ index
-            → AreEnds kind told self.old
-            → OnOk result (AreEnds kind (with_events pid (told pid ++ event.now ∷ []) told)
-            self.new) }
-    {
-        if !is_of_kind(kind, event) {
-            return Ok(());
-        }
-        let content = MessageContent::of(event);
-        let number = self.counter.note(content)?;
-        match self.places.insert((content, number), index) {
-            Ok(_) => Ok(()),
-            Err(_) => Err(AllocError),
+/// The ends of this kind among a process's events, by their content.
+fn ends_by_content(alloc: Global, kind: Kind, events: &[Event]) -> Result<Vec<End>, AllocError>
+    ensures { IfOk result (λ v. AreByContent (ends_from kind 0 events.now) v.items) }
+{
+    let mut ends = own_ends(alloc, kind, events)?;
+    ends.sort_by_key(|end| end.content)?;
+    Ok(ends)
+}
+
+/// The end at this index of those from this place on.
+fn end_behind(ends: &[End], first: usize, number: u64) -> Option<End>
+    requires { first ≤ length ends.now }
+    ensures { result ≡ slice_get (drop first ends.now) number }
+{
+    ends[first..].get(number as usize).copied()
+}
+
+/// The index of an end, if there is one and it is of this content.
+fn index_if(content: MessageContent, end: Option<End>) -> Option<u64>
+    ensures { result ≡ index_if content end }
+{
+    match end {
+        None => None,
+        Some(end) => {
+            if end.content == content {
+                Some(end.index)
+            } else {
+                None
+            }
         }
     }
+}
 
-    /// With all events of a process.
-    fn note_all(&mut self, kind: Kind, pid: Pid, events: &[Event]) -> Result<(), AllocError>
-        requires { AllByRecursion (λ e. is_own pid e ≡ true) events.now }
-        ensures { (told : PidValue → List EventValue) → told pid ≡ [] → AreEnds kind told self.old
-            → OnOk result (AreEnds kind (with_events pid events.now told) self.new) }
-    {
-        for (i, event) in events.iter().enumerate() {
-            self.note(kind, pid, i as u64, event)?;
-        }
-        Ok(())
+/// The index of the end of this content that comes after this many alike ones, among ends that are
+/// sorted by their content.
+fn nth_end(ends: &[End], content: MessageContent, number: u64) -> Option<u64>
+    ensures { (all : List EndValue) → AreByContent all ends.now
+        → result ≡ option_map (λ x. x.index) (slice_get (filter (alike content) all) number) }
+{
+    let first = ends.partition_point(|end| end.content.cmp(&content).is_lt());
+    index_if(content, end_behind(ends, first, number))
+}
+
+/// The ends of this kind of all processes, each by its content.
+pub(crate) fn all_ends(
+    alloc: Global,
+    streams: &Streams,
+    kind: Kind,
+) -> Result<Vec<Sequence<End>>, AllocError>
+    ensures lists { IfOk result (λ v. AreEnds kind streams.now v.items) }
+    ensures sound { OnOk result (IsStreams streams.now) }
+{
+    let mut lists = Vec::new(alloc);
+    for &pid in streams.pids() {
+        let list = ends_by_content(alloc, kind, streams.events(pid))?;
+        lists.push(Sequence::from_vec(list))?;
     }
+    Ok(lists)
+}
 
-    /// Those of streams.
-    pub(crate) fn of(alloc: Global, streams: &Streams, kind: Kind) -> Result<Ends, AllocError>
-        ensures { IfOk result (AreEnds kind (events_of streams.now)) }
-    {
-        let mut ends = Ends::new(alloc);
-        for &pid in streams.pids() {
-            ends.note_all(kind, pid, streams.events(pid))?;
-        }
-        Ok(ends)
-    }
-
-    /// The index, in its process's stream, of the end of this content that comes after this many
-    /// alike ones.
-    pub(crate) fn place(&self, content: MessageContent, number: u64) -> Option<u64>
-        ensures { (kind : KindValue) (told : PidValue → List EventValue)
-            → AreEnds kind told self.now
-            → result ≡ nth (tells kind content) number (told (owner kind content)) }
-    {
-        self.places.get(&(content, number)).copied()
+/// The index, in the stream of this process, of its end of this content that comes after this many
+/// alike ones.
+pub(crate) fn place(
+    streams: &Streams,
+    ends: &[Sequence<End>],
+    pid: Pid,
+    content: MessageContent,
+    number: u64,
+) -> Option<u64>
+    requires sound { IsStreams streams.now }
+    requires each { length ends.now ≡ length (pids_of streams.now) }
+    ensures { (kind : KindValue) → AreEnds kind streams.now ends.now
+        → result ≡ nth (tells kind content) number (events_of streams.now pid) }
+{
+    match streams.place_of(pid) {
+        None => None,
+        Some(place) => nth_end(ends[place].as_slice(), content, number),
     }
 }

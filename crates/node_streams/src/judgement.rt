@@ -9,10 +9,10 @@ ghost use Rattle.node_streams.specs.Messages.{unsent_among};
 ghost use Rattle.node_streams.specs.Order.{HaveOrder};
 ghost use Rattle.node_streams.specs.Runs.{AreStreamsOf};
 
-use crate::ends::Ends;
 use crate::order::cycle;
 use crate::receives::unsent;
-use st_core::{Kind, Pid, Streams};
+use crate::sends::all_taken_sends;
+use st_core::{Pid, Streams};
 use std::alloc::{AllocError, Global};
 
 /// The findings about the messages of streams. A place is a process and the index of one of its
@@ -41,9 +41,9 @@ pub fn judge(alloc: Global, streams: &Streams) -> Result<Judgement, AllocError>
     ensures cycle_final { IfOk result (λ j. j.cycle.items ≢ [] → (pids : List PidValue)
         (acts : List NodeAct) (os : List Outcome) → ¬ (AreStreamsOf streams.now pids acts os)) }
 {
-    let sends = Ends::of(alloc, streams, Kind::Send)?;
+    let taken = all_taken_sends(alloc, streams)?;
     Ok(Judgement {
-        unsent: unsent(alloc, streams, &sends)?,
-        cycle: cycle(alloc, streams, &sends)?,
+        unsent: unsent(alloc, streams, taken.as_slice())?,
+        cycle: cycle(alloc, streams, taken.as_slice())?,
     })
 }

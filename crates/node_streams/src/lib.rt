@@ -10,6 +10,7 @@ pub mod laws;
 mod order;
 mod partners;
 mod receives;
+mod sends;
 #[cfg(test)]
 mod tests;
 mod walk;
@@ -17,3 +18,4 @@ mod walk;
 pub use content::MessageContent;
 pub use judgement::{Judgement, judge};
 pub use partners::MessageEnds;
+pub use sends::Sends;

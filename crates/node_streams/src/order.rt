@@ -1,22 +1,21 @@
 //! Whether all events have an order.
 
 ghost use Rattle.std.specs.Prelude.{◌≡◌, ◌≢◌, [], List, None, Some, IfOk};
-ghost use Rattle.st_core.specs.Streams.{events_of};
 ghost use Rattle.st_core.specs.declared.types.Event.{Event as EventValue};
 ghost use Rattle.st_core.specs.declared.types.Pid.{Pid as PidValue};
 ghost use Rattle.node_streams.specs.Order.{HaveOrder, next_event};
-ghost use Rattle.node_streams.specs.Tables.{AreSends, IsAt};
+ghost use Rattle.node_streams.specs.Messages.{all_taken_sends};
+ghost use Rattle.node_streams.specs.Tables.{IsAt};
 
-use crate::ends::Ends;
 use crate::walk::Walk;
-use st_core::{Pid, Streams};
+use st_core::{Pid, Sequence, Streams};
 use std::alloc::{AllocError, Global};
 
 /// The next event of each process that has one left.
 fn events_left(alloc: Global, streams: &Streams, walk: &Walk) -> Result<Vec<(Pid, u64)>, AllocError>
-    ensures none { (order : List PidValue) → IsAt streams.now order walk.now → IfOk result (λ v.
+    ensures none { (order : List PidValue) → IsAt order walk.now → IfOk result (λ v.
         v.items ≡ [] → (p : PidValue) → next_event streams.now order p ≡ None) }
-    ensures some { (order : List PidValue) → IsAt streams.now order walk.now → IfOk result (λ v.
+    ensures some { (order : List PidValue) → IsAt order walk.now → IfOk result (λ v.
         v.items ≢ []
         → (p : PidValue) × (e : EventValue) × (next_event streams.now order p ≡ Some e)) }
 {
@@ -35,14 +34,14 @@ fn events_left(alloc: Global, streams: &Streams, walk: &Walk) -> Result<Vec<(Pid
 pub(crate) fn cycle(
     alloc: Global,
     streams: &Streams,
-    sends: &Ends,
+    taken: &[Sequence<Option<u64>>],
 ) -> Result<Vec<(Pid, u64)>, AllocError>
-    requires { AreSends (events_of streams.now) sends.now }
+    requires taken { taken.now ≡ all_taken_sends streams.now }
     ensures none { IfOk result (λ v. v.items ≡ [] → HaveOrder streams.now) }
     ensures some { IfOk result (λ v. v.items ≢ [] → ¬ (HaveOrder streams.now)) }
 {
     let mut walk = Walk::new(alloc, streams.pids())?;
-    while let Some((pid, event)) = walk.next(streams, sends)? {
+    while let Some((pid, event)) = walk.next(streams, taken)? {
         walk.go(pid, &event)?;
     }
     events_left(alloc, streams, &walk)

@@ -3,23 +3,33 @@
 ghost use Rattle.std.specs.Prelude.{◌≡◌, [], ◌∷◌, ◌++◌, List, IfOk, OnOk};
 ghost use Rattle.st_core.specs.declared.types.Event.{Event as EventValue};
 ghost use Rattle.st_core.specs.declared.types.Kind.TheVariants as kind;
-ghost use Rattle.node_streams.specs.Messages.{other_end_of, partners};
+ghost use Rattle.node_streams.specs.Messages.{content_of, other_end_of, owner, partners};
 ghost use Rattle.node_streams.specs.Tables.{CountsKind};
 
 use crate::content::MessageContent;
 use crate::counter::Counter;
-use crate::ends::Ends;
-use st_core::{Event, Kind, Streams};
+use crate::ends::{End, all_ends, place};
+use st_core::{Event, Kind, Pid, Sequence, Streams};
 use std::alloc::{AllocError, Global};
 use std::marker::Model;
+
+/// The process that receives the message of this event.
+pub(crate) fn receiver_of(event: &Event) -> Pid
+    ensures { result ≡ owner kind.Receive (content_of event.now) }
+{
+    match event.to {
+        Some(to) => to,
+        None => event.from,
+    }
+}
 
 /// The sends and the receives that streams report, by the content of their messages. A contract
 /// sees it as the streams, which it borrows.
 #[derive(Drop)]
 pub struct MessageEnds<'a> {
     streams: &'a Streams,
-    sends: Ends,
-    receives: Ends,
+    sends: Vec<Sequence<End>>,
+    receives: Vec<Sequence<End>>,
 }
 
 impl<'a> Model for MessageEnds<'a> {
@@ -31,7 +41,7 @@ impl<'a> Model for MessageEnds<'a> {
 
     ghost view = { λ a. a.streams.now };
 
-    ghost invariant = { λ a. AreBothEnds a.streams.now a.sends a.receives };
+    ghost invariant = { λ a. AreBothEnds a.streams.now a.sends.items a.receives.items };
 }
 
 impl<'a> MessageEnds<'a> {
@@ -39,8 +49,8 @@ impl<'a> MessageEnds<'a> {
     pub fn of(alloc: Global, streams: &'a Streams) -> Result<Self, AllocError>
         ensures { IfOk result (λ ends. ends ≡ streams.now) }
     {
-        let sends = Ends::of(alloc, streams, Kind::Send)?;
-        let receives = Ends::of(alloc, streams, Kind::Receive)?;
+        let sends = all_ends(alloc, streams, Kind::Send)?;
+        let receives = all_ends(alloc, streams, Kind::Receive)?;
         Ok(MessageEnds {
             streams,
             sends,
@@ -68,11 +78,18 @@ impl<'a> MessageEnds<'a> {
             Kind::Print => Ok(None),
             Kind::Send => {
                 let number = sent.note(content)?;
-                Ok(self.receives.place(content, number))
+                let to = receiver_of(event);
+                Ok(place(self.streams, self.receives.as_slice(), to, content, number))
             }
             Kind::Receive => {
                 let number = received.note(content)?;
-                Ok(self.sends.place(content, number))
+                Ok(place(
+                    self.streams,
+                    self.sends.as_slice(),
+                    event.from,
+                    content,
+                    number,
+                ))
             }
         }
     }

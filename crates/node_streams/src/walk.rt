@@ -2,18 +2,15 @@
 
 ghost use Rattle.std.specs.Prelude.{◌≡◌, ◌+◌, ◌<◌, [], ◌∷◌, true, List, None, Some, IfOk, OnOk};
 ghost use Rattle.std.specs.Prelude.{IfNone, IfSome, if◌then◌else◌};
-ghost use Rattle.std.specs.Option.{unwrap_or};
 ghost use Rattle.st_core.specs.Pid.{pid_eq};
-ghost use Rattle.st_core.specs.Run.{Stream};
-ghost use Rattle.st_core.specs.Streams.{AreOwn, events_of, is_own};
+ghost use Rattle.st_core.specs.Streams.{IsStreams};
 ghost use Rattle.st_core.specs.declared.types.Pid.{Pid as PidValue};
+ghost use Rattle.node_streams.specs.Messages.{all_taken_sends};
 ghost use Rattle.node_streams.specs.Order.{CanGo, next_event};
-ghost use Rattle.node_streams.specs.Tables.{AreSends, IsAt, IsTurn, done_in};
+ghost use Rattle.node_streams.specs.Tables.{IsAt, IsTurn, done_in};
 
-use crate::content::MessageContent;
-use crate::counter::Counter;
-use crate::ends::Ends;
-use st_core::{Event, Kind, Pid, Streams};
+use crate::sends::{taken_at, taken_of};
+use st_core::{Event, Kind, Pid, Sequence, Streams};
 use std::alloc::{AllocError, Global};
 use std::collections::HashMap;
 
@@ -33,8 +30,6 @@ pub(crate) enum Turn {
 pub(crate) struct Walk {
     /// How many events of each process came.
     pub(crate) done: HashMap<Pid, u64>,
-    /// How many messages of each content were received.
-    pub(crate) received: Counter,
     /// The process that waits for an event. Only time depends on it.
     waiting: HashMap<(Pid, u64), Pid>,
     /// Processes that may go on. Only time depends on them.
@@ -44,13 +39,12 @@ pub(crate) struct Walk {
 impl Walk {
     /// Before all events.
     pub(crate) fn new(alloc: Global, pids: &[Pid]) -> Result<Walk, AllocError>
-        ensures { IfOk result (λ walk. (streams : List Stream) → IsAt streams [] walk) }
+        ensures { IfOk result (IsAt []) }
     {
         let mut candidates = Vec::new(alloc);
         candidates.extend_from_slice(pids)?;
         Ok(Walk {
             done: HashMap::new(alloc),
-            received: Counter::new(alloc),
             waiting: HashMap::new(alloc),
             candidates,
         })
@@ -64,29 +58,28 @@ impl Walk {
     }
 
     /// Finds the next turn of the process.
-    pub(crate) fn turn(&self, streams: &Streams, sends: &Ends, pid: Pid) -> Turn
-        requires { AreOwn streams.now }
-        ensures { (order : List PidValue) → IsAt streams.now order self.now
-            → AreSends (events_of streams.now) sends.now → IsTurn streams.now order pid result }
+    pub(crate) fn turn(&self, streams: &Streams, taken: &[Sequence<Option<u64>>], pid: Pid) -> Turn
+        requires sound { IsStreams streams.now }
+        requires taken { taken.now ≡ all_taken_sends streams.now }
+        ensures { (order : List PidValue) → IsAt order self.now
+            → IsTurn streams.now order pid result }
     {
-        let Some(event) = streams.event(pid, self.done_of(pid)) else {
+        let index = self.done_of(pid);
+        let Some(event) = streams.event(pid, index) else {
             return Turn::Over;
         };
         match event.kind {
             Kind::Send | Kind::Print => Turn::Free(event),
-            Kind::Receive => {
-                let content = MessageContent::of(&event);
-                match sends.place(content, self.received.number(content)) {
-                    None => Turn::Free(event),
-                    Some(index) => {
-                        if index < self.done_of(event.from) {
-                            Turn::Free(event)
-                        } else {
-                            Turn::Waits(event.from, index)
-                        }
+            Kind::Receive => match taken_at(taken_of(streams, taken, pid), index as usize) {
+                None => Turn::Free(event),
+                Some(send) => {
+                    if send < self.done_of(event.from) {
+                        Turn::Free(event)
+                    } else {
+                        Turn::Waits(event.from, send)
                     }
                 }
-            }
+            },
         }
     }
 
@@ -95,17 +88,17 @@ impl Walk {
     fn candidate(
         &mut self,
         streams: &Streams,
-        sends: &Ends,
+        taken: &[Sequence<Option<u64>>],
     ) -> Result<Option<(Pid, Event)>, AllocError>
-        requires { AreOwn streams.now }
+        requires sound { IsStreams streams.now }
+        requires taken { taken.now ≡ all_taken_sends streams.now }
         ensures done { OnOk result (self.new.done ≡ self.old.done) }
-        ensures received { OnOk result (self.new.received ≡ self.old.received) }
-        ensures free { (order : List PidValue) → IsAt streams.now order self.old
-            → AreSends (events_of streams.now) sends.now → IfOk result (λ o. IfSome o (λ x.
+        ensures free { (order : List PidValue) → IsAt order self.old
+            → IfOk result (λ o. IfSome o (λ x.
             CanGo streams.now order x.0 × (next_event streams.now order x.0 ≡ Some x.1))) }
     {
         while let Some(pid) = self.candidates.pop() {
-            match self.turn(streams, sends, pid) {
+            match self.turn(streams, taken, pid) {
                 Turn::Over => {}
                 Turn::Free(event) => {
                     self.candidates.push(pid)?;
@@ -122,17 +115,21 @@ impl Walk {
     }
 
     /// The first process that can go on, with its next event.
-    fn free_process(&self, streams: &Streams, sends: &Ends) -> Option<(Pid, Event)>
-        requires { AreOwn streams.now }
-        ensures free { (order : List PidValue) → IsAt streams.now order self.now
-            → AreSends (events_of streams.now) sends.now → IfSome result (λ x.
+    fn free_process(
+        &self,
+        streams: &Streams,
+        taken: &[Sequence<Option<u64>>],
+    ) -> Option<(Pid, Event)>
+        requires sound { IsStreams streams.now }
+        requires taken { taken.now ≡ all_taken_sends streams.now }
+        ensures free { (order : List PidValue) → IsAt order self.now
+            → IfSome result (λ x.
             CanGo streams.now order x.0 × (next_event streams.now order x.0 ≡ Some x.1)) }
-        ensures none { (order : List PidValue) → IsAt streams.now order self.now
-            → AreSends (events_of streams.now) sends.now
+        ensures none { (order : List PidValue) → IsAt order self.now
             → IfNone result ((p : PidValue) → ¬ (CanGo streams.now order p)) }
     {
         for &pid in streams.pids() {
-            if let Turn::Free(event) = self.turn(streams, sends, pid) {
+            if let Turn::Free(event) = self.turn(streams, taken, pid) {
                 return Some((pid, event));
             }
         }
@@ -143,31 +140,26 @@ impl Walk {
     pub(crate) fn next(
         &mut self,
         streams: &Streams,
-        sends: &Ends,
+        taken: &[Sequence<Option<u64>>],
     ) -> Result<Option<(Pid, Event)>, AllocError>
-        requires { AreOwn streams.now }
+        requires sound { IsStreams streams.now }
+        requires taken { taken.now ≡ all_taken_sends streams.now }
         ensures done { OnOk result (self.new.done ≡ self.old.done) }
-        ensures received { OnOk result (self.new.received ≡ self.old.received) }
-        ensures free { (order : List PidValue) → IsAt streams.now order self.old
-            → AreSends (events_of streams.now) sends.now → IfOk result (λ o. IfSome o (λ x.
+        ensures free { (order : List PidValue) → IsAt order self.old
+            → IfOk result (λ o. IfSome o (λ x.
             CanGo streams.now order x.0 × (next_event streams.now order x.0 ≡ Some x.1))) }
-        ensures none { (order : List PidValue) → IsAt streams.now order self.old
-            → AreSends (events_of streams.now) sends.now → IfOk result (λ o. IfNone o
-            ((p : PidValue) → ¬ (CanGo streams.now order p))) }
+        ensures none { (order : List PidValue) → IsAt order self.old
+            → IfOk result (λ o. IfNone o ((p : PidValue) → ¬ (CanGo streams.now order p))) }
     {
-        if let Some(found) = self.candidate(streams, sends)? {
+        if let Some(found) = self.candidate(streams, taken)? {
             return Ok(Some(found));
         }
-        Ok(self.free_process(streams, sends))
+        Ok(self.free_process(streams, taken))
     }
 
     /// Goes on with the next event of a process.
     pub(crate) fn go(&mut self, pid: Pid, event: &Event) -> Result<(), AllocError>
-        requires { is_own pid event.now ≡ true }
-        ensures at { (streams : List Stream) (order : List PidValue) → IsAt streams order self.old
-            → next_event streams order pid ≡ Some event.now
-            → OnOk result (IsAt streams (pid ∷ order) self.new) }
-        ensures done { OnOk result ((p : PidValue)
+        ensures { OnOk result ((p : PidValue)
             → done_in self.new p ≡ done_in self.old p + (if pid_eq pid p then 1 else 0)) }
     {
         let index = self.done_of(pid);
@@ -179,21 +171,16 @@ impl Walk {
             return Err(AllocError);
         };
         match event.kind {
-            Kind::Print => Ok(()),
-            Kind::Receive => {
-                self.received.note(MessageContent::of(event))?;
-                Ok(())
-            }
+            Kind::Print | Kind::Receive => Ok(()),
             Kind::Send => self.wake(pid, index),
         }
     }
 
     /// Makes the process a candidate that waits for this event, if there is one.
     fn wake(&mut self, pid: Pid, index: u64) -> Result<(), AllocError>
-        ensures done { self.new.done ≡ self.old.done }
-        ensures received { self.new.received ≡ self.old.received }
+        ensures { self.new.done ≡ self.old.done }
     {
-        if let Some(&waiter) = self.waiting.get(&(pid, index)) {
+        if let Some(waiter) = self.waiting.remove(&(pid, index)) {
             self.candidates.push(waiter)?;
         }
         Ok(())

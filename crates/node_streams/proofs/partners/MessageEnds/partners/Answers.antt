@@ -1,10 +1,10 @@
 -- Each event adds its partner.
 use Rattle.std.proofs.Common.{◌++◌, get_or, take, append-nil, sym, ◌∙◌, ap, subst}
 use Rattle.st_core.specs.declared.types.Kind.TheVariants as kind
-use Rattle.node_streams.specs.Messages.{partners, partners_from}
+use Rattle.node_streams.specs.Messages.{each_from, other_end_of, partners}
 use Rattle.node_streams.specs.Tables.{CountsKind}
 use Rattle.node_streams.proofs.Counting.{at_get_or, blank, taken_next}
-use Rattle.node_streams.proofs.OtherEnds.{partner_step}
+use Rattle.node_streams.proofs.EachEvents.{each_step}
 use Rattle.node_streams.proofs.Unsents.{none_left}
 use Rattle.node_streams.proofs.partners.MessageEnds.partners.Goals as goal
 
@@ -21,8 +21,8 @@ loop-event-preserved c =
       received = subst (λ xs. CountsKind kind.Receive xs c.partner.new.received)
           (sym (taken_next es i e at))
           (c.in_ok-partner.ensures.received (take i es) so_far.received);
-      all = partner_step c.args.self.now es i e at c.loop-event.found.items
-          c.push.new.self.items (partners c.args.self.now es) c.in_ok-partner.partner so_far.all
+      all = each_step (other_end_of c.args.self.now) es i e c.loop-event.found.items
+          c.push.new.self.items (partners c.args.self.now es) c.in_ok-partner.partner at so_far.all
           c.in_ok-push.ensures.items
           (c.in_ok-partner.ensures.partner (take i es) so_far.sent so_far.received);
     }
@@ -33,6 +33,6 @@ returns c =
     let i = c.loop-event.event-index in
     let items = c.loop-event.found.items in
     sym (append-nil items)
-    ∙ ap (λ xs. items ++ partners_from c.args.self.now (take i es) xs)
+    ∙ ap (λ xs. items ++ each_from (other_end_of c.args.self.now) (take i es) xs)
     (sym (none_left es i c.loop-event-test.false))
     ∙ c.loop-event.invariant.all

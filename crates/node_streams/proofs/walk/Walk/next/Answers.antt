@@ -3,13 +3,11 @@ use Rattle.node_streams.proofs.Turns.{same_walk}
 use Rattle.node_streams.proofs.walk.Walk.next.Goals as goal
 
 pub returns-clause-free : goal.returns-clause-free
-returns-clause-free c = λ order at sends.
+returns-clause-free c = λ order at.
     c.free_process.ensures.free order
-    (same_walk c.args.streams.now order c.args.self.now c.candidate.new.self
-    c.in_ok-found.ensures.done c.in_ok-found.ensures.received at) sends
+    (same_walk order c.args.self.now c.candidate.new.self c.in_ok-found.ensures.done at)
 
 pub returns-clause-none : goal.returns-clause-none
-returns-clause-none c = λ order at sends.
+returns-clause-none c = λ order at.
     c.free_process.ensures.none order
-    (same_walk c.args.streams.now order c.args.self.now c.candidate.new.self
-    c.in_ok-found.ensures.done c.in_ok-found.ensures.received at) sends
+    (same_walk order c.args.self.now c.candidate.new.self c.in_ok-found.ensures.done at)

@@ -1,0 +1,8 @@
+-- So far these are the sends of the streams that were passed.
+use Rattle.std.proofs.Common.{◌≡◌, map, take}
+use Rattle.node_streams.specs.Messages.{taken_sends}
+use Rattle.node_streams.proofs.sends.all_taken_sends.Given as goal
+
+abbrev pub invariant-loop-pid : goal.invariant-loop-pid
+invariant-loop-pid l =
+    l.lists.items ≡ map (λ s. taken_sends l.streams s.events) (take l.pid-index l.streams)

@@ -1,0 +1,132 @@
+//! The sends that receives took.
+
+ghost use Rattle.std.specs.Prelude.{◌≡◌, [], ◌∷◌, ◌++◌, List, IfOk, OnOk, option_and_then};
+ghost use Rattle.std.specs.Prelude.{slice_get};
+ghost use Rattle.st_core.specs.Streams.{IsStreams, events_of};
+ghost use Rattle.st_core.specs.declared.types.Event.{Event as EventValue};
+ghost use Rattle.st_core.specs.declared.types.Kind.TheVariants as kind;
+ghost use Rattle.node_streams.specs.Messages.{all_taken_sends, taken_send, taken_sends};
+ghost use Rattle.node_streams.specs.Tables.{CountsKind};
+
+use crate::content::MessageContent;
+use crate::counter::Counter;
+use crate::ends::{End, all_ends, place};
+use st_core::{Event, Kind, Pid, Sequence, Streams};
+use std::alloc::{AllocError, Global};
+use std::marker::Model;
+
+/// The sends that streams report, by the content of their messages. A contract sees it as the
+/// streams, which it borrows.
+#[derive(Drop)]
+pub struct Sends<'a> {
+    streams: &'a Streams,
+    ends: Vec<Sequence<End>>,
+}
+
+impl<'a> Model for Sends<'a> {
+    ghost use Rattle.std.specs.Prelude.{List};
+    ghost use Rattle.st_core.specs.Run.{Stream};
+    ghost use Rattle.node_streams.specs.Tables.{AreSends};
+
+    ghost Value = { List Stream };
+
+    ghost view = { λ a. a.streams.now };
+
+    ghost invariant = { λ a. AreSends a.streams.now a.ends.items };
+}
+
+impl<'a> Sends<'a> {
+    /// Those of streams. Fails only if memory runs out.
+    pub fn of(alloc: Global, streams: &'a Streams) -> Result<Self, AllocError>
+        ensures { IfOk result (λ sends. sends ≡ streams.now) }
+    {
+        let ends = all_ends(alloc, streams, Kind::Send)?;
+        Ok(Sends { streams, ends })
+    }
+
+    /// The streams.
+    pub fn streams(&self) -> &Streams
+        ensures { result.now ≡ self.now }
+    {
+        self.streams
+    }
+
+    /// The index of the send that an event took, if it is a receive, and counts that.
+    fn taken(&self, received: &mut Counter, event: &Event) -> Result<Option<u64>, AllocError>
+        ensures taken { (before : List EventValue) → CountsKind kind.Receive before received.old
+            → IfOk result (λ o. o ≡ taken_send self.now before event.now) }
+        ensures counted { (before : List EventValue) → CountsKind kind.Receive before received.old
+            → OnOk result (CountsKind kind.Receive (before ++ event.now ∷ []) received.new) }
+    {
+        match event.kind {
+            Kind::Send | Kind::Print => Ok(None),
+            Kind::Receive => {
+                let content = MessageContent::of(event);
+                let number = received.note(content)?;
+                Ok(place(
+                    self.streams,
+                    self.ends.as_slice(),
+                    event.from,
+                    content,
+                    number,
+                ))
+            }
+        }
+    }
+
+    /// For each event of a process the index of the send that it took, in its sender's stream.
+    /// Fails only if memory runs out.
+    pub fn taken_by(&self, alloc: Global, events: &[Event]) -> Result<Vec<Option<u64>>, AllocError>
+        ensures { IfOk result (λ v. v.items ≡ taken_sends self.now events.now) }
+    {
+        let mut received = Counter::new(alloc);
+        let mut found = Vec::with_capacity(alloc, events.len())?;
+        for event in events {
+            let taken = self.taken(&mut received, event)?;
+            found.push(taken)?;
+        }
+        Ok(found)
+    }
+}
+
+/// The sends that the receives of all processes took.
+pub(crate) fn all_taken_sends(
+    alloc: Global,
+    streams: &Streams,
+) -> Result<Vec<Sequence<Option<u64>>>, AllocError>
+    ensures { IfOk result (λ v. v.items ≡ all_taken_sends streams.now) }
+{
+    let sends = Sends::of(alloc, streams)?;
+    let mut lists = Vec::new(alloc);
+    for &pid in streams.pids() {
+        let list = sends.taken_by(alloc, streams.events(pid))?;
+        lists.push(Sequence::from_vec(list))?;
+    }
+    Ok(lists)
+}
+
+/// Those that the receives of one process took.
+pub(crate) fn taken_of<'a>(
+    streams: &Streams,
+    taken: &'a [Sequence<Option<u64>>],
+    pid: Pid,
+) -> &'a [Option<u64>]
+    requires sound { IsStreams streams.now }
+    requires taken { taken.now ≡ all_taken_sends streams.now }
+    ensures { result.now ≡ taken_sends streams.now (events_of streams.now pid) }
+{
+    match streams.place_of(pid) {
+        None => &[],
+        Some(place) => taken[place].as_slice(),
+    }
+}
+
+/// The send that the event at this index took, none past the end.
+pub(crate) fn taken_at(taken: &[Option<u64>], index: usize) -> Option<u64>
+    ensures { result ≡ option_and_then (λ o. o) (slice_get taken.now index) }
+{
+    match taken.get(index) {
+        None => None,
+        Some(send) => *send,
+    }
+}
