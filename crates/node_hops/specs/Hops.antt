@@ -1,14 +1,13 @@
 -- The hop back from an event: what the events tell of what it follows, and what that rests on.
 use Rattle.std.specs.Prelude.{ℕ, suc, ◌==◌, ◌&&◌, List, Option, Some, None, if◌then◌else◌}
-use Rattle.std.specs.Prelude.{slice_get}
-use Rattle.std.specs.Prelude.{take}
+use Rattle.std.specs.Prelude.{[], length, slice_get, take}
 use Rattle.st_core.specs.declared.types.Pid.{Pid}
 use Rattle.st_core.specs.declared.types.Label.{Label}
 use Rattle.st_core.specs.declared.types.Event.{Event}
 use Rattle.st_core.specs.Run.{Stream}
 use Rattle.st_core.specs.Streams.{events_of}
 use Rattle.st_pair.specs.Places.{is_stamp}
-use Rattle.node_streams.specs.Messages.{send_of}
+use Rattle.node_streams.specs.Messages.{each_from, send_of}
 use Rattle.node_hops.specs.Events.{take_before, row_first}
 use Rattle.node_hops.specs.declared.hop.NodeHop.{NodeHop}
 use Rattle.node_hops.specs.declared.hop.NodeHop.TheVariants as hop
@@ -48,6 +47,11 @@ node_hop_of streams p i e =
     if is_stamp e
     then hop_of_stamp (events_of streams p) i e
     else node_hop_to_send e.from (send_of streams (take i (events_of streams p)) e)
+
+-- of each event of p
+abbrev pub node_hops_of : List Stream → Pid → List NodeHop
+node_hops_of streams p =
+    each_from (λ before e. node_hop_of streams p (length before) e) [] (events_of streams p)
 
 -- the premises that a hop rests on
 abbrev pub node_premises_of : NodeHop → NodePremises

@@ -84,7 +84,7 @@ fn row_first(
 }
 
 /// The partner at this index, none past the end.
-fn partner_at(partners: &[Option<u64>], index: usize) -> Option<u64>
+pub(crate) fn partner_at(partners: &[Option<u64>], index: usize) -> Option<u64>
     ensures { result ≡ option_and_then (λ o. o) (slice_get partners.now index) }
 {
     match partners.get(index) {
@@ -145,7 +145,7 @@ fn node_hop_by_label(index: u64, received: Label, label: Label) -> NodeHop
 }
 
 /// The hop of a send or print with this prev and label, whose row begins here.
-fn node_hop_by(
+pub(crate) fn node_hop_by(
     events: &[Event],
     prev: u64,
     label: Label,
@@ -167,7 +167,7 @@ fn node_hop_by(
 }
 
 /// The hop of a receive from this process, by the index of its send.
-fn node_hop_to_send(from: Pid, send: Option<u64>) -> NodeHop
+pub(crate) fn node_hop_to_send(from: Pid, send: Option<u64>) -> NodeHop
     ensures { result ≡ node_hop_to_send from send }
 {
     match send {

@@ -8,6 +8,7 @@ mod hop;
 mod hops;
 pub mod laws;
 mod node;
+mod process;
 mod reach;
 mod rows;
 #[cfg(test)]
@@ -18,4 +19,5 @@ pub use forth::tree;
 pub use hop::{NodeHop, NodePremises};
 pub use hops::NodeHops;
 pub use node::Node;
+pub use process::process_hops;
 pub use reach::Reach;

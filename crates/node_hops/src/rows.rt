@@ -33,7 +33,7 @@ pub(crate) fn row_length(prev: u64, events: &[Event]) -> usize
 /// Where the row of sends and prints with the prev of this event begins that goes up to it: where
 /// that of the event before begins, if that event is in the row.
 #[tactic(auto, using(crate::proofs::Starts::next_start))]
-fn next_start(events: &[Event], index: usize, before: usize) -> usize
+pub(crate) fn next_start(events: &[Event], index: usize, before: usize) -> usize
     requires within { index < length events.now }
     requires before { (d : EventValue) → 0 < index → slice_get events.now (index - 1) ≡ Some d
         → before ≡ row_first d.serial.prev events.now (index - 1) }
