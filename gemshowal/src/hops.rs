@@ -59,6 +59,21 @@ impl<'a> Paired<'a> {
     }
 }
 
+/// The hops back from the events of one process after the other, by the rules of a standard node.
+pub struct ProcessHops<'a>(node_streams::Sends<'a>);
+
+impl<'a> ProcessHops<'a> {
+    /// Collects the sends of these streams, to which hops lead.
+    pub fn of(streams: &'a Streams) -> Result<ProcessHops<'a>, OutOfMemory> {
+        Ok(ProcessHops(node_streams::Sends::of(Global, streams)?))
+    }
+
+    /// Finds the hops back from the events of a process, in order.
+    pub fn find(&self, pid: Pid) -> Result<Vec<NodeHop>, OutOfMemory> {
+        Ok(node_hops::process_hops(Global, &self.0, pid)?.as_slice().to_vec())
+    }
+}
+
 /// The hops back from all events of streams, by the rules of a standard node.
 pub struct NodeHops<'a>(node_hops::NodeHops<'a>);
 
