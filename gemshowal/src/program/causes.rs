@@ -13,8 +13,10 @@ use crate::reason::paired;
 use crate::view::{Kept, Place, Shown, View};
 use crate::Failure;
 use gemshowal::{Answer, Event, EventOrigins, Item, Kind, Never, NodeHop, NodeHops, NodePremises};
-use gemshowal::{Origins, OutOfMemory, Paired, Partner, Pid, StampOrigin, Trace, Way};
+use gemshowal::{Origins, OutOfMemory, Paired, Partner, Pid, ProcessHops, StampOrigin, Trace, Way};
+use std::alloc::{handle_alloc_error, Layout};
 use std::borrow::Cow;
+use std::cell::RefCell;
 use std::collections::{HashMap, HashSet};
 
 #[derive(Clone, Copy, Debug, PartialEq, Eq)]
@@ -190,54 +192,69 @@ fn is_answer(trace: &Trace, names: &Names, (pid, index): Place) -> bool {
     })
 }
 
-/// The causes of the events of a trace, by what was reported alone.
-pub(crate) struct Links {
-    links: HashMap<Pid, Vec<Link>>,
-    /// Tells whether each hop leads to an event that was reported, so that a completion adds
-    /// nothing.
-    are_closed: bool,
+/// The causes of the events of a trace, by what was reported alone. Those of a process are found
+/// when one of them is first asked for.
+pub(crate) struct Links<'a> {
+    trace: &'a Trace,
+    is_answer: Box<dyn Fn(Place) -> bool + 'a>,
+    hops: ProcessHops<'a>,
+    /// What the messages tell, if no receive was reported.
+    messages: Option<Messages<'a>>,
+    found: RefCell<HashMap<Pid, Vec<Link>>>,
 }
 
-impl Links {
+impl<'a> Links<'a> {
     pub(crate) fn of(
-        trace: &Trace,
-        is_answer: impl Fn(Place) -> bool,
-    ) -> Result<Links, OutOfMemory> {
-        let hops = NodeHops::of(trace.streams())?;
-        let mut found = Links { links: HashMap::new(), are_closed: true };
-        for (pid, events) in trace.processes() {
-            let link = |(event, index): (&Event, u64)| {
-                Link::of(hops.hop((pid, index), event), (pid, index))
-            };
-            let mut links: Vec<Link> = events.iter().zip(0..).map(link).collect();
-            found.are_closed &= !links.iter().any(|link| link.cause.is_open());
-            Tokens::refine(pid, events, |index| is_answer((pid, index)), &mut links)?;
-            found.links.insert(pid, links);
-        }
-        Ok(found)
+        trace: &'a Trace,
+        names: &'a Names,
+        is_answer: impl Fn(Place) -> bool + 'a,
+    ) -> Result<Links<'a>, OutOfMemory> {
+        let (hops, messages) = (ProcessHops::of(trace.streams())?, Messages::of(trace, names));
+        let (is_answer, found) = (Box::new(is_answer), RefCell::default());
+        Ok(Links { trace, is_answer, hops, messages, found })
     }
 
-    pub(crate) fn of_view(view: &View<'_>) -> Result<Links, OutOfMemory> {
-        let links = Links::of(view.trace, |place| is_answer(view.trace, view.names, place))?;
-        Ok(links.with_messages(view.trace, view.names))
+    pub(crate) fn of_view(view: &View<'a>) -> Result<Links<'a>, OutOfMemory> {
+        let View { trace, names, .. } = *view;
+        Links::of(trace, names, move |place| is_answer(trace, names, place))
     }
 
-    /// Returns them with what the messages tell, if no receive was reported.
-    pub(crate) fn with_messages(mut self, trace: &Trace, names: &Names) -> Links {
-        let Some(messages) = Messages::of(trace, names) else { return self };
-        for (&pid, links) in &mut self.links {
-            for found in messages.found(pid) {
-                if let Some(link) = links.get_mut(found.index as usize) {
-                    *link = link.by_messages(found);
-                }
+    /// Returns whether each hop leads to an event that was reported, so that a completion adds
+    /// nothing.
+    fn are_closed(&self) -> Result<bool, OutOfMemory> {
+        for (pid, _) in self.trace.processes() {
+            if self.by_hops(pid)?.iter().any(|link| link.cause.is_open()) {
+                return Ok(false);
             }
         }
-        self
+        Ok(true)
     }
 
+    fn by_hops(&self, pid: Pid) -> Result<Vec<Link>, OutOfMemory> {
+        let hops = self.hops.find(pid)?.into_iter().zip(0..);
+        Ok(hops.map(|(hop, index)| Link::of(hop, (pid, index))).collect())
+    }
+
+    fn of_process(&self, pid: Pid) -> Result<Vec<Link>, OutOfMemory> {
+        let mut links = self.by_hops(pid)?;
+        let events = self.trace.streams().events(pid);
+        Tokens::refine(pid, events, |index| (self.is_answer)((pid, index)), &mut links)?;
+        for found in self.messages.iter().flat_map(|messages| messages.found(pid)) {
+            if let Some(link) = links.get_mut(found.index as usize) {
+                *link = link.by_messages(found);
+            }
+        }
+        Ok(links)
+    }
+
+    /// Returns the link of the event at this place. If memory runs out, the program ends, as it
+    /// does where a list of its own grows.
     fn get(&self, (pid, index): Place) -> Link {
-        let link = self.links.get(&pid).and_then(|own| own.get(index as usize));
-        link.copied().unwrap_or(Link::UNKNOWN)
+        let mut found = self.found.borrow_mut();
+        let own = found.entry(pid).or_insert_with(|| {
+            self.of_process(pid).unwrap_or_else(|_| handle_alloc_error(Layout::new::<Link>()))
+        });
+        own.get(index as usize).copied().unwrap_or(Link::UNKNOWN)
     }
 }
 
@@ -313,7 +330,7 @@ impl Tokens {
 /// The causes of a trace's events, with those of the completed trace where what was reported stops.
 pub(crate) struct Causes<'a> {
     shown: Shown<'a>,
-    links: &'a Links,
+    links: &'a Links<'a>,
     never: Option<(Pid, u64, Never)>,
     /// The pairs of all events that are shown, if they were asked for.
     paired: Option<&'a Paired<'a>>,
@@ -325,12 +342,12 @@ pub(crate) struct Causes<'a> {
 /// events alone are taken if no run reports the trace, or if they are all that an event follows.
 pub(crate) fn with_causes<T>(
     view: &View<'_>,
-    links: &Links,
+    links: &Links<'_>,
     run: impl FnOnce(&Causes<'_>) -> Result<T, Failure>,
 ) -> Result<T, Failure> {
     let paired = paired(view)?;
     let own = Causes::paired(view, links, &paired)?;
-    if own.never.is_some() || links.are_closed {
+    if own.never.is_some() || links.are_closed()? {
         return run(&own);
     }
     let completion = match gemshowal::complete(view.trace)? {
@@ -384,14 +401,14 @@ fn are_paired(parts: &[(Kept, Trace)]) -> Result<bool, OutOfMemory> {
 
 impl<'a> Causes<'a> {
     /// Returns the causes of a trace's own events, which needn't have pairs.
-    pub(crate) fn alone(view: &'a View<'a>, links: &'a Links) -> Causes<'a> {
+    pub(crate) fn alone(view: &'a View<'a>, links: &'a Links<'a>) -> Causes<'a> {
         let shown = Shown::reported(view);
         Causes { shown, links, never: None, paired: None, completed: None }
     }
 
     pub(crate) fn paired(
         view: &'a View<'a>,
-        links: &'a Links,
+        links: &'a Links<'a>,
         paired: &'a Paired<'a>,
     ) -> Result<Causes<'a>, OutOfMemory> {
         let never = paired.refusal()?;

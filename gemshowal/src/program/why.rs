@@ -23,8 +23,7 @@ pub(crate) fn run(args: &Why, task: Task<'_>) -> Result<Status, Failure> {
     let is_headed = json || !trace.is_ordered()?;
     let (headline, is_never) =
         if is_headed { headline_of_node(&trace, &names)? } else { (String::new(), false) };
-    let links = Links::of(trace.trace(), |place| trace.is_answer(place))?;
-    let links = links.with_messages(trace.trace(), &names);
+    let links = Links::of(trace.trace(), &names, |place| trace.is_answer(place))?;
     let view = View::whole(trace.trace(), &names);
     let mut write = |causes: &Causes<'_>, headline: &str| {
         let first = causes.item_at(place).unwrap_or(Item::Reported(place.0, place.1));

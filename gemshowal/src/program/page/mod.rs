@@ -27,7 +27,8 @@ pub(crate) fn run(args: &Args, task: Task<'_>) -> Result<Status, Failure> {
     let label = args.label.as_deref().map(|label| names.find_label(&trace, Some(label)));
     let label = label.transpose()?;
     let whole = View::whole(&trace, &names);
-    with_causes(&whole, &Links::of_view(&whole)?, |causes| {
+    let links = Links::of_view(&whole)?;
+    with_causes(&whole, &links, |causes| {
         let messages = input.messages(|value| names.has_value(value))?;
         let title = input.title();
         let data = Data::of(causes, causes.ordered()?, &title, label, &messages);
