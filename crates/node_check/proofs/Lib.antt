@@ -1,0 +1,15 @@
+-- The lemmas.
+pub mod States
+pub mod Traced
+pub mod Rows
+pub mod NodeSteps
+pub mod Parts
+pub mod Keeping
+pub mod Sending
+pub mod Wide
+pub mod Runs
+pub mod Matching
+pub mod Verdicts
+pub mod Starting
+pub mod ListedActs
+pub mod NextActs

@@ -1,0 +1,53 @@
+//! Counts of a node: a counter has 64 bits, and a serial shows the lowest 60 of them.
+
+ghost use Rattle.std.specs.Prelude.{◌≡◌, option_map};
+ghost use Rattle.node_machine.specs.Counts.{next_clock, node_token, serial_count, stamp_count};
+
+use st_core::{Serial, Token};
+
+/// The least number that a serial can't show.
+const SERIAL_END: u64 = 1 << 60;
+
+/// The part of a number that a serial shows.
+pub(crate) fn shown(number: u64) -> u64
+    ensures { result ≡ serial_count number }
+{
+    number % SERIAL_END
+}
+
+/// The clock after a stamp.
+pub(crate) fn clock_after(clock: u64) -> u64
+    ensures { result ≡ next_clock clock }
+{
+    clock.wrapping_add(1)
+}
+
+/// The count that a stamp shows.
+pub(crate) fn count_after(clock: u64) -> u64
+    ensures { result ≡ stamp_count clock }
+{
+    clock.wrapping_add(1) % SERIAL_END
+}
+
+/// The token as a node holds it.
+pub(crate) fn held(token: Token) -> Token
+    ensures { result ≡ node_token token }
+{
+    Token {
+        serial: Serial {
+            prev: shown(token.serial.prev),
+            this: shown(token.serial.this),
+        },
+        ..token
+    }
+}
+
+/// The token as a node holds it, if there is one.
+pub(crate) fn held_if_any(token: Option<Token>) -> Option<Token>
+    ensures { result ≡ option_map node_token token }
+{
+    match token {
+        Some(token) => Some(held(token)),
+        None => None,
+    }
+}

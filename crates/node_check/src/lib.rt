@@ -1,0 +1,18 @@
+//! The exact checker of certificates for a standard node.
+//!
+//! `check_node` returns the definition's verdict of streams and acts. It steps the processes of a
+//! node, and compares what each reports with its stream.
+#![tactic(auto)]
+
+mod checking;
+mod counts;
+pub mod laws;
+mod local;
+mod processes;
+mod progress;
+#[cfg(test)]
+mod tests;
+mod verdict;
+
+pub use checking::check_node;
+pub use verdict::{NodeCheckFault, NodeVerdict};
