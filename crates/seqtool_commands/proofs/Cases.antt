@@ -22,6 +22,9 @@ module _ (name : Word) where
   abbrev plain_lines : List Line
   plain_lines =
       (name ∷ codes "check" ∷ [], Some (task.Check, None))
+      ∷ (name ∷ codes "check" ∷ codes "--node" ∷ file ∷ [], Some (task.CheckNode, Some file))
+      ∷ (name ∷ codes "check" ∷ file ∷ codes "--node" ∷ [], None)
+      ∷ (name ∷ codes "audit" ∷ codes "--node" ∷ file ∷ [], None)
       ∷ (name ∷ codes "audit" ∷ file ∷ [], Some (task.Audit, Some file))
       ∷ (name ∷ codes "renumber" ∷ codes "-" ∷ [], Some (task.Renumber, None))
       ∷ (name ∷ codes "complete" ∷ file ∷ [], Some (task.Complete form.Added, Some file))

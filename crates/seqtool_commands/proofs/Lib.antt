@@ -1,6 +1,8 @@
 -- The lemmas on lines of a text.
 pub mod LineFirsts
 pub mod LineTexts
+-- The lemmas on `check --node`.
+pub mod NodeChecks
 -- The lemmas on `complete` and `renumber`.
 pub mod Deliveries
 pub mod Rooms

@@ -13,6 +13,7 @@ use Rattle.seqtool_commands.specs.declared.complete.Form.{Form}
 use Rattle.seqtool_commands.specs.Complete.{IsOutputOfComplete, MeansCompleted, MeansLong}
 use Rattle.seqtool_commands.specs.Complete.{MeansNever}
 use Rattle.seqtool_commands.specs.Words.{tool_usage_words, tool_version_words}
+use Rattle.seqtool_commands.specs.NodeCheck.{IsNodeChecked, MeansNodeNo, MeansNodeYes}
 use Rattle.seqtool_commands.specs.Renumber.{IsRenumbered, MeansRefused, MeansRenumbered}
 use Rattle.seqtool_commands.specs.Why.{IsWhy}
 use Rattle.seqtool_commands.specs.WhyMeaning.{MeansTold, MeansUntold}
@@ -46,6 +47,8 @@ module _ {R W : Type 0} (reader : ReaderCall R) (writer : WriterCall W) where
   Does task.Renumber status = DoesRenumber status
   Does task.Check status =
       Performs greater reader writer (IsChecked greater) (MeansYes greater) (MeansNo greater) status
+  Does task.CheckNode status =
+      Performs greater reader writer IsNodeChecked MeansNodeYes MeansNodeNo status
   Does task.Audit status =
       Performs greater reader writer (IsAudited greater) (MeansFits greater) (MeansUnfit greater)
       status

@@ -2,6 +2,8 @@
 -- each task owes.
 pub mod Words
 pub mod Command
+-- For `check --node`.
+pub mod NodeCheck
 -- For `complete` and `renumber`.
 pub mod Renumber
 pub mod Complete

@@ -37,6 +37,11 @@ abbrev pub words_of : OutputLine → List ℕ
 words_of lines.Long = codes "long"
 words_of lines.Uncertified = codes "fault certificate"
 words_of lines.Uncompleted = codes "fault completion"
+words_of lines.Yes = codes "yes"
+words_of (lines.Stuck n) = codes "no stuck " ++ decimal n
+words_of (lines.Differs n) = codes "no differs " ++ decimal n
+words_of (lines.Left p) = codes "no left " ++ spelled.pid p
+words_of lines.NoActs = codes "fault no acts"
 words_of (lines.Added n) = codes "added " ++ decimal n
 words_of (lines.Never p i r) = codes "never " ++ place_words p i ++ codes " " ++ never_words p r
 words_of (lines.Unlisted p) = codes "unlisted " ++ spelled.pid p

@@ -22,6 +22,16 @@ abbrev pub words_behind : Word → List Word → Option (List Word)
 words_behind word [] = None
 words_behind word (w ∷ rest) = if bytes_eq w word then Some rest else None
 
+-- ---- check
+
+-- the task that words begin with, and the words after it: by the machine of the manual, if they
+-- don't name a node
+abbrev pub check_asked : List Word → ToolTask × List Word
+check_asked words = elim (words_behind (codes "--node") words) [
+  | None ↦ (task.Check, words)
+  | Some rest ↦ (task.CheckNode, rest)
+]
+
 -- ---- complete
 
 abbrev pub form_named : Word → Option Form
@@ -72,7 +82,7 @@ question_asked (p ∷ i ∷ rest) =
 -- the task of the command of this name, of whose own words these begin with, and the words after
 abbrev pub task_named : Word → List Word → Option (ToolTask × List Word)
 task_named name words =
-    if bytes_eq name (codes "check") then Some (task.Check, words)
+    if bytes_eq name (codes "check") then Some (check_asked words)
     else (if bytes_eq name (codes "audit") then Some (task.Audit, words)
     else (if bytes_eq name (codes "renumber") then Some (task.Renumber, words)
     else (if bytes_eq name (codes "complete") then option_map (λ x. (task.Complete x.0, x.1))
@@ -116,7 +126,7 @@ version_asked (program ∷ w ∷ x ∷ rest) = false
 
 abbrev pub tool_usage_words : List ℕ
 tool_usage_words = codes
-    "usage: seqtool check|audit|renumber [FILE], or complete [--as added|streams|acts] [FILE], or why PID INDEX [--effects] [FILE]"
+    "usage: seqtool audit|renumber [FILE], or check [--node] [FILE], or complete [--as added|streams|acts] [FILE], or why PID INDEX [--effects] [FILE]"
 
 abbrev pub tool_version_words : List ℕ
 tool_version_words = codes "seqtool 1.0.0"

@@ -28,6 +28,16 @@ pub(crate) enum OutputLine {
     Uncertified,
     /// No reason holds of the streams, and what was built doesn't complete them.
     Uncompleted,
+    /// The certificate is one.
+    Yes,
+    /// The act without a step.
+    Stuck(u64),
+    /// The act that reports something else.
+    Differs(u64),
+    /// The process with events left.
+    Left(Pid),
+    /// The input has no acts.
+    NoActs,
     /// The number of events that were added.
     Added(u64),
     /// Why the event at this place rules out a run without a reset.
@@ -85,6 +95,15 @@ fn put_unlisted(buffer: &mut Buffer, pid: Pid)
     put_pid(buffer, pid);
 }
 
+/// Appends the words of a process with events left.
+fn put_left(buffer: &mut Buffer, pid: Pid)
+    requires { HasRoom words_room buffer.old }
+    ensures { Puts words_room (codes "no left " ++ spelled.pid pid) buffer.old buffer.new }
+{
+    put_bytes(buffer, b"no left ");
+    put_pid(buffer, pid);
+}
+
 /// Appends the words of a premise.
 fn put_premise(buffer: &mut Buffer, premise: Premise)
     requires { HasRoom words_room buffer.old }
@@ -121,6 +140,11 @@ impl TextLine for OutputLine {
             OutputLine::Long => put_bytes(buffer, b"long"),
             OutputLine::Uncertified => put_bytes(buffer, b"fault certificate"),
             OutputLine::Uncompleted => put_bytes(buffer, b"fault completion"),
+            OutputLine::Yes => put_bytes(buffer, b"yes"),
+            OutputLine::Stuck(number) => put_numbered(buffer, b"no stuck ", number),
+            OutputLine::Differs(number) => put_numbered(buffer, b"no differs ", number),
+            OutputLine::Left(pid) => put_left(buffer, pid),
+            OutputLine::NoActs => put_bytes(buffer, b"fault no acts"),
             OutputLine::Added(count) => put_numbered(buffer, b"added ", count),
             OutputLine::Never(pid, index, never) => put_never(buffer, pid, index, never),
             OutputLine::Unlisted(pid) => put_unlisted(buffer, pid),
@@ -136,8 +160,8 @@ impl TextLine for OutputLine {
             OutputLine::Premise(premise) => put_premise(buffer, premise),
             OutputLine::Usage => put_bytes(
                 buffer,
-                b"usage: seqtool check|audit|renumber [FILE], or complete [--as added|streams|acts] \
-                    [FILE], or why PID INDEX [--effects] [FILE]",
+                b"usage: seqtool audit|renumber [FILE], or check [--node] [FILE], or complete \
+                    [--as added|streams|acts] [FILE], or why PID INDEX [--effects] [FILE]",
             ),
             OutputLine::Version => put_bytes(buffer, VERSION.as_bytes()),
         }

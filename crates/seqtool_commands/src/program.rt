@@ -3,6 +3,7 @@
 ghost use Rattle.st_commands.specs.Command.{Delivers, call};
 ghost use Rattle.seqtool_commands.specs.Command.{Does, tool_usage, tool_version};
 
+use crate::check_node::run_check_node;
 use crate::complete::run_complete;
 use crate::lines::OutputLine;
 use crate::renumber::run_renumber;
@@ -25,6 +26,7 @@ pub fn run<H: AllocGlobal + Threads + Sync, R: ByteSource, W: ByteSink>(
 {
     match task {
         ToolTask::Check => run_check_within(rt.alloc(), reader, writer, Limits::GREATER),
+        ToolTask::CheckNode => run_check_node(rt.alloc(), reader, writer),
         ToolTask::Audit => run_audit_within(rt, rt.alloc(), reader, writer, Limits::GREATER),
         ToolTask::Complete(form) => run_complete(rt, rt.alloc(), reader, writer, form),
         ToolTask::Renumber => run_renumber(rt.alloc(), reader, writer),

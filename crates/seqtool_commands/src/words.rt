@@ -2,10 +2,10 @@
 //! writes or takes memory.
 
 ghost use Rattle.std.specs.Prelude.{◌≡◌, map, option_map};
-ghost use Rattle.seqtool_commands.specs.Words.{begins_with_minus, direction_asked, file_asked};
-ghost use Rattle.seqtool_commands.specs.Words.{file_named, form_asked, form_named, named_form};
-ghost use Rattle.seqtool_commands.specs.Words.{question_asked, request_asked, task_named};
-ghost use Rattle.seqtool_commands.specs.Words.{version_asked, words_behind};
+ghost use Rattle.seqtool_commands.specs.Words.{begins_with_minus, check_asked, direction_asked};
+ghost use Rattle.seqtool_commands.specs.Words.{file_asked, file_named, form_asked, form_named};
+ghost use Rattle.seqtool_commands.specs.Words.{named_form, question_asked, request_asked};
+ghost use Rattle.seqtool_commands.specs.Words.{task_named, version_asked, words_behind};
 
 use crate::complete::Form;
 use crate::question::{Direction, Question};
@@ -18,6 +18,8 @@ use std::convert::AsStr;
 pub enum ToolTask {
     /// `check`: is the input's certificate a run that shows its streams?
     Check,
+    /// `check --node`: is it one of a standard node?
+    CheckNode,
     /// `audit`: is there a certificate for the input's streams?
     Audit,
     /// `complete`: what do the input's streams lack?
@@ -78,6 +80,16 @@ fn form_asked<S: AsStr>(words: &[S]) -> Option<(Form, &[S])>
     }
 }
 
+/// The task of `check` that words begin with, and the words after it.
+fn check_asked<S: AsStr>(words: &[S]) -> (ToolTask, &[S])
+    ensures { (result.0, map S.text result.1.now) ≡ check_asked (map S.text words.now) }
+{
+    match words_behind("--node", words) {
+        None => (ToolTask::Check, words),
+        Some(rest) => (ToolTask::CheckNode, rest),
+    }
+}
+
 /// The direction that words begin with, and the words after it.
 fn direction_asked<S: AsStr>(words: &[S]) -> (Direction, &[S])
     ensures { (result.0, map S.text result.1.now) ≡ direction_asked (map S.text words.now) }
@@ -115,7 +127,7 @@ fn task_named<'a, S: AsStr>(name: &str, words: &'a [S]) -> Option<(ToolTask, &'a
         ≡ task_named name.now (map S.text words.now) }
 {
     if name == "check" {
-        return Some((ToolTask::Check, words));
+        return Some(check_asked(words));
     }
     if name == "audit" {
         return Some((ToolTask::Audit, words));
