@@ -118,10 +118,15 @@ impl<'a> Messages<'a> {
         is_sent.then_some(Messages { trace, names, sends, strays, may_have_wrapped })
     }
 
-    /// Finds the sources of the stamps of a process, in their order.
+    /// Finds the sources of the stamps of a process, in their order. If nothing can have been sent
+    /// to it, it lacks no receive, and nothing is found.
     pub(crate) fn found(&self, pid: Pid) -> Vec<Found> {
+        let sends = self.sends.get(&pid);
+        if sends.is_none() && self.strays.is_empty() {
+            return Vec::new();
+        }
         let mut own = Mail::default();
-        for &place in self.sends.get(&pid).into_iter().flatten() {
+        for &place in sends.into_iter().flatten() {
             if let Some(send) = self.trace.streams().event(place.0, place.1) {
                 own.add(place, &send, self.names);
             }
@@ -171,6 +176,10 @@ impl Mail {
             self.counts.insert(this);
             self.prevs.insert(prev);
         }
+    }
+
+    fn is_empty(&self) -> bool {
+        self.counts.is_empty()
     }
 
     fn with_count(&self, label: u32, count: u64) -> Sources {
