@@ -289,9 +289,11 @@ class Judge:
         return None if not own else own[3] == "false" and bool(added) and added[1] == own[2]
 
     def is_moved(self, place, since):
-        """Whether something that moves counters happened between this event of a process and the one at this place."""
+        """Whether something that moves counters happened between this event of a process and the one at this place, or None
+        if the trace has no event by which the log of the process is known."""
         after = self.places[since][1] if since else None
-        return bool(self.trace.words(place[0], after, place[1]) & MOVES)
+        is_moved = bool(self.trace.words(place[0], after, place[1]) & MOVES)
+        return is_moved if is_moved or place[0] in self.trace.did else None
 
 
 def judged(gemshowal, name):
