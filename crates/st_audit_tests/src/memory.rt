@@ -4,8 +4,8 @@
 use crate::helpers::{same, sink_at_last, streams_at_last};
 use lack_needs::renumbered;
 use st_audit::{AuditFault, Finding, audit};
-use st_chain::Causes;
-use st_chart::{ChartFault, chart_by_causes};
+use st_chain::Chains;
+use st_chart::{ChartFault, chart};
 use st_core::{Act, Label, MemorySink, Pid, Serial, Streams};
 use st_order::{Item, by_label, order};
 use st_pair::{PairFault, Source, pair};
@@ -28,11 +28,11 @@ fn a_pairing_without_memory_may_be_asked_again(rt: HostRuntime) -> Result<(), Fa
     Ok(())
 }
 
-/// The way back from the receive, over the causes of the streams' pairing.
+/// The way back from the receive, over the chains of the streams' pairing.
 fn way_back(alloc: Global, streams: &Streams) -> Option<Vec<(Pid, u64)>> {
     let pairing = pair(alloc, streams).ok()?;
-    let causes = Causes::new(alloc, streams, &pairing).ok()?;
-    causes.back(p31(), 0).ok()
+    let chains = Chains::new(alloc, streams, &pairing).ok()?;
+    chains.back(p31(), 0).ok()
 }
 
 #[test]
@@ -124,7 +124,7 @@ fn chart_of(alloc: Global, sink: &mut MemorySink, streams: &Streams) -> Result<(
     let Ok(pairing) = pair(alloc, streams) else {
         return Err(ChartFault::Memory);
     };
-    let Ok(causes) = Causes::new(alloc, streams, &pairing) else {
+    let Ok(chains) = Chains::new(alloc, streams, &pairing) else {
         return Err(ChartFault::Memory);
     };
     let items = [
@@ -132,7 +132,7 @@ fn chart_of(alloc: Global, sink: &mut MemorySink, streams: &Streams) -> Result<(
         Item::Hidden(p31(), 0),
         Item::Reported(p31(), 0),
     ];
-    chart_by_causes(alloc, sink, streams, &causes, &items, Label(17))
+    chart(alloc, sink, streams, &chains, &items, Label(17))
 }
 
 /// If memory runs out nothing is written.

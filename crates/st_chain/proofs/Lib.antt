@@ -2,7 +2,5 @@
 pub mod Backs
 pub mod PassedReceives
 pub mod Weights
-pub mod Numbers
-pub mod Parts
-pub mod Listed
+pub mod Labelled
 mod Cases

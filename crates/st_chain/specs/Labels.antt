@@ -1,5 +1,5 @@
 -- The chain of a process and a label: the events that the process reported under it.
-use Rattle.std.specs.Prelude.{ℕ, ◌+◌, ◌==◌, List, [], ◌∷◌, if◌then◌else◌}
+use Rattle.std.specs.Prelude.{ℕ, ◌+◌, ◌==◌, List, [], ◌∷◌, drop, if◌then◌else◌}
 use Rattle.st_core.specs.declared.types.Pid.{Pid}
 use Rattle.st_core.specs.declared.types.Label.{Label}
 use Rattle.st_core.specs.declared.types.Event.{Event}
@@ -16,3 +16,7 @@ labelled_indexes label i (e ∷ es) =
 -- the indexes of p's events with the label, rising
 abbrev pub chain : List Stream → Pid → Label → List ℕ
 chain streams p label = labelled_indexes label 0 (events_of streams p)
+
+-- those of them that are i or greater
+abbrev pub indexes_from : Label → ℕ → List Event → List ℕ
+indexes_from label i events = labelled_indexes label i (drop i events)

@@ -1,41 +1,77 @@
-//! The chains and the causes of all events.
+//! The chains and the causes of all events, and the way back over them.
+//!
+//! The last receive whose count is the prev of a send or print is found once, in one pass over all
+//! events of a process; the rest is read from the streams and their pairing.
 
-ghost use Rattle.std.specs.Prelude.{◌≡◌, IfOk};
+ghost use Rattle.std.specs.Prelude.{◌≡◌, true, map, None, Some, IfOk};
+ghost use Rattle.std.specs.Prelude.{slice_get, option_and_then};
+ghost use Rattle.st_core.specs.declared.types.Event.{Event as EventValue};
+ghost use Rattle.st_core.specs.Streams.{events_of, IsStreams};
 ghost use Rattle.st_pair.specs.Links.{IsPairing};
-ghost use Rattle.st_chain.specs.Causes.{cause_at, place_at, IsBackFrom};
+ghost use Rattle.st_pair.specs.Pairing.{refusal};
+ghost use Rattle.st_pair.specs.Places.{is_stamp};
+ghost use Rattle.st_chain.specs.Causes.{backs_from, cause_at, place_of_cause};
+ghost use Rattle.st_chain.specs.Causes.{place_at, received_before};
+ghost use Rattle.st_chain.specs.Causes.{IsBackFrom};
 ghost use Rattle.st_chain.specs.Labels.{chain};
 
 use crate::cause::Cause;
-use crate::causes::Causes;
 use crate::chain::Chain;
-use crate::label_table::{ChainKey, LabelTable};
-use st_core::{Label, Pid, Streams};
-use st_pair::Pairing;
+use crate::receives::all_backs;
+use st_core::{Kind, Label, Pid, Sequence, Streams};
+use st_pair::{Pairing, Source};
 use std::alloc::{AllocError, Global};
 use std::marker::Model;
 
+/// Returns the cause at an index.
+fn back_at(list: &[Option<u64>], index: u64) -> Option<u64>
+    ensures { result ≡ option_and_then (λ x. x) (slice_get list.now index) }
+{
+    match list.get(index as usize) {
+        None => None,
+        Some(found) => *found,
+    }
+}
+
+/// The last receive before the send or print at this place that its prev is of.
+fn receive_before(
+    streams: &Streams,
+    backs: &[Sequence<Option<u64>>],
+    pid: Pid,
+    index: u64,
+) -> Option<u64>
+    requires sound { IsStreams streams.now }
+    requires backs { backs.now ≡ map (λ s. backs_from s.events 0 s.events) streams.now }
+    ensures { (e : EventValue) → slice_get (events_of streams.now pid) index ≡ Some e
+        → is_stamp e ≡ true
+        → result ≡ received_before (events_of streams.now pid) e.serial.prev index }
+{
+    match streams.place_of(pid) {
+        None => None,
+        Some(place) => back_at(backs[place].as_slice(), index),
+    }
+}
+
 /// The chains of streams and the causes of their events. A contract sees it as the streams. It
-/// borrows them and their pairing, and keeps 48 bytes an event, 16 of them for its cause, besides
-/// what it takes to find the list of a process and a label. Who asks for causes alone needs only
-/// `Causes`.
+/// borrows them and their pairing, and keeps 16 bytes an event.
 #[derive(Drop)]
 pub struct Chains<'a> {
-    causes: Causes<'a>,
-    table: LabelTable,
+    alloc: Global,
+    streams: &'a Streams,
+    pairing: &'a Pairing,
+    backs: Vec<Sequence<Option<u64>>>,
 }
 
 impl<'a> Model for Chains<'a> {
     ghost use Rattle.std.specs.Prelude.{List};
-    ghost use Rattle.std.specs.BTreeMap.{get};
     ghost use Rattle.st_core.specs.Run.{Stream};
-    ghost use Rattle.st_chain.specs.Tabled.{chain_key_cmp, IsTable};
+    ghost use Rattle.st_chain.specs.Kept.{AreCausesKept};
 
     ghost Value = { List Stream };
 
-    ghost view = { λ a. a.causes };
+    ghost view = { λ a. a.streams.now };
 
-    ghost invariant = { λ a.
-        IsTable a.causes (get chain_key_cmp a.table.numbers) a.table.lists };
+    ghost invariant = { λ a. AreCausesKept a.streams.now a.pairing.now a.backs.items };
 }
 
 impl<'a> Chains<'a> {
@@ -49,31 +85,40 @@ impl<'a> Chains<'a> {
         requires { IsPairing streams.now pairing.now }
         ensures { IfOk result (λ chains. chains ≡ streams.now) }
     {
-        let causes = Causes::new(alloc, streams, pairing)?;
-        let table = LabelTable::new(alloc, streams)?;
-        Ok(Chains { causes, table })
-    }
-
-    /// The causes alone.
-    pub fn causes(&self) -> &Causes<'a>
-        ensures { result.now ≡ self.now }
-    {
-        &self.causes
+        let backs = all_backs(alloc, streams)?;
+        Ok(Chains {
+            alloc,
+            streams,
+            pairing,
+            backs,
+        })
     }
 
     /// The indexes of a process's events with this label, rising; none if the process isn't listed.
-    /// Takes no memory; finding the first takes logarithmic time, and each next one constant time.
-    pub fn of(&self, pid: Pid, label: Label) -> Chain<'_>
+    /// Takes no memory: each step goes over the process's events to the next one with the label.
+    pub fn of(&self, pid: Pid, label: Label) -> Chain<'a>
         ensures { result ≡ chain self.now pid label }
     {
-        self.table.chain(ChainKey { pid, label })
+        Chain::new(self.streams.events(pid), label)
     }
 
     /// Returns the cause of the event at this place; none if there is no event. Takes no memory.
     pub fn cause(&self, pid: Pid, index: u64) -> Option<Cause>
         ensures { result ≡ cause_at self.now pid index }
     {
-        self.causes.cause(pid, index)
+        let event = self.streams.events(pid).get(index as usize)?;
+        match event.kind {
+            Kind::Receive => match self.pairing.source(pid, index) {
+                Some(Source::Event(from, place)) => Some(Cause::Event(from, place)),
+                Some(Source::Hidden) | None => Some(Cause::Hidden),
+            },
+            Kind::Send | Kind::Print => {
+                match receive_before(self.streams, self.backs.as_slice(), pid, index) {
+                    None => Some(Cause::Start),
+                    Some(place) => Some(Cause::Event(pid, place)),
+                }
+            }
+        }
     }
 
     /// The event at this place, its cause, and so on until a hidden send or a start; nothing if
@@ -82,6 +127,36 @@ impl<'a> Chains<'a> {
     pub fn back(&self, pid: Pid, index: u64) -> Result<Vec<(Pid, u64)>, AllocError>
         ensures { IfOk result (λ v. IsBackFrom self.now (place_at self.now pid index) v.items) }
     {
-        self.causes.back(pid, index)
+        let mut list = Vec::new(self.alloc);
+        let mut at = self.place(pid, index);
+        while let Some((p, i)) = at {
+            list.push((p, i))?;
+            at = self.before(p, i);
+        }
+        Ok(list)
+    }
+
+    /// The place, if an event is there.
+    fn place(&self, pid: Pid, index: u64) -> Option<(Pid, u64)>
+        ensures { result ≡ place_at self.now pid index }
+    {
+        match self.cause(pid, index) {
+            None => None,
+            Some(_) => Some((pid, index)),
+        }
+    }
+
+    /// The event that the event at this place follows.
+    fn before(&self, pid: Pid, index: u64) -> Option<(Pid, u64)>
+        ensures before { result ≡ place_of_cause (cause_at self.now pid index) }
+        ensures accepted { refusal self.now ≡ None }
+    {
+        // Reading a field shows what the type keeps: that pairing accepted the streams, so that the
+        // way back ends.
+        let _ = &self.backs;
+        match self.cause(pid, index) {
+            Some(Cause::Event(from, place)) => Some((from, place)),
+            Some(Cause::Hidden | Cause::Start) | None => None,
+        }
     }
 }

@@ -6,13 +6,10 @@
 #![tactic(auto)]
 
 mod cause;
-mod causes;
 mod chain;
 mod chains;
-mod label_table;
 mod receives;
 
 pub use cause::Cause;
-pub use causes::Causes;
 pub use chain::Chain;
 pub use chains::Chains;

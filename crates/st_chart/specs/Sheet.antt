@@ -7,9 +7,9 @@ use Rattle.st_chart.specs.Parts.{line_in}
 
 -- an item's line, if it has the label
 abbrev pub line_on : Sheet → Item → List ℕ
-line_on s x = line_in s.streams.now s.label s.causes.now s.lanes.now x
+line_on s x = line_in s.streams.now s.label s.chains.now s.lanes.now x
 
 -- the label, the lanes, and those of these items that have the label
 abbrev pub sheet_lines : Sheet → List Item → List ℕ
 sheet_lines s items =
-    chart_lines s.causes.now s.label s.lanes.now (all_charted s.streams.now items s.label)
+    chart_lines s.chains.now s.label s.lanes.now (all_charted s.streams.now items s.label)

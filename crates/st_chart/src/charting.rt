@@ -19,7 +19,7 @@ use crate::lanes::{lanes_of, lanes_to_ends};
 use crate::marks::{RUN, bars_of, mark_of, put_item};
 use crate::page::{Page, put_on, turn};
 use crate::sheet::Sheet;
-use st_chain::{Causes, Chains};
+use st_chain::Chains;
 use st_core::{ByteSink, Label, Pid, Streams};
 use st_order::Item;
 use st_text::{Buffer, Device, put_bytes, put_number, put_pid};
@@ -164,12 +164,12 @@ fn write_item<W: ByteSink>(
     charted: &ChartedItem,
 ) -> Result<(), Device>
     requires { IsRising sheet.now.lanes.now }
-    ensures { Draws W.ByteSink (item_line sheet.now.causes.now sheet.now.lanes.now charted.now)
+    ensures { Draws W.ByteSink (item_line sheet.now.chains.now sheet.now.lanes.now charted.now)
         writer.old writer.new page.old page.new result }
 {
     write_marks(writer, page, sheet.lanes, charted)?;
     page.line.clear();
-    put_item(&mut page.line, sheet.causes, charted);
+    put_item(&mut page.line, sheet.chains, charted);
     put_on(writer, &mut page.waits, page.line.as_slice())
 }
 
@@ -241,41 +241,8 @@ fn send_chart<W: ByteSink>(
 
 /// Writes the chart of the items that have this label, in their order: its lanes, and a line for
 /// each. An item at whose place there is no event has no label and is left out; each item of these
-/// streams has one. The causes are those of these streams. It takes memory for its lanes, without
+/// streams has one. The chains are those of these streams. It takes memory for its lanes, without
 /// which it fails, and up to 128 kB for what waits for the writer, without which it is slower.
-pub fn chart_by_causes<W: ByteSink>(
-    alloc: Global,
-    writer: &mut W,
-    streams: &Streams,
-    causes: &Causes,
-    items: &[Item],
-    label: Label,
-) -> Result<(), ChartFault>
-    requires { causes.now ≡ streams.now }
-    ensures written { WritesChart W.puts W.failed (chart_text streams.now items.now label)
-        writer.old writer.new result }
-    ensures no_label { result ≡ Err ChartFault.NoLabel
-        ↔ list_any (item_has_label streams.now label) items.now ≡ false }
-{
-    if !is_any_charted(streams, label, items) {
-        return Err(ChartFault::NoLabel);
-    }
-    let Ok(lanes) = lanes_of(alloc, streams, label, items) else {
-        return Err(ChartFault::Memory);
-    };
-    let sheet = Sheet {
-        streams,
-        causes,
-        lanes: &lanes,
-        label,
-    };
-    match send_chart(alloc, writer, &sheet, items) {
-        Ok(()) => Ok(()),
-        Err(Device) => Err(ChartFault::Device),
-    }
-}
-
-/// Does what `chart_by_causes` does, with the causes of these chains.
 pub fn chart<W: ByteSink>(
     alloc: Global,
     writer: &mut W,
@@ -290,5 +257,20 @@ pub fn chart<W: ByteSink>(
     ensures no_label { result ≡ Err ChartFault.NoLabel
         ↔ list_any (item_has_label streams.now label) items.now ≡ false }
 {
-    chart_by_causes(alloc, writer, streams, chains.causes(), items, label)
+    if !is_any_charted(streams, label, items) {
+        return Err(ChartFault::NoLabel);
+    }
+    let Ok(lanes) = lanes_of(alloc, streams, label, items) else {
+        return Err(ChartFault::Memory);
+    };
+    let sheet = Sheet {
+        streams,
+        chains,
+        lanes: &lanes,
+        label,
+    };
+    match send_chart(alloc, writer, &sheet, items) {
+        Ok(()) => Ok(()),
+        Err(Device) => Err(ChartFault::Device),
+    }
 }

@@ -16,7 +16,7 @@ mod reporting;
 mod sheet;
 mod words;
 
-pub use charting::{chart, chart_by_causes};
+pub use charting::chart;
 pub use fault::ChartFault;
 pub use reporting::{report, write_event, write_place_line};
 pub use words::{put_place, put_place_after};

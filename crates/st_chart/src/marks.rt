@@ -10,7 +10,7 @@ ghost use Rattle.st_chart.specs.Room.{item_word_room, origin_room, item_room};
 
 use crate::charted_item::{ChartedItem, is_end};
 use crate::words::put_place;
-use st_chain::{Cause, Causes};
+use st_chain::{Cause, Chains};
 use st_core::{Kind, Pid};
 use st_order::Item;
 use st_text::{Buffer, put_bytes, put_number, put_serial};
@@ -88,20 +88,20 @@ fn put_cause(buffer: &mut Buffer, cause: Option<Cause>)
 }
 
 /// Appends what an item follows.
-fn put_origin(buffer: &mut Buffer, causes: &Causes, item: Item)
+fn put_origin(buffer: &mut Buffer, chains: &Chains, item: Item)
     requires { HasRoom origin_room buffer.old }
-    ensures { Puts origin_room (origin_words causes.now item) buffer.old buffer.new }
+    ensures { Puts origin_room (origin_words chains.now item) buffer.old buffer.new }
 {
     match item {
-        Item::Reported(pid, index) => put_cause(buffer, causes.cause(pid, index)),
+        Item::Reported(pid, index) => put_cause(buffer, chains.cause(pid, index)),
         Item::Hidden(_, _) => put_bytes(buffer, b"unseen"),
     }
 }
 
 /// Appends an item's word, serial, value and cause.
-fn put_item_words(buffer: &mut Buffer, causes: &Causes, charted: &ChartedItem)
+fn put_item_words(buffer: &mut Buffer, chains: &Chains, charted: &ChartedItem)
     requires { HasRoom item_room buffer.old }
-    ensures { Puts item_room (item_words causes.now charted.now) buffer.old buffer.new }
+    ensures { Puts item_room (item_words chains.now charted.now) buffer.old buffer.new }
 {
     put_item_word(buffer, charted.item, charted.event.kind);
     put_bytes(buffer, b" ");
@@ -109,16 +109,16 @@ fn put_item_words(buffer: &mut Buffer, causes: &Causes, charted: &ChartedItem)
     put_bytes(buffer, b" ");
     put_number(buffer, charted.event.value);
     put_bytes(buffer, b" ");
-    put_origin(buffer, causes, charted.item);
+    put_origin(buffer, chains, charted.item);
 }
 
 /// Appends what follows the marks.
-pub(crate) fn put_item(buffer: &mut Buffer, causes: &Causes, charted: &ChartedItem)
+pub(crate) fn put_item(buffer: &mut Buffer, chains: &Chains, charted: &ChartedItem)
     requires { HasRoom line_room buffer.old }
     ensures { buffer.new.items
-        ≡ buffer.old.items ++ ended_line (codes "  " ++ item_words causes.now charted.now) }
+        ≡ buffer.old.items ++ ended_line (codes "  " ++ item_words chains.now charted.now) }
 {
     put_bytes(buffer, b"  ");
-    put_item_words(buffer, causes, charted);
+    put_item_words(buffer, chains, charted);
     put_bytes(buffer, b"\n");
 }

@@ -13,8 +13,8 @@ ghost use Rattle.st_text.specs.Limits.{standard};
 use crate::answer::{tell_fault, tell_finding, tell_line};
 use crate::lines::OutputLine;
 use st_audit::unfit_by;
-use st_chain::Causes;
-use st_chart::{ChartFault, chart_by_causes};
+use st_chain::Chains;
+use st_chart::{ChartFault, chart};
 use st_core::{ByteSink, ByteSource, Label, Streams};
 use st_order::{Item, order};
 use st_pair::{PairFault, Pairing, pair};
@@ -42,16 +42,16 @@ fn tell_unpaired<W: ByteSink>(
 fn tell_chart<W: ByteSink>(
     alloc: Global,
     streams: &Streams,
-    causes: &Causes,
+    chains: &Chains,
     items: &[Item],
     label: Label,
     writer: &mut W,
 ) -> u8
-    requires { causes.now ≡ streams.now }
+    requires { chains.now ≡ streams.now }
     ensures { Tells (call W.ByteSink writer.old writer.new)
         (DrawsTo streams.now label items.now) result }
 {
-    match chart_by_causes(alloc, writer, streams, causes, items, label) {
+    match chart(alloc, writer, streams, chains, items, label) {
         Ok(()) => 0,
         Err(ChartFault::NoLabel) => tell_line(writer, OutputLine::NoLabel(label), 1),
         Err(ChartFault::Memory) => tell_fault(writer, ReadFault::Memory),
@@ -71,11 +71,11 @@ fn chart_paired<H: Threads + Sync, W: ByteSink>(
     requires { IsPairing streams.now pairing.now }
     ensures { Tells (call W.ByteSink writer.old writer.new) (ChartsTo streams.now label) result }
 {
-    let Ok(causes) = Causes::new(alloc, streams, pairing) else {
+    let Ok(chains) = Chains::new(alloc, streams, pairing) else {
         return tell_fault(writer, ReadFault::Memory);
     };
     match order(rt, alloc, streams, pairing) {
-        Ok(items) => tell_chart(alloc, streams, &causes, items.as_slice(), label, writer),
+        Ok(items) => tell_chart(alloc, streams, &chains, items.as_slice(), label, writer),
         Err(_) => tell_fault(writer, ReadFault::Memory),
     }
 }

@@ -9,8 +9,8 @@ mod arenas;
 
 use crate::helpers::same;
 use st_audit::{Finding, audit, told_acts};
-use st_chain::{Causes, Chains};
-use st_chart::chart_by_causes;
+use st_chain::Chains;
+use st_chart::chart;
 use st_core::{Act, Draft, Event, Kind, Label, MemorySink, Pid, Serial, Streams};
 use st_order::{by_label, order};
 use st_pair::pair;
@@ -86,16 +86,16 @@ fn a_way_back_of_a_hundred_thousand_events_is_charted(rt: HostRuntime) -> Result
     let alloc = rt.alloc();
     let streams = to_and_fro(alloc)?;
     let pairing = pair(alloc, &streams)?;
-    let causes = Causes::new(alloc, &streams, &pairing)?;
-    let back = causes.back(p30(), MESSAGES - 1)?;
+    let chains = Chains::new(alloc, &streams, &pairing)?;
+    let back = chains.back(p30(), MESSAGES - 1)?;
     same(&rt, &(back.len() as u64), &MANY);
     let items = order(&rt, alloc, &streams, &pairing)?;
     let mut sink = MemorySink::new(alloc, 10_000_000, None)?;
-    chart_by_causes(
+    chart(
         alloc,
         &mut sink,
         &streams,
-        &causes,
+        &chains,
         items.as_slice(),
         Label(17),
     )?;

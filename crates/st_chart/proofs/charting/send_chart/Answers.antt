@@ -8,7 +8,7 @@ pub returns : goal.returns
 returns g c =
     let s = c.args.sheet.now in
     let xs = all_charted s.streams.now c.args.items.now s.label in
-    let text = chart_lines s.causes.now s.label s.lanes.now xs in
+    let text = chart_lines s.chains.now s.label s.lanes.now xs in
     finishes g.W.ByteSink.puts g.W.ByteSink.failed text _ _ c.turn.result
-    (chart_some s.causes.now s.label s.lanes.now xs)
+    (chart_some s.chains.now s.label s.lanes.now xs)
     (rw c.new-page.ensures at c.in_ok-write_chart.ensures) c.turn.ensures.goes c.turn.ensures.empty

@@ -12,7 +12,7 @@ returns-in_err-write_label g c =
     let first = label_line s.label in
     let lanes = lane_lines 1 s.lanes.now in
     let xs = all_charted s.streams.now c.args.items.now s.label in
-    let rest = flat_map (item_line s.causes.now s.lanes.now) xs in
+    let rest = flat_map (item_line s.chains.now s.lanes.now) xs in
     on_err _ _ _ _ c.from_residual.ensures.0
     (part_longer g.W.ByteSink.puts g.W.ByteSink.failed (first ++ lanes) rest _
     (part_longer g.W.ByteSink.puts g.W.ByteSink.failed first lanes _ c.in_err-write_label.ensures))
@@ -23,7 +23,7 @@ returns-in_err-write_lanes g c =
     let first = label_line s.label in
     let lanes = lane_lines 1 s.lanes.now in
     let xs = all_charted s.streams.now c.args.items.now s.label in
-    let rest = flat_map (item_line s.causes.now s.lanes.now) xs in
+    let rest = flat_map (item_line s.chains.now s.lanes.now) xs in
     let part =
     part_then g.W.ByteSink.puts g.W.ByteSink.failed first lanes c.in_ok-write_label.ensures
     c.in_err-write_lanes.ensures in
@@ -36,8 +36,8 @@ returns g c =
     let first = label_line s.label in
     let lanes = lane_lines 1 s.lanes.now in
     let xs = all_charted s.streams.now c.args.items.now s.label in
-    let rest = flat_map (item_line s.causes.now s.lanes.now) xs in
-    let same = lines_are s.streams.now s.label s.causes.now s.lanes.now c.args.items.now in
+    let rest = flat_map (item_line s.chains.now s.lanes.now) xs in
+    let same = lines_are s.streams.now s.label s.chains.now s.lanes.now c.args.items.now in
     let begun =
     goes_then g.W.ByteSink.puts g.W.ByteSink.failed first lanes c.in_ok-write_label.ensures
     c.in_ok-write_lanes.ensures in

@@ -3,7 +3,7 @@
 use Rattle.std.proofs.Common.{ℕ, ◌++◌, List}
 use Rattle.st_core.specs.declared.types.Pid.{Pid}
 use Rattle.st_chain.specs.Causes.{place_at, far, IsBackFrom}
-use Rattle.st_chain.proofs.causes.Causes.back.Given as goal
+use Rattle.st_chain.proofs.chains.Chains.back.Given as goal
 
 -- what goes on from here completes the way back
 abbrev pub invariant-loop-at : goal.invariant-loop-at

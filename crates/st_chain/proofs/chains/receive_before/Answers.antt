@@ -5,7 +5,7 @@ use Rattle.std.proofs.lemmas.Option.{none-some}
 use Rattle.st_core.specs.declared.types.Event.{Event}
 use Rattle.st_pair.proofs.ForCallers.{missing_events}
 use Rattle.st_chain.proofs.Backs.{back_read}
-use Rattle.st_chain.proofs.causes.receive_before.Goals as goal
+use Rattle.st_chain.proofs.chains.receive_before.Goals as goal
 
 pub returns-in-None : goal.returns-in-None
 returns-in-None c = λ e there stamps.

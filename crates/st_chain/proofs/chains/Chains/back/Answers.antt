@@ -4,7 +4,7 @@ use Rattle.std.proofs.Common.{List, ℕ, [], subst, append-nil}
 use Rattle.st_core.specs.declared.types.Pid.{Pid}
 use Rattle.st_chain.specs.Causes.{place_at, IsBackFrom}
 use Rattle.st_chain.proofs.Weights.{back_smaller}
-use Rattle.st_chain.proofs.causes.Causes.back.Goals as goal
+use Rattle.st_chain.proofs.chains.Chains.back.Goals as goal
 
 pub loop-at-smaller : goal.loop-at-smaller
 loop-at-smaller c = rw (c.before-at.ensures.before, c.in-Some.is)
