@@ -1,12 +1,17 @@
 """The `audit` of ordinary traces that the manual's machine has no run of, by the rules of a standard node: sentences about
-traces worked out by hand, and random runs that put tokens back, of which all, a kind of events, or a changed one is left."""
+traces worked out by hand, and random runs that put tokens back, of which all, a kind of events, or a changed one is left. The acts of
+each run that fits are checked by `seqtool check --node`, as SEQTOOL names it."""
 
 import json
+import os
 import random
+import tempfile
+from collections import Counter
+from pathlib import Path
 
 import slow_node
 import wrapped
-from hostile_use.program import Check
+from hostile_use.program import Answer, Check, Program
 
 RUNS = 60
 CLIENT, SERVER = "<0.30.0>", "<0.31.0>"
@@ -79,6 +84,20 @@ SAID = (
 )
 
 
+# A trace in words of which no acts are written, its text, options, and the reason.
+WITHOUT_ACTS = (
+    ("without sends", trace([REPLIED, line("print", 0, 2)], [ASKED, line("print", 0, 1, SERVER)]), (),
+     "the run that was found has events that nobody reported"),
+    ("of a label", SAID[0][1], ("--label", "1"), "the run is one of the whole trace"),
+    ("of counters from before", trace([line("send", 0, 4), BACK_LATE], [line("'receive'", 0, 3, value=6), *LATE]), (),
+     "counters go on from before the trace"),
+    ("of a serial that no token gives", trace([line("print", 0, 1), AGAIN, LATER_REPLIED, line("send", 1, 2)], [ASKED_AGAIN, LATER, line("'receive'", 1, 2)]), (),
+     "the manual's machine has no run of it"),
+)
+SPAWN = trace([ASK, REPLIED, line("print", 47, 48), line("print", 0, 2)], [ASKED, REPLY])
+SPAWNED = "seqaudit terms 1\nvalue\t8\t{spawn_reply,#Ref<0.1.2.3>,ok,<0.31.0>}\n"
+
+
 def restorations(program):
     yield from wrapped.audits(program, "audit by the node's rules", SAID)
     cut = program.run(("audit", "--label", "1"), SAID[0][1])
@@ -128,6 +147,57 @@ def whole_runs(program):
         is_right = status in (0, 1 if told["said"] == "empty" else 0) and wrapped.places(told, "put_backs") == wanted
         yield Check(f"audit of the run {seed}", None if is_right else f"{told['headline']}\nwanted {wanted}")
     yield Check("audit of runs that the manual's machine hasn't", None if judged > RUNS // 2 else str(judged), note=str(judged))
+
+
+def restored_by(acts):
+    """The process and the serial of each token that the acts put back."""
+    words = (it.split() for it in acts.decode().splitlines() if it.startswith("restore "))
+    return Counter((pid, f"{{{prev},{this}}}") for _, pid, *_, prev, this, _ in words)
+
+
+def judged_tokens(told):
+    return Counter((it["pid"], it["serial"]) for key in ("put_backs", "handed_over") for it in told[key])
+
+
+def acts_of(program, text, *options, terms=""):
+    """What `audit --acts` says, and the acts that it writes, if any."""
+    with tempfile.TemporaryDirectory() as folder:
+        trace, file = Path(folder, "it.seqtrace"), Path(folder, "acts")
+        trace.write_bytes(text)
+        if terms:
+            trace.with_suffix(".terms").write_text(terms)
+        said = program.run(("audit", "--acts", file, *options, trace)).output.decode()
+        return said, file.read_bytes() if file.exists() else None
+
+
+def written_acts(program):
+    """The acts of a run that fits put back the tokens that are named, and no others, and the checker says yes to them."""
+    for name, given, options, reason in WITHOUT_ACTS:
+        said, acts = acts_of(program, given, *options)
+        yield Check(f"audit --acts of a trace {name}", None if acts is None and f"No acts are written: {reason}.\n" in said else said)
+    said, acts = acts_of(program, SPAWN, terms=SPAWNED)
+    yield Check("audit --acts of a spawn", None if acts is None and "No acts are written: the answer of a spawn has no act.\n" in said else said)
+    said, acts = acts_of(program, SAID[0][1])
+    yield Check("audit --acts of a token that was put back", None if acts and b"\nrestore <0.30.0> 1 true true true 0 1 <0.30.0>\nsend " in acts else said)
+    if not os.environ.get("SEQTOOL"):
+        yield Check("audit --acts: SEQTOOL names no program", skipped=True)
+        return
+    checker, judged, handed = Program(os.environ["SEQTOOL"]), 0, 0
+    for seed in range(5 * RUNS):
+        rng = random.Random(6000 + seed)
+        node = slow_node.run(Node(rng), rng.randint(5, 80), hands_over=seed % 2 == 0)
+        streams = {pid: process.events for pid, process in node.processes.items()}
+        status, told = told_of(program, streams)
+        if status or "law" not in told or told["earlier"] or told["sent_before"] or "found" in told:
+            continue
+        judged += 1
+        handed += bool(told["handed_over"])
+        said, acts = acts_of(program, text(streams))
+        got = checker.run(("check", "--node"), acts or b"")
+        is_right = got == Answer(0, b"yes\n") and restored_by(acts) == judged_tokens(told)
+        yield Check(f"audit --acts of the run {seed}", None if is_right else f"{told['headline']}\n{said}\n{got}")
+    yield Check("audit --acts of runs with tokens put back and handed over", None if judged > RUNS // 2 and handed else f"{judged}, {handed}",
+                note=f"{judged} runs, {handed} with tokens handed over")
 
 
 def partial_runs(program):

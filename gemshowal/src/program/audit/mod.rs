@@ -1,5 +1,6 @@
 //! The command `audit`: whether the events of a trace fit together, and what is missing.
 
+mod acts;
 mod handed_over;
 mod judged;
 mod lives;
@@ -20,7 +21,7 @@ use crate::output::Output;
 use crate::times::summary;
 use crate::view::{Kept, View};
 use crate::{causes, Failure, Status, Task};
-use gemshowal::{CertificateError, MessageContent, NodeTrace, OutOfMemory, Trace};
+use gemshowal::{Act, CertificateError, MessageContent, NodeTrace, OutOfMemory, Trace};
 use judged::{Judged, Verdict};
 use missing::Missing;
 use others::Comparison;
@@ -139,10 +140,13 @@ impl Auditor<'_> {
             return report::write_each(self, out);
         }
         let outcome = self.outcome(self.view.trace, self.kept)?;
+        let acts = self.node_acts(&outcome);
         if let Some(path) = &self.args.acts {
-            self.write_acts(&outcome, path)?;
+            self.write_acts(&outcome, acts.as_deref(), path)?;
         }
-        let others = others::ask(self.args, self.view.trace, &outcome, self.input.line_name())?;
+        let acts = acts.as_deref();
+        let name = self.input.line_name();
+        let others = others::ask(self.args, self.view.trace, &outcome, acts, name)?;
         let audited = self.audited(&outcome)?;
         if self.json {
             report::write(self, audited, &others, out)?;
@@ -214,11 +218,38 @@ impl Auditor<'_> {
         Ok(Part::new(&self.sentences(&outcome, &shown, &missing)))
     }
 
-    fn write_acts(&self, outcome: &Outcome, path: &Path) -> Result<(), Failure> {
+    /// Returns why no acts can be written, if the rules of a standard node gave the judgement.
+    fn no_acts(&self, outcome: &Outcome) -> Option<&'static str> {
+        let judged = outcome.judged.as_ref()?;
+        acts::missing(self.node, judged, self.kept.is_some())
+    }
+
+    /// Builds acts of a standard node, if some are asked for and there is no reason against them.
+    fn node_acts(&self, outcome: &Outcome) -> Option<Vec<Act>> {
+        let judged = outcome.judged.as_ref()?;
+        let is_asked = self.args.acts.is_some() || self.args.proved;
+        (is_asked && self.no_acts(outcome).is_none()).then(|| acts::of(self.node, judged))
+    }
+
+    fn write_acts(
+        &self,
+        outcome: &Outcome,
+        acts: Option<&[Act]>,
+        path: &Path,
+    ) -> Result<(), Failure> {
         let unkept = |reason| Failure::Unkept(path.display().to_string(), reason);
         let file = || File::create(path).map(BufWriter::new).map_err(unkept);
+        let failed = |error| match error {
+            CertificateError::Io(reason) => unkept(reason),
+            error => Failure::of_acts(error, self.input.line_name()),
+        };
         let mut file = match &outcome.said {
-            Said::Never(_) => return Ok(()),
+            Said::Never(_) => {
+                let Some(acts) = acts else { return Ok(()) };
+                let mut file = file()?;
+                self.view.trace.write_node_acts(&mut file, acts).map_err(failed)?;
+                file
+            }
             Said::Nothing => return Err(Failure::Wrapped(self.input.line_name().into())),
             Said::Fits(fits) => {
                 let trace = outcome.ranked.as_ref().unwrap_or(self.view.trace);
@@ -228,11 +259,7 @@ impl Auditor<'_> {
             }
             Said::Completed(completion) => {
                 let mut file = file()?;
-                let written = self.view.trace.write_acts(&mut file, completion);
-                written.map_err(|error| match error {
-                    CertificateError::Io(reason) => unkept(reason),
-                    error => Failure::of_acts(error, self.input.line_name()),
-                })?;
+                self.view.trace.write_acts(&mut file, completion).map_err(failed)?;
                 file
             }
         };
@@ -253,8 +280,9 @@ impl Auditor<'_> {
         writeln!(out, "{}{}", sentences.headline(), audited.resets.instead())?;
         sentences.write_details(out)?;
         sentences.write_resets(&audited.resets, out)?;
-        if self.args.acts.is_some() && audited.outcome.judged.is_some() {
-            writeln!(out, "No acts are written: the manual's machine has no run of it.")?;
+        let no_acts = self.no_acts(audited.outcome);
+        if let Some(reason) = no_acts.filter(|_| self.args.acts.is_some()) {
+            writeln!(out, "No acts are written: {reason}.")?;
         }
         write_losses(self.view.names.losses(), out)?;
         if let (Some(times), None) = (self.view.names.times(), &self.cut) {
@@ -262,7 +290,8 @@ impl Auditor<'_> {
         }
         if others.is_empty() {
             let is_of_node = audited.outcome.judged.is_some() && !audited.outcome.is_never();
-            writeln!(out, "{}", sentences::not_proved(self.node.is_wrapped(), is_of_node))?;
+            let is_wrapped = self.node.is_wrapped();
+            writeln!(out, "{}", sentences::not_proved(is_wrapped, is_of_node, no_acts.is_none()))?;
         }
         others.iter().try_for_each(|other| writeln!(out, "{other}"))?;
         Ok(())

@@ -5,7 +5,7 @@ use super::outcome::{Outcome, Said};
 use crate::args::Audit;
 use crate::erlang::find;
 use crate::Failure;
-use gemshowal::{Text, Trace, Verdict};
+use gemshowal::{Act, Text, Trace, Verdict};
 use std::env;
 use std::fmt::{self, Display, Formatter};
 use std::io::{self, Write};
@@ -67,9 +67,14 @@ pub(super) fn ask(
     args: &Audit,
     trace: &Trace,
     outcome: &Outcome,
+    node_acts: Option<&[Act]>,
     name: &str,
 ) -> Result<Vec<Comparison>, Failure> {
-    let proved = args.proved.then(|| proved_question(trace, outcome, name)?.compare(Asked::Proved));
+    let proved_question = || match node_acts {
+        Some(acts) => node_question(trace, acts, name),
+        None => proved_question(trace, outcome, name),
+    };
+    let proved = args.proved.then(|| proved_question()?.compare(Asked::Proved));
     let second = args.second.then(|| second_question(trace, outcome, name)?.compare(Asked::Second));
     proved.into_iter().chain(second).collect()
 }
@@ -84,7 +89,7 @@ struct Question {
     status: i32,
 }
 
-/// Says what the other programs are asked: they know the manual's machine alone.
+/// Says what the other programs are asked, if that is about the manual's machine.
 fn what(outcome: &Outcome) -> &'static str {
     match outcome.said {
         Said::Never(_) if !outcome.is_never() => "That the manual's machine has no run of it",
@@ -112,12 +117,21 @@ fn proved_question(trace: &Trace, outcome: &Outcome, name: &str) -> Result<Quest
         }
         Said::Nothing => return Err(Failure::Wrapped(name.into())),
     };
-    let mut program = program("SEQTOOL", "seqtool", "make program builds the proved one")?;
-    check_version(&program)?;
+    let mut program = proved_seqtool()?;
     if command == "audit" && is_standard {
         program = self::program("SEQAUDIT", "seqaudit", "make program builds the proved one")?;
     }
     Ok(Question { what: what(outcome), program, command, text, answer, status })
+}
+
+/// Asks whether acts are a run of a standard node.
+fn node_question(trace: &Trace, acts: &[Act], name: &str) -> Result<Question, Failure> {
+    let mut text = Vec::new();
+    let written = trace.write_node_acts(&mut text, acts);
+    written.map_err(|error| Failure::of_acts(error, name))?;
+    let what = "That a standard node has such a run";
+    let (answer, status) = (b"yes\n".to_vec(), 0);
+    Ok(Question { what, program: proved_seqtool()?, command: "check --node", text, answer, status })
 }
 
 /// Asks about acts of a run if there are some, since the second checker looks for none.
@@ -168,7 +182,7 @@ impl Question {
     fn compare(&self, asked: Asked) -> Result<Comparison, Failure> {
         let Question { program, command, text, answer, status, .. } = self;
         let mut child = Command::new(program)
-            .arg(command)
+            .args(command.split(' '))
             .stdin(Stdio::piped())
             .stdout(Stdio::piped())
             .stderr(Stdio::null())
@@ -201,6 +215,12 @@ fn program(variable: &str, name: &str, remedy: &str) -> Result<PathBuf, Failure>
              {remedy}"
         ))
     })
+}
+
+fn proved_seqtool() -> Result<PathBuf, Failure> {
+    let program = program("SEQTOOL", "seqtool", "make program builds the proved one")?;
+    check_version(&program)?;
+    Ok(program)
 }
 
 /// Refuses a build that isn't proved, as far as it says so.

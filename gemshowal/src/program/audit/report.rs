@@ -300,6 +300,6 @@ pub(super) fn write_each(auditor: &Auditor<'_>, out: &mut Output) -> Result<Stat
     }
     writeln!(out, "{}: {} fit", count(of as u64, "label"), grouped(fits as u64))?;
     write_losses(losses, out)?;
-    writeln!(out, "{}", not_proved(auditor.node.is_wrapped(), false))?;
+    writeln!(out, "{}", not_proved(auditor.node.is_wrapped(), false, false))?;
     Ok(status)
 }

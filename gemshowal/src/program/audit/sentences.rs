@@ -635,10 +635,15 @@ fn size(view: &View<'_>) -> String {
     format!("{} of {}", count(streams.total(), "event"), count(processes, "process"))
 }
 
-/// Says what of an answer isn't proved, if the rules of a standard node gave it or not.
-pub(super) fn not_proved(is_wrapped: bool, is_of_node: bool) -> String {
+/// Says what of an answer isn't proved, if the rules of a standard node gave it or not. Where acts
+/// can be built, the proved programs can be asked.
+pub(super) fn not_proved(is_wrapped: bool, is_of_node: bool, has_acts: bool) -> String {
     let what = match (is_wrapped, is_of_node) {
         (true, _) => "how it reads this version, and its words, are only tested",
+        (false, true) if has_acts => {
+            "that a standard node has such a run, and its words, are only tested; --proved asks \
+             the proved programs"
+        }
         (false, true) => "that a standard node has such a run, and its words, are only tested",
         (false, false) => "its words are only tested; --proved asks the proved programs",
     };
