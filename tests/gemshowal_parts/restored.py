@@ -88,7 +88,7 @@ SAID = (
 WITHOUT_ACTS = (
     ("without sends", trace([REPLIED, line("print", 0, 2)], [ASKED, line("print", 0, 1, SERVER)]), (),
      "the run that was found has events that nobody reported"),
-    ("of a label", SAID[0][1], ("--label", "1"), "the run is one of the whole trace"),
+    ("of a label", SAID[0][1], ("--label", "1"), "the rules were asked of the whole trace"),
     ("of counters from before", trace([line("send", 0, 4), BACK_LATE], [line("'receive'", 0, 3, value=6), *LATE]), (),
      "counters go on from before the trace"),
     ("of a serial that no token gives", trace([line("print", 0, 1), AGAIN, LATER_REPLIED, line("send", 1, 2)], [ASKED_AGAIN, LATER, line("'receive'", 1, 2)]), (),

@@ -14,10 +14,9 @@ const FLAGS: Flags = Flags { send: true, receive: true, print: true };
 pub(super) fn missing(node: &NodeTrace, judged: &Judged, is_cut: bool) -> Option<&'static str> {
     let reasons = [
         (judged.verdict() != Verdict::Fits, "the manual's machine has no run of it"),
-        (is_cut, "the run is one of the whole trace"),
+        (is_cut, "the rules were asked of the whole trace"),
         (!node.spawned().is_empty(), "the answer of a spawn has no act"),
         (!judged.earlier.is_empty(), "counters go on from before the trace"),
-        (!judged.sent_before.is_empty(), "messages were sent before the trace"),
         (judged.found.is_some(), "the run that was found has events that nobody reported"),
     ];
     reasons.into_iter().find(|(is_so, _)| *is_so).map(|(_, reason)| reason)
@@ -53,8 +52,8 @@ struct Run<'a> {
 
 #[derive(Debug, Default)]
 struct Process {
-    /// The number of events that it has reported.
-    reported: u64,
+    /// The index of the event that it reports next.
+    next: u64,
     /// The label of its token, if it has one.
     label: Option<Label>,
     queue: Queue,
@@ -64,7 +63,7 @@ impl<'a> Run<'a> {
     fn new(node: &'a NodeTrace, judged: &Judged) -> Run<'a> {
         let mut processes: HashMap<Pid, Process> = HashMap::new();
         for receiver in node.events(Kind::Send).filter_map(|(_, send)| send.to) {
-            processes.entry(receiver).or_default().queue.taken.push(0);
+            processes.entry(receiver).or_default().queue.receive_counts.push(0);
         }
         let put_backs = judged.put_backs.iter();
         let put_backs = put_backs.map(|it| (it.before, it.of.unwrap_or(it.place), it.token));
@@ -89,16 +88,16 @@ impl<'a> Run<'a> {
     /// Lets a process act up to an event that has to wait.
     fn go_on(&mut self, pid: Pid, going: &mut Vec<Pid>) {
         loop {
-            let place = (pid, self.process(pid).reported);
+            let place = (pid, self.process(pid).next);
             let Some(event) = event_at(self.node, place) else { return };
             if let Some(cause) = self.causes.get(&place).copied() {
-                if self.process(cause.0).reported <= cause.1 {
+                if self.process(cause.0).next <= cause.1 {
                     self.waiting.entry(cause).or_default().push(pid);
                     return;
                 }
             }
             self.report(place, &event);
-            self.process(pid).reported += 1;
+            self.process(pid).next += 1;
             going.extend(self.waiting.remove(&place).into_iter().flatten());
         }
     }
@@ -153,34 +152,34 @@ impl<'a> Run<'a> {
 /// The messages to a process, numbered as they are sent.
 #[derive(Debug, Default)]
 struct Queue {
-    sent: usize,
-    /// How many were taken, in a tree: the entry of `n` counts those from `n & (n - 1)` on, below
-    /// `n`, and stands at `n - 1`.
-    taken: Vec<u64>,
+    messages: usize,
+    /// Counts those that were received, in a tree: the entry at `n - 1` counts those from
+    /// `n & (n - 1)` on, below `n`.
+    receive_counts: Vec<u64>,
 }
 
 impl Queue {
     /// Puts a message into the queue, and returns its number.
     fn put(&mut self) -> usize {
-        self.sent += 1;
-        self.sent - 1
+        self.messages += 1;
+        self.messages - 1
     }
 
     /// Takes a message, and returns its place in the queue.
     fn take(&mut self, number: usize) -> u64 {
-        let place = number as u64 - self.taken_below(number);
+        let place = number as u64 - self.received_below(number);
         let mut at = number + 1;
-        while let Some(count) = self.taken.get_mut(at - 1) {
+        while let Some(count) = self.receive_counts.get_mut(at - 1) {
             *count += 1;
             at += at & at.wrapping_neg();
         }
         place
     }
 
-    fn taken_below(&self, number: usize) -> u64 {
+    fn received_below(&self, number: usize) -> u64 {
         let (mut at, mut sum) = (number, 0);
         while at > 0 {
-            sum += self.taken[at - 1];
+            sum += self.receive_counts[at - 1];
             at &= at - 1;
         }
         sum
