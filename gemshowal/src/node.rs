@@ -9,10 +9,12 @@ use crate::{Event, Kind, OutOfMemory, Pid, ReadError, Serial, Trace};
 use node_given::Way;
 use node_machine::Seen;
 use node_origins::EventOrigins;
-use node_streams::MessageContent;
+use node_streams::{MessageContent, MessageEnds};
 use st_library::alloc::Global;
 use st_text::ReadFault;
+use std::cell::OnceCell;
 use std::collections::{HashMap, HashSet, VecDeque};
+use std::io::Write;
 use std::ops::Range;
 
 /// The first line of the text of such a trace.
@@ -46,7 +48,9 @@ pub fn signed(count: u64) -> i64 {
 #[derive(Debug)]
 pub struct NodeTrace {
     trace: Trace,
-    answers: HashSet<(Pid, u64)>,
+    /// The answers of spawns, in the order of the text.
+    answers: Vec<(Pid, u64)>,
+    spawned: OnceCell<HashSet<Pid>>,
     is_wrapped: bool,
 }
 
@@ -55,6 +59,8 @@ pub struct NodeTrace {
 pub struct NodeFinding {
     /// The receives of messages of which no reported send is left.
     pub unsent: Vec<(Pid, u64)>,
+    /// The sends of messages of which no reported receive is left.
+    pub unreceived: Vec<(Pid, u64)>,
     /// The receives that wait for their sends if no order of the events has each receive after its
     /// send; else none.
     pub cycle: Vec<(Pid, u64)>,
@@ -86,26 +92,19 @@ impl NodeFinding {
 }
 
 impl NodeTrace {
-    /// Takes a trace as one of a standard node, on which these receives are the answers of spawns.
-    pub fn new(trace: Trace, answers: HashSet<(Pid, u64)>) -> NodeTrace {
-        NodeTrace { trace, answers, is_wrapped: false }
+    /// Takes a trace as one of a standard node, on which these receives, in the order of the text,
+    /// are the answers of spawns.
+    pub fn new(trace: Trace, answers: Vec<(Pid, u64)>) -> NodeTrace {
+        NodeTrace { trace, answers, spawned: OnceCell::new(), is_wrapped: false }
     }
 
-    /// Reads a text of version 3.
-    pub fn read(text: &[u8]) -> Result<NodeTrace, ReadError> {
-        let rewritten = Rewritten::of(text).map_err(ReadError::Faulty)?;
+    /// Reads a text of version 3. Takes the text, to let it go before the events are read.
+    pub fn read(text: Vec<u8>) -> Result<NodeTrace, ReadError> {
+        let rewritten = Rewritten::of(&text).map_err(ReadError::Faulty)?;
+        drop(text);
         let trace = Trace::read(&rewritten.text[..])?;
-        let answers = {
-            let lines = trace.lines()?;
-            let is_answer = |&(pid, index): &(Pid, u64)| {
-                let line = lines.line(pid, index);
-                line.is_some_and(|line| rewritten.answers.binary_search(&line).is_ok())
-            };
-            let own =
-                |(pid, events): (Pid, &[Event])| (0..events.len() as u64).map(move |i| (pid, i));
-            trace.processes().flat_map(own).filter(is_answer).collect()
-        };
-        Ok(NodeTrace { trace, answers, is_wrapped: true })
+        let answers = places(&trace, &rewritten.answers)?;
+        Ok(NodeTrace { is_wrapped: true, ..NodeTrace::new(trace, answers) })
     }
 
     /// Returns the events of all processes.
@@ -120,7 +119,7 @@ impl NodeTrace {
 
     /// Returns whether this event is the answer of a spawn.
     pub fn is_answer(&self, place: (Pid, u64)) -> bool {
-        self.answers.contains(&place)
+        self.answers.binary_search(&place).is_ok()
     }
 
     /// Finds what the laws of a standard node say of the trace.
@@ -128,8 +127,12 @@ impl NodeTrace {
         let streams = self.trace.streams();
         let judgement = node_streams::judge(Global, streams)?;
         let ways = |(pid, events): (Pid, &[Event])| Ok((pid, given(&self.seen(pid, events))?));
+        let unsent = judgement.unsent.as_slice().to_vec();
+        let count = |kind| self.events(kind).count();
+        let has_unreceived = count(Kind::Send) + unsent.len() > count(Kind::Receive);
         Ok(NodeFinding {
-            unsent: judgement.unsent.as_slice().to_vec(),
+            unreceived: if has_unreceived { self.unreceived()? } else { Vec::new() },
+            unsent,
             cycle: judgement.cycle.as_slice().to_vec(),
             ways: self.trace.processes().map(ways).collect::<Result<_, OutOfMemory>>()?,
         })
@@ -142,16 +145,21 @@ impl NodeTrace {
         Ok(judgement.unsent.is_empty() && judgement.cycle.is_empty())
     }
 
-    /// Returns the processes that were spawned in the trace.
-    pub fn spawned(&self) -> HashSet<Pid> {
-        let answers = self.events(Kind::Receive).filter(|&(place, _)| self.is_answer(place));
-        answers.map(|(_, event)| event.from).collect()
+    /// Returns whether a process was spawned in the trace.
+    pub fn is_spawned(&self, pid: Pid) -> bool {
+        let spawned = self.spawned.get_or_init(|| {
+            let event = |&(pid, index): &(Pid, u64)| self.trace.streams().event(pid, index);
+            self.answers.iter().filter_map(event).map(|answer| answer.from).collect()
+        });
+        spawned.contains(&pid)
     }
 
     /// Returns those of these receives whose unreported sends can have come before the trace: the
     /// first send or print of the sender's has a greater count, if there is one.
     pub fn sent_before(&self, unsent: &[(Pid, u64)]) -> Vec<(Pid, u64)> {
-        let spawned = self.spawned();
+        if unsent.is_empty() {
+            return Vec::new();
+        }
         let first = |(pid, events): (Pid, &[Event])| {
             let stamp = events.iter().find(|event| event.kind != Kind::Receive)?;
             Some((pid, stamp.serial.this))
@@ -163,7 +171,7 @@ impl NodeTrace {
                 let distance = first.wrapping_sub(event.serial.this) % COUNTS;
                 (1..COUNTS / 2).contains(&distance)
             };
-            !spawned.contains(&event.from) && firsts.get(&event.from).is_none_or(is_below)
+            !self.is_spawned(event.from) && firsts.get(&event.from).is_none_or(is_below)
         };
         unsent.iter().copied().filter(can_be_before).collect()
     }
@@ -171,11 +179,13 @@ impl NodeTrace {
     /// Finds the processes whose first send or print is ungiven, unless their counters go on from
     /// before the trace. One that was spawned in the trace isn't among them.
     pub fn from_before(&self, finding: &NodeFinding) -> Result<Vec<FromBefore>, OutOfMemory> {
-        let spawned = self.spawned();
         let mut found = Vec::new();
-        for &(pid, ref ways) in finding.ways.iter().filter(|(pid, _)| !spawned.contains(pid)) {
+        for &(pid, ref ways) in &finding.ways {
             let first = ways.iter().position(|&way| way != Way::Receive);
             let Some(first) = first.filter(|&at| ways[at] == Way::Ungiven) else { continue };
+            if self.is_spawned(pid) {
+                continue;
+            }
             let seen = self.seen(pid, self.trace.streams().events(pid));
             // A count of 0 comes after the greatest one.
             if seen[first].serial.this == 0 && !self.is_wrapped {
@@ -206,11 +216,17 @@ impl NodeTrace {
         receives.filter_map(pair).collect()
     }
 
-    /// Returns the sends of messages of which no reported receive is left.
-    pub fn unreceived(&self) -> Vec<(Pid, u64)> {
-        let received: HashSet<_> = self.pairs().into_iter().map(|(send, _)| send).collect();
-        let sends = self.events(Kind::Send).map(|(place, _)| place);
-        sends.filter(|place| !received.contains(place)).collect()
+    fn unreceived(&self) -> Result<Vec<(Pid, u64)>, OutOfMemory> {
+        let ends = MessageEnds::of(Global, self.trace.streams())?;
+        let mut unreceived = Vec::new();
+        for (pid, events) in self.trace.processes() {
+            let receives = ends.partners(Global, events)?;
+            let sends = events.iter().zip(&receives).zip(0..);
+            let own =
+                sends.filter(|((event, receive), _)| event.kind == Kind::Send && receive.is_none());
+            unreceived.extend(own.map(|(_, index)| (pid, index)));
+        }
+        Ok(unreceived)
     }
 
     /// Returns the events of a kind, by process.
@@ -351,8 +367,8 @@ impl Rewritten {
             match std::str::from_utf8(line).ok().and_then(EventLine::of) {
                 None => rewritten.text.extend_from_slice(line),
                 Some(event) => {
-                    let plain = event.plain().ok_or(ReadFault::Line(number))?;
-                    rewritten.text.extend_from_slice(plain.as_bytes());
+                    let written = event.write_plain(&mut rewritten.text);
+                    written.ok_or(ReadFault::Line(number))?;
                     if event.kind == ANSWER {
                         rewritten.answers.push(number);
                     }
@@ -361,6 +377,20 @@ impl Rewritten {
         }
         Ok(rewritten)
     }
+}
+
+/// Returns the places of the events on these lines, which rise.
+fn places(trace: &Trace, on_lines: &[u64]) -> Result<Vec<(Pid, u64)>, OutOfMemory> {
+    let lines = trace.lines()?;
+    let mut left = on_lines.iter().peekable();
+    let mut places = Vec::with_capacity(on_lines.len());
+    for (pid, events) in trace.processes() {
+        let Some(first) = lines.line(pid, 0) else { continue };
+        let behind = first + events.len() as u64;
+        let own = std::iter::from_fn(|| left.next_if(|&&line| line < behind));
+        places.extend(own.filter_map(|line| Some((pid, line.checked_sub(first)?))));
+    }
+    Ok(places)
 }
 
 const ANSWER: &str = "answer";
@@ -376,24 +406,44 @@ struct EventLine<'a> {
 
 impl<'a> EventLine<'a> {
     fn of(line: &'a str) -> Option<EventLine<'a>> {
-        let (front, rest) = line.split_once(",{")?;
-        let (kind, rest) = rest.split_once(",{")?;
+        let (front, rest) = split_at_brace(line)?;
+        let (kind, rest) = split_at_brace(rest)?;
         let (serial, rest) = rest.split_once('}')?;
         let (prev, this) = serial.split_once(',')?;
         Some(EventLine { front, kind, prev, this, rest })
     }
 
-    /// Returns the line as version 2 has it, or `None` if a count isn't one that a node prints.
-    fn plain(&self) -> Option<String> {
-        let EventLine { front, kind, prev, this, rest } = self;
-        let kind = if *kind == ANSWER { "'receive'" } else { kind };
-        Some(format!("{front},{{{kind},{{{},{}}}{rest}", unsigned(prev)?, unsigned(this)?))
+    /// Writes the line as version 2 has it; returns `None` if a count isn't one that a node prints.
+    fn write_plain(&self, text: &mut Vec<u8>) -> Option<()> {
+        let EventLine { front, kind, prev, this, rest } = *self;
+        let kind = if kind == ANSWER { "'receive'" } else { kind };
+        for part in [front, ",{", kind, ",{"] {
+            text.extend_from_slice(part.as_bytes());
+        }
+        write_unsigned(prev, text)?;
+        text.push(b',');
+        write_unsigned(this, text)?;
+        text.push(b'}');
+        text.extend_from_slice(rest.as_bytes());
+        Some(())
     }
 }
 
-/// Returns the number from 0 to 2^60 - 1 with the bits of a count that a node prints.
-fn unsigned(word: &str) -> Option<u64> {
-    let count: i64 = word.parse().ok()?;
-    let is_spelled_so = SHOWN.contains(&count) && count.to_string() == word;
-    is_spelled_so.then_some(count as u64 % COUNTS)
+/// Splits a text at its first `,{`, as `split_once` does, which takes longer for a short text.
+fn split_at_brace(text: &str) -> Option<(&str, &str)> {
+    let at = text.as_bytes().windows(2).position(|pair| pair == b",{")?;
+    Some((&text[..at], &text[at + 2..]))
+}
+
+/// Writes the number from 0 to 2^60 - 1 with the bits of a count that a node prints; returns `None`
+/// if the word isn't such a count, spelled so.
+fn write_unsigned(word: &str, text: &mut Vec<u8>) -> Option<()> {
+    let digits = word.strip_prefix('-').unwrap_or(word);
+    let is_spelled_so = word == "0" || matches!(digits.as_bytes().first(), Some(b'1'..=b'9'));
+    let count: i64 = word.parse().ok().filter(|count| is_spelled_so && SHOWN.contains(count))?;
+    if count < 0 {
+        return write!(text, "{}", count as u64 % COUNTS).ok();
+    }
+    text.extend_from_slice(word.as_bytes());
+    Some(())
 }

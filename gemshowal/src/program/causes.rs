@@ -17,7 +17,7 @@ use gemshowal::{Origins, OutOfMemory, Paired, Partner, Pid, ProcessHops, StampOr
 use std::alloc::{handle_alloc_error, Layout};
 use std::borrow::Cow;
 use std::cell::RefCell;
-use std::collections::{HashMap, HashSet};
+use std::collections::HashMap;
 
 #[derive(Clone, Copy, Debug, PartialEq, Eq)]
 pub(crate) enum Grade {
@@ -174,22 +174,30 @@ fn is_sent_later(hop: NodeHop, (pid, index): Place) -> bool {
     matches!(hop, NodeHop::Sent(from, sent) if from == pid && sent > index)
 }
 
-/// Finds the receives that answer a spawn. The messages tell it, so without names there are none.
-pub(crate) fn answers(trace: &Trace, names: &Names) -> HashSet<Place> {
-    let is_answer = |&(place, _): &(Place, &Event)| is_answer(trace, names, place);
-    trace.events().filter(is_answer).map(|(place, _)| place).collect()
+/// Finds the receives that answer a spawn, in the order of the text. The messages tell it, so
+/// without names there are none.
+pub(crate) fn answers(trace: &Trace, names: &Names) -> Vec<Place> {
+    let own = |(pid, events): (Pid, &[Event])| {
+        let pairs = events.windows(2).zip(1..);
+        let own = pairs.filter(|(pair, _)| is_answer(names, &pair[0], &pair[1]));
+        own.map(|(_, index)| (pid, index)).collect::<Vec<_>>()
+    };
+    trace.processes().filter(|_| names.has_terms()).flat_map(own).collect()
 }
 
-/// Returns whether the event at this place is the answer of a spawn, right behind the request.
-fn is_answer(trace: &Trace, names: &Names, (pid, index): Place) -> bool {
+/// Returns whether an event is the answer of a spawn, right behind the request.
+fn is_answer(names: &Names, request: &Event, answer: &Event) -> bool {
+    answer.kind == Kind::Receive
+        && request.kind == Kind::Send
+        && request.to == Some(answer.from)
+        && names.is_spawned(answer.value)
+}
+
+fn is_answer_at(trace: &Trace, names: &Names, (pid, index): Place) -> bool {
     let event = |index| trace.streams().event(pid, index);
     let request = index.checked_sub(1).and_then(event);
-    request.zip(event(index)).is_some_and(|(request, answer)| {
-        answer.kind == Kind::Receive
-            && request.kind == Kind::Send
-            && request.to == Some(answer.from)
-            && names.is_spawned(answer.value)
-    })
+    let pair = request.zip(event(index));
+    pair.is_some_and(|(request, answer)| is_answer(names, &request, &answer))
 }
 
 /// The causes of the events of a trace, by what was reported alone. Those of a process are found
@@ -216,7 +224,7 @@ impl<'a> Links<'a> {
 
     pub(crate) fn of_view(view: &View<'a>) -> Result<Links<'a>, OutOfMemory> {
         let View { trace, names, .. } = *view;
-        Links::of(trace, names, move |place| is_answer(trace, names, place))
+        Links::of(trace, names, move |place| is_answer_at(trace, names, place))
     }
 
     /// Returns whether each hop leads to an event that was reported, so that a completion adds

@@ -87,7 +87,7 @@ impl Input {
         let text = self.bytes()?;
         // No other command knows this version, so lint has no words for its faults.
         let no_text = |_: &mut Input| Err(ErrorKind::Unsupported.into());
-        let trace = NodeTrace::read(&text).map_err(|error| self.refused(error, no_text))?;
+        let trace = NodeTrace::read(text).map_err(|error| self.refused(error, no_text))?;
         let names = Names::beside(&self.path, trace.trace(), notes)?;
         Ok((trace, names))
     }

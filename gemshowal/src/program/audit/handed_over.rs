@@ -44,12 +44,15 @@ pub(super) fn handed_over(trace: &NodeTrace, ungiven: &[Place]) -> Vec<HandedOve
 /// Finds the first event of another process that has the token of each of these sends and prints,
 /// whenever that was: such a process was hardly under way before the trace.
 pub(super) fn had_elsewhere(trace: &NodeTrace, stamps: &[Place]) -> HashMap<Place, Place> {
+    if stamps.is_empty() {
+        return HashMap::new();
+    }
     let mut wanted: HashMap<Token, Vec<Place>> = HashMap::new();
     for (&place, event) in stamps.iter().filter_map(|it| Some((it, event_at(trace, *it)?))) {
         wanted.entry(token_before(&event)).or_default().push(place);
     }
     let mut found = HashMap::new();
-    for (of, event) in trace.trace().events().filter(|_| !stamps.is_empty()) {
+    for (of, event) in trace.trace().events() {
         let token = (Some(event.label.0), event.serial.prev, event.serial.this);
         let Some(wanting) = wanted.get_mut(&token) else { continue };
         let is_own = |it: &Place| it.0 == of.0 || it.0 == event.from;

@@ -72,14 +72,15 @@ impl Judged {
     /// Judges a trace of which each send, receive and print was reported.
     pub(super) fn of(trace: &NodeTrace, names: &Names) -> Result<Judged, Failure> {
         let mut finding = trace.audit()?;
-        let sent: HashSet<MessageContent> =
-            trace.events(Kind::Send).map(|(_, event)| MessageContent::of(event)).collect();
+        let sent = sent_contents(trace, &finding.unsent);
         let is_sent = |&place: &Place| {
             event_at(trace, place).is_some_and(|event| sent.contains(&MessageContent::of(&event)))
         };
-        let mut judged = Judged { waiting: trace.unreceived(), ..Judged::default() };
+        let waiting = std::mem::take(&mut finding.unreceived);
+        let mut judged = Judged { waiting, ..Judged::default() };
         let explainer = Explainer::new(trace, names, &judged.waiting);
-        let has_messages = !sent.is_empty() && trace.events(Kind::Receive).next().is_some();
+        let has = |kind| trace.events(kind).next().is_some();
+        let has_messages = has(Kind::Send) && has(Kind::Receive);
         judged.elsewhere = had_elsewhere(trace, &finding.places(is_ungiven));
         judged.go_on_from_before(trace, &mut finding, &explainer)?;
         if has_messages {
@@ -160,7 +161,7 @@ impl Judged {
         if is_partial && !(is_plain && judged.verdict() == Verdict::Fits) {
             let run = walk(trace, |event| names.is_spawned(event.value));
             if run.stuck.is_empty() && lives::has_run(trace, &run)? {
-                judged = Judged::found(trace, run);
+                judged = Judged::found(trace, run, judged.waiting);
             } else if !run.stuck.is_empty() && (lacks(Kind::Send) || lacks(Kind::Receive)) {
                 judged = Judged { ungiven: run.stuck, ..Judged::default() };
             }
@@ -170,9 +171,9 @@ impl Judged {
         Ok(judged)
     }
 
-    fn found(trace: &NodeTrace, run: Run) -> Judged {
+    /// `waiting` are the sends without a reported receive.
+    fn found(trace: &NodeTrace, run: Run, mut waiting: Vec<Place>) -> Judged {
         let sends = trace.events(Kind::Receive).count() - trace.pairs().len();
-        let mut waiting = trace.unreceived();
         waiting.retain(|send| !run.received.contains(send));
         Judged {
             earlier: run.earlier,
@@ -223,6 +224,14 @@ fn is_ungiven(way: Way) -> bool {
     way == Way::Ungiven
 }
 
+/// Returns the contents of all messages that were sent, if a receive has no send.
+fn sent_contents(trace: &NodeTrace, unsent: &[Place]) -> HashSet<MessageContent> {
+    if unsent.is_empty() {
+        return HashSet::new();
+    }
+    trace.events(Kind::Send).map(|(_, event)| MessageContent::of(event)).collect()
+}
+
 pub(super) fn event_at(trace: &NodeTrace, (pid, index): Place) -> Option<Event> {
     trace.trace().streams().event(pid, index)
 }
@@ -249,8 +258,11 @@ fn copies(trace: &NodeTrace, names: &Names, judged: &Judged) -> Vec<Place> {
 }
 
 fn put_backs(trace: &NodeTrace, finding: &NodeFinding) -> Vec<PutBack> {
+    let has_some = |(_, ways): &&(Pid, Vec<Way>)| {
+        ways.iter().any(|way| matches!(way, Way::PutBack(_) | Way::Lowered(_)))
+    };
     let of_process = |(pid, ways): &(Pid, Vec<Way>)| put_backs_of(trace, *pid, ways);
-    finding.ways.iter().flat_map(of_process).collect()
+    finding.ways.iter().filter(has_some).flat_map(of_process).collect()
 }
 
 fn put_backs_of(trace: &NodeTrace, pid: Pid, ways: &[Way]) -> Vec<PutBack> {

@@ -5,7 +5,7 @@ use super::judged::{event_at, Judged};
 use crate::names::Names;
 use crate::view::{count, short, Place};
 use gemshowal::{signed, Event, Kind, NodeTrace, Pid, Serial, COUNTS};
-use std::collections::{HashMap, HashSet};
+use std::collections::HashMap;
 
 /// The greatest number of counts that unreported sends and prints are said to have taken. Beyond it
 /// the counter rather jumped, as at a spawn.
@@ -22,7 +22,6 @@ pub(super) struct Explainer<'a> {
     by_count: HashMap<(Pid, u64), Place>,
     /// A send without a reported receive, by receiver and serial.
     by_serial: HashMap<(Pid, u64, u64), Place>,
-    spawned: HashSet<Pid>,
 }
 
 impl<'a> Explainer<'a> {
@@ -34,7 +33,7 @@ impl<'a> Explainer<'a> {
             by_count.entry((to, this)).or_insert(place);
             by_serial.entry((to, prev, this)).or_insert(place);
         }
-        Explainer { trace, names, by_count, by_serial, spawned: trace.spawned() }
+        Explainer { trace, names, by_count, by_serial }
     }
 
     /// Says what may explain this event.
@@ -71,7 +70,7 @@ impl<'a> Explainer<'a> {
 
     /// Returns whether a process may have saved a token before a trace that began late.
     pub(super) fn may_have_saved(&self, pid: Pid) -> bool {
-        !self.spawned.contains(&pid)
+        !self.trace.is_spawned(pid)
     }
 
     /// Returns whether a message whose receive wasn't reported may explain the serial.
