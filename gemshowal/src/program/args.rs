@@ -95,7 +95,8 @@ pub(crate) struct Inputs {
 pub(crate) struct Audit {
     #[command(flatten)]
     inputs: Inputs,
-    /// Write acts of a run that has the trace to this file; seqaudit check confirms them
+    /// Write acts of a run that has the trace to this file; seqaudit check, or seqtool check
+    /// --node, confirms them
     #[arg(long, value_name = "FILE")]
     pub(crate) acts: Option<PathBuf>,
     /// Ask the proved programs seqaudit and seqtool too, and say whether they agree
