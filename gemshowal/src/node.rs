@@ -122,6 +122,11 @@ impl NodeTrace {
         self.answers.binary_search(&place).is_ok()
     }
 
+    /// Returns whether a spawn was answered in the trace.
+    pub fn has_answers(&self) -> bool {
+        !self.answers.is_empty()
+    }
+
     /// Finds what the laws of a standard node say of the trace.
     pub fn audit(&self) -> Result<NodeFinding, OutOfMemory> {
         let streams = self.trace.streams();

@@ -15,7 +15,7 @@ pub(super) fn missing(node: &NodeTrace, judged: &Judged, is_cut: bool) -> Option
     let reasons = [
         (judged.verdict() != Verdict::Fits, "the manual's machine has no run of it"),
         (is_cut, "the rules were asked of the whole trace"),
-        (!node.spawned().is_empty(), "the answer of a spawn has no act"),
+        (node.has_answers(), "the answer of a spawn has no act"),
         (!judged.earlier.is_empty(), "counters go on from before the trace"),
         (judged.found.is_some(), "the run that was found has events that nobody reported"),
     ];
