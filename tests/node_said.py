@@ -129,7 +129,7 @@ def stretch(events, begin, i, may_set):
 
 # RUNS IN WHICH NO RECEIVE IS REPORTED
 
-# What a process did, and in which order: its tokens, the messages that it received, and the labels that its tokens bore,
+# The acts of a process in their order: its tokens, the messages that it received, and the labels that its tokens bore,
 # that it gave, and with which it printed.
 Silent = namedtuple("Silent", "done clock last token held taken borne given stamped")
 

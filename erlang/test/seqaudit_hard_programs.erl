@@ -96,7 +96,7 @@ child(Id, Name) ->
     #{id => Id, start => {gen_server, start_link,
                           Name ++ [seqaudit_test_server, fun ?MODULE:run/1, []]}}.
 
-%% What a server replies to a request: what the request does.
+%% A server runs the request, and replies what that returns.
 run(Do) when is_function(Do, 0) -> Do();
 run(Request) -> Request.
 
@@ -287,7 +287,7 @@ begun() ->
     proc_lib:init_ack({ok, self()}),
     answer().
 
-%% What ends, and who is told.
+%% Processes that end, and those that are told.
 linking() ->
     [{"link_ends", fun(_) ->
           Child = spawn_link(fun() -> receive go -> exit(ends) end end),
@@ -359,7 +359,7 @@ ended() ->
     normal = down(Monitor),
     Child.
 
-%% What else a process sends and gets.
+%% Other messages of a process.
 sending() ->
     [{"plain_message", fun(#{aide := Aide}) ->
           Self = self(),
@@ -433,7 +433,7 @@ two_nodes(Name, There) ->
          between_tasks(Deed, N, Do, World#{there => There, remote => Remote})
      end, [node(), There]) || {Deed, Do} <- elsewhere()].
 
-%% What another node does for a process, and how it learns of that.
+%% Work that another node does for a process, and the messages about it.
 elsewhere() ->
     Nothing = fun ?MODULE:nothing/0,
     [{"there_delegated", fun(#{servers := [Server, Other | _], remote := Remote}) ->

@@ -78,7 +78,7 @@ class Process:
         """Before which of its events, and of which counts, it receives unreported in all its runs."""
         def without(gap, counts):
             return not self.has_run(lambda done, count: done != gap or count not in counts, may_begin)
-        # Of a process without a run all of this is so.
+        # If the process has no run, each gap and count is among them.
         gaps = [gap for gap in range(len(self.events) + 1) if without(gap, self.prevs)]
         return {(gap, count) for gap in gaps for count in self.prevs if without(gap, {count})}
 

@@ -206,7 +206,7 @@ pub(crate) struct Links<'a> {
     trace: &'a Trace,
     is_answer: Box<dyn Fn(Place) -> bool + 'a>,
     hops: ProcessHops<'a>,
-    /// What the messages tell, if no receive was reported.
+    /// The messages, if no receive was reported.
     messages: Option<Messages<'a>>,
     found: RefCell<HashMap<Pid, Vec<Link>>>,
 }
