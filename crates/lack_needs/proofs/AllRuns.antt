@@ -1,6 +1,6 @@
--- What reported events show holds in each run. All that its processes do are full streams, of which
--- the streams are what is told: so a stamp that a reported event tells of is there, with its
--- serial, and so is each message's send as its receive shows it.
+-- Reported events show this of each run: all that its processes do are full streams, of which the
+-- streams are what is told. So a stamp that a reported event tells of is there, with its serial,
+-- and so is each message's send as its receive shows it.
 use Rattle.std.proofs.Common.{[], ◌≡◌, inl, inr, ℕ, zero, suc, ◌≤◌, ◌==◌, ◌&&◌, ◌||◌, nat_lt}
 use Rattle.std.proofs.Common.{Bool, true, false, not, List, ◌∷◌, length, Option, Some, None}
 use Rattle.std.proofs.Common.{slice_get, refl, sym, ◌∙◌, ap}

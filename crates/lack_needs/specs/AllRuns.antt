@@ -1,4 +1,4 @@
--- What happened in every run without a reset that reports the streams, though nobody reported it.
+-- Events that happened in every run without a reset that reports the streams, though unreported.
 use Rattle.std.specs.Prelude.{◌≡◌, ℕ, Bool, false, List, length, take, slice_get, Some}
 use Rattle.st_core.specs.declared.types.Act.{Act}
 use Rattle.st_core.specs.declared.types.Event.{Event}

@@ -51,9 +51,9 @@ rules_out_stamp before p v c f =
     pid_eq f.from p && not (f.serial.prev == v) && nat_lt v f.serial.this
     && nat_lt f.serial.this c && not (may_leave before v f.serial.this)
 
--- Of the two events e tells of a stamp of p with prev v, which is event i of p, or comes between
--- its events i - 1 and i. And f, at this place, rules out that prev v was left before, or that a
--- trace began there with it.
+-- Event e tells of a stamp of p with prev v, which is event i of p, or comes between its events
+-- i - 1 and i. And event f, at this place, rules out that prev v was left before, or that a trace
+-- began there with it.
 abbrev pub are_of_loss : List Event → Pid → ℕ → ℕ → Event → Pid × ℕ → Event → Bool
 are_of_loss es p i v e at f =
     let before = event_before es i in

@@ -1,5 +1,5 @@
-//! What happened in every run without a reset, though nobody reported it: receives that were lost,
-//! and sends of messages that were received.
+//! Tells events that happened in every run without a reset, though nobody reported them: receives
+//! that were lost, and sends of messages that were received.
 
 ghost use Rattle.std.specs.Prelude.{◌≡◌, ◌↔◌, ℕ, true, Some, IsTrue};
 ghost use Rattle.st_core.specs.Streams.{events_of};

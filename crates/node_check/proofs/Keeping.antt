@@ -1,5 +1,5 @@
--- What is kept stays kept over a write at one place; and a row that isn't stale is seen as it is
--- written.
+-- A table keeps its other rows over a write at one place; and a row that isn't stale is seen as it
+-- is written.
 use Rattle.std.proofs.Common.{◌≡◌, ℕ, ◌<◌, ◌≤◌, ◌+◌, false, List, [], length, get_or, set, inl, inr}
 use Rattle.std.proofs.Common.{slice_get, Option, Some, refl, sym, ◌∙◌, ap, subst, arith}
 use Rattle.std.proofs.lemmas.Bool.{cases_eq}

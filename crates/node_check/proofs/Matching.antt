@@ -1,5 +1,5 @@
--- What is counted of each stream is told by the run so far, and one more act changes it at its own
--- process alone.
+-- The run so far tells how many events of each stream are counted, and one more act changes that at
+-- its own process alone.
 use Rattle.std.proofs.Common.{◌≡◌, ◌≢◌, ℕ, ◌+◌, ◌<◌, ◌≤◌, zero, suc, true, false, cond, List, []}
 use Rattle.std.proofs.Common.{◌∷◌, ◌++◌, length, take, get_or, set, slice_get, Option, Some, None}
 use Rattle.std.proofs.Common.{refl, sym, ◌∙◌, ap, subst, arith, inl, inr, append_assoc}

@@ -1,4 +1,4 @@
--- What is kept while acts pass, and why the next one doesn't.
+-- The tables that are kept while acts pass, and why the next one doesn't.
 use Rattle.std.specs.Prelude.{◌≡◌, ℕ, ◌+◌, ◌<◌, ◌≤◌, IsSome, slice_get, List, [], ◌∷◌, length}
 use Rattle.std.specs.Prelude.{slice_set, slice_index, take, Option, Some, None}
 use Rattle.st_core.specs.declared.types.Act.{Act}

@@ -89,7 +89,7 @@ fn zero_marks(alloc: Global, count: usize) -> Result<Vec<NodeMark>, AllocError>
 }
 
 impl Row {
-    /// What the process keeps, on a node with this mark.
+    /// Returns the state of the process, on a node with this mark.
     fn local_by(&self, mark: NodeMark) -> Local
         ensures { result ≡ local_by mark self.now }
     {

@@ -1,5 +1,5 @@
--- What a function has of each event of a list and of those before it: of one event more, and where
--- it is read.
+-- A function's results for each event of a list and those before it: for one event more, and where
+-- they are read.
 use Rattle.std.proofs.Common.{◌≡◌, ℕ, ◌+◌, zero, suc, List, [], ◌∷◌, ◌++◌, take, drop, Some}
 use Rattle.std.proofs.Common.{arith, sym, ◌∙◌, ap, append_assoc, append-nil}
 use Rattle.std.specs.List.{slice_get}

@@ -32,7 +32,7 @@ fn is_of_kind(kind: Kind, event: &Event) -> bool
 /// The reported end of a message.
 #[derive(Clone, Copy, Debug, PartialEq, Eq)]
 pub(crate) struct End {
-    /// What it says of the message.
+    /// The message, as this end tells it.
     pub(crate) content: MessageContent,
     /// Its index in its process's stream.
     pub(crate) index: u64,

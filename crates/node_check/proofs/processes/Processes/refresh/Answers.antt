@@ -1,4 +1,4 @@
--- What is written shows what was shown before.
+-- The row that is written shows what was shown before.
 use Rattle.std.proofs.Common.{◌<◌, length, get_or, ap, ◌∙◌, refl, rules}
 use Rattle.std.proofs.lemmas.List.{get_or_default}
 use Rattle.node_check.specs.Kept.{no_mark, zero_row}
