@@ -103,8 +103,8 @@ pub fn audit(trace: &Trace) -> Result<Fits, AuditError> {
 ///
 /// # Guarantees
 ///
-/// The judge has accepted a completion: each event of it has what it follows, and each addition is
-/// needed. A reason means that no run without a reset reports the trace.
+/// The judge has accepted a completion: a run reports the trace with its additions, and each of
+/// them is needed. A reason means that no run without a reset reports the trace.
 pub fn complete(trace: &Trace) -> Result<Answer, CompleteError> {
     trace.complete()
 }

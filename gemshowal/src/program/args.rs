@@ -40,7 +40,7 @@ pub(crate) enum Command {
     /// Says whether the acts in a text are a run that reports exactly its events
     #[command(after_help = include_str!("../../help/check.txt"))]
     Check(Inputs),
-    /// Adds unreported events until each event has what it follows, or says why not
+    /// Adds the unreported events that a run needs, or says why no run reports the trace
     #[command(after_help = include_str!("../../help/complete.txt"))]
     Complete(Complete),
     /// Writes a smaller trace, of the events that meet conditions
