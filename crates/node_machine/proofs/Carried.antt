@@ -7,6 +7,7 @@ use Rattle.std.specs.Option.{option_map_or}
 use Rattle.std.proofs.lemmas.Bool.{false≢true}
 use Rattle.std.proofs.lemmas.Option.{same_Some, none-some}
 use Rattle.st_core.specs.declared.types.Pid.{Pid}
+use Rattle.st_core.specs.declared.types.Label.{Label}
 use Rattle.st_core.specs.declared.types.Token.{Token}
 use Rattle.st_core.specs.declared.types.Message.{Message}
 use Rattle.st_core.specs.declared.types.Component.{Component}
@@ -23,7 +24,7 @@ use Rattle.st_core.specs.Report.{token_event}
 use Rattle.st_core.specs.Step.{Acted, receives}
 use Rattle.st_core.specs.Laws.{moves_token}
 use Rattle.node_machine.specs.Counts.{node_token}
-use Rattle.node_machine.specs.Node.{after_answer, Answer, Common, fresh_token, is_answer}
+use Rattle.node_machine.specs.Node.{after_answer, after_set, Answer, Common, fresh_token, is_answer}
 use Rattle.node_machine.specs.Node.{machine_act, node_acted, node_found}
 use Rattle.node_machine.specs.Node.{NodeAct, Seen, seen, takes_answer}
 use Rattle.node_machine.specs.Origins.{AfterRestore, AfterSet, Follows, Held, Home, IsOwnLabel}
@@ -32,6 +33,71 @@ use Rattle.node_machine.proofs.Counts.{serial_fits}
 use Rattle.node_machine.proofs.Moves.{emptied, IsAnswered, IsBack, IsQuiet, IsStamp, IsStill}
 use Rattle.node_machine.proofs.Moves.{IsTake, is_plain}
 use Rattle.node_machine.proofs.Moves.{plain_stamps, set_serial, StampMoves, unmoved}
+
+-- A SET
+
+-- the token is made, or its label set
+pub record SetsLabel (Own : Label → Type 0) (l m : LocalState) (now : TokenOrigin) : Type 0 where
+  pub still : IsStill l m
+  pub origin : now ≡ Home
+  pub own : (t : Token) → m.token ≡ Some t → Own t.label
+
+module _ (Own : Label → Type 0) (before now : TokenOrigin) where
+  abbrev pub SetMoves : LocalState → LocalState → Type 0
+  SetMoves l m = (IsQuiet l m × (now ≡ before)) ⊎ SetsLabel Own l m now
+
+  quiet_set : (l : LocalState) (t u : Token) → l.token ≡ Some t → t.serial ≡ u.serial
+      → t.label ≡ u.label → now ≡ before
+      → SetMoves l (record l { token = Some u })
+  quiet_set l t u had serial label same = inl (
+    record {
+      clock = refl;
+      last = refl;
+      token = λ x is.
+          let e = same_Some u x is in
+          (t, had, serial ∙ ap (λ (y : Token). y.serial) e, label ∙ ap (λ (y : Token). y.label) e);
+    },
+    same,
+  )
+
+  pub set_moves : (p : Pid) (l : LocalState) (token : Option Token) (c : Component)
+      → l.token ≡ token
+      → AfterSet Own p l token c before now
+      → (let made : Token = elim token [ None ↦ fresh_token p l | Some t ↦ t ] in
+      SetMoves l (record l { token = Some (with_component c made) }))
+  set_moves p l None c had after = inr (record {
+    still = record {
+      clock = refl;
+      last = refl;
+      token = λ t is. elim (set_serial p c l None t
+          (same_Some (with_component c (fresh_token p l)) t is)) [
+            | inl old ↦ absurd (none-some old.0 old.1)
+            | inr new ↦ inr new
+          ];
+    };
+    origin = after.0;
+    own = λ t is. subst (λ (x : Token). Own x.label)
+        (same_Some (with_component c (fresh_token p l)) t is) after.1;
+  })
+  set_moves p l (Some u) (component.Label x) had after = inr (record {
+    still = record {
+      clock = refl;
+      last = refl;
+      token = λ t is.
+          let made : Token = with_component (component.Label x) u in
+          inl (u, had, ap (λ (y : Token). y.serial) (same_Some made t is));
+    };
+    origin = after.0;
+    own = λ t is.
+        let made : Token = with_component (component.Label x) u in
+        subst (λ (y : Token). Own y.label) (same_Some made t is) after.1;
+  })
+  set_moves p l (Some u) (component.Send b) had after =
+      quiet_set l u (with_component (component.Send b) u) had refl refl after
+  set_moves p l (Some u) (component.Receive b) had after =
+      quiet_set l u (with_component (component.Receive b) u) had refl refl after
+  set_moves p l (Some u) (component.Print b) had after =
+      quiet_set l u (with_component (component.Print b) u) had refl refl after
 
 -- nothing is reported, and the token stays or goes
 pub record StaysQuiet (l m : LocalState) (told : Option Seen) (before now : TokenOrigin) : Type 0
@@ -78,7 +144,7 @@ pub record CameBack (front rest : List Seen) (held : List Held) (m : LocalState)
   pub token : Token
   pub silent : told ≡ None
   pub back : IsBack token m
-  pub after : AfterRestore front rest held token now
+  pub after : AfterRestore (IsOwnLabel front rest) held token now
 
 abbrev pub Carries : List Seen → List Seen → List Held → LocalState → LocalState → Option Seen
     → TokenOrigin → TokenOrigin
@@ -143,61 +209,20 @@ module _ (front rest : List Seen) (held : List Held) (before now : TokenOrigin) 
       let m = found.1 in
       take_carries r found.0 m.from m.value m.token is same
 
-  quiet_set : (l : LocalState) (t u : Token) → l.token ≡ Some t → t.serial ≡ u.serial
-      → t.label ≡ u.label → now ≡ before
-      → CarriesHere l (record l { token = Some u }) None
-  quiet_set l t u had serial label same = inl (record {
-    silent = refl;
-    quiet = record {
-      clock = refl;
-      last = refl;
-      token = λ x is.
-          let e = same_Some u x is in
-          (t, had, serial ∙ ap (λ (y : Token). y.serial) e, label ∙ ap (λ (y : Token). y.label) e);
-    };
-    origin = same;
-  })
-
-  set_carries : (p : Pid) (l : LocalState) (token : Option Token) (c : Component)
-      → l.token ≡ token
-      → AfterSet front rest p l token c before now
-      → (let made : Token = elim token [ None ↦ fresh_token p l | Some t ↦ t ] in
-      CarriesHere l (record l { token = Some (with_component c made) }) None)
-  set_carries p l None c had after = inr (inr (inr (inl (record {
-    silent = refl;
-    still = record {
-      clock = refl;
-      last = refl;
-      token = λ t is. elim (set_serial p c l None t
-          (same_Some (with_component c (fresh_token p l)) t is)) [
-            | inl old ↦ absurd (none-some old.0 old.1)
-            | inr new ↦ inr new
-          ];
-    };
-    origin = after.0;
-    own = λ t is. subst (λ (x : Token). IsOwnLabel front rest x.label)
-        (same_Some (with_component c (fresh_token p l)) t is) after.1;
-  }))))
-  set_carries p l (Some u) (component.Label x) had after = inr (inr (inr (inl (record {
-    silent = refl;
-    still = record {
-      clock = refl;
-      last = refl;
-      token = λ t is.
-          let made : Token = with_component (component.Label x) u in
-          inl (u, had, ap (λ (y : Token). y.serial) (same_Some made t is));
-    };
-    origin = after.0;
-    own = λ t is.
-        let made : Token = with_component (component.Label x) u in
-        subst (λ (y : Token). IsOwnLabel front rest y.label) (same_Some made t is) after.1;
-  }))))
-  set_carries p l (Some u) (component.Send b) had after =
-      quiet_set l u (with_component (component.Send b) u) had refl refl after
-  set_carries p l (Some u) (component.Receive b) had after =
-      quiet_set l u (with_component (component.Receive b) u) had refl refl after
-  set_carries p l (Some u) (component.Print b) had after =
-      quiet_set l u (with_component (component.Print b) u) had refl refl after
+  set_carries : (p : Pid) (l : LocalState) (c : Component)
+      → AfterSet (IsOwnLabel front rest) p l l.token c before now
+      → CarriesHere l (after_set p c l) None
+  set_carries p l c after =
+      elim (set_moves (IsOwnLabel front rest) before now p l l.token c refl after) as
+      (λ _. CarriesHere l (after_set p c l) None) [
+        | inl kept ↦ inl (record { silent = refl; quiet = kept.0; origin = kept.1 })
+        | inr made ↦ inr (inr (inr (inl (record {
+          silent = refl;
+          still = made.still;
+          origin = made.origin;
+          own = made.own;
+        }))))
+      ]
 
   plain_carries : (a : Act) (r : Process) → is_plain a ≡ true
       → (moves_token r a ≡ true → IsSome (node_acted r (Common a)).report) → now ≡ before
@@ -258,7 +283,7 @@ module _ (front rest : List Seen) (held : List Held) (before now : TokenOrigin) 
       answers_carry r (pick (want.Place place) r.queue) is after
   node_carries (Common (act.Receive p w)) r is after = received_carries r (pick w r.queue) is after
   node_carries (Common (act.Set p c)) r is after =
-      set_carries r.pid r.local r.local.token c refl after
+      set_carries r.pid r.local c after
   node_carries (Common (act.Restore p t)) r is after = inr (inr (inr (inr (inl (record {
     token = node_token t;
     silent = refl;

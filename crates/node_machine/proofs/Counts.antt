@@ -23,6 +23,19 @@ next_of_clock clock =
     sym (mod-add-mod (n % 2 ^ 64) (2 ^ 60) 1)
     ∙ ap (λ k. (k + 1) % 2 ^ 60) (mod-mod-pow n 4 60)
 
+-- a serial shows the same of what it shows
+pub serial_same : (n : ℕ) → FitsSerial n → serial_count n ≡ n
+unfolding serial_count
+serial_same n fits = mod-eq_of_lt fits
+
+pub stamp_of_serial : (clock : ℕ) → stamp_count (serial_count clock) ≡ stamp_count clock
+unfolding serial_count
+stamp_of_serial clock = mod-add-mod clock (2 ^ 60) 1
+
+pub serial_after : (clock : ℕ) → serial_count (next_clock clock) ≡ stamp_count clock
+unfolding serial_count counter_value
+serial_after clock = mod-mod-pow (clock + 1) 4 60
+
 pub next_below : (clock : ℕ) → clock + 1 < 2 ^ 60
     → (stamp_count clock ≡ clock + 1) × (next_clock clock ≡ clock + 1)
 unfolding serial_count counter_value

@@ -31,30 +31,14 @@ use Rattle.node_machine.specs.Origins.{answered, AnswersComeNext, Can, Follows, 
 use Rattle.node_machine.specs.Origins.{home, IsOwnLabel, TokenOrigin, OriginAfter, OriginsAre}
 use Rattle.node_machine.specs.Origins.{origins_told, received, stamped, taken, told_send}
 use Rattle.node_machine.proofs.Counts.{next_of_clock}
-use Rattle.node_machine.proofs.Lists.{all_append, all_change, all_of}
+use Rattle.node_machine.proofs.Lists.{all_append, all_change, all_of, item_behind, length_more}
+use Rattle.node_machine.proofs.Lists.{length_push, take_front}
 use Rattle.node_machine.proofs.Steps.{node_run_parts, node_step_parts}
 use Rattle.node_machine.proofs.Steps.{actor_found, actor_same, other_same}
 use Rattle.node_machine.proofs.Tokens.{tokens_more}
 use Rattle.node_machine.proofs.Givens.{AreTold, IsHeld, no_receive, reached_way, step_moves}
 use Rattle.node_machine.proofs.Givens.{step_told, told_same, zero_told}
 use Rattle.node_machine.proofs.Carried.{CameBack, Carries, IsStamped, node_carries, PartCarriesAll}
-
-length_push : (es : List Seen) (e : Seen) → length (es ++ e ∷ []) ≡ suc (length es)
-length_push [] e = refl
-length_push (d ∷ es) e = ap suc (length_push es e)
-
-length_more : (es more : List Seen) → length es ≤ length (es ++ more)
-length_more [] more = omega arith
-length_more (d ∷ es) more = let rest = length_more es more in omega arith
-
-take_front : (es rest : List Seen) → take (length es) (es ++ rest) ≡ es
-take_front [] rest = refl
-take_front (d ∷ es) rest = ap (λ xs. d ∷ xs) (take_front es rest)
-
-event_behind : (front rest : List Seen) (e : Seen)
-    → slice_get (front ++ (e ∷ rest)) (length front) ≡ Some e
-event_behind [] rest e = refl
-event_behind (x ∷ front) rest e = event_behind front rest e
 
 module _ (all : List Seen) where
   -- WHICH ORIGINS A HELD TOKEN CAN HAVE
@@ -646,7 +630,7 @@ module _ (all : List Seen) where
             (λ moved. subst IsSome (sym same) (told.0 who x.before found moved)) after) in
             let there : (e : Seen) → seen_by a o ≡ Some e → slice_get all (length es) ≡ Some e =
             λ e is. ap (λ ys. slice_get ys (length es))
-            (here ∙ ap (λ r. es ++ (option_to_list r ++ tail)) is) ∙ event_behind es tail e in
+            (here ∙ ap (λ r. es ++ (option_to_list r ++ tail)) is) ∙ item_behind es tail e in
             let just_before : sent ≡ true → (u : Token) → x.before.local.token ≡ Some u
             → JustStamped es u.label before =
             λ yes u is. just yes u (ap (λ y. (local_found y).token) found ∙ is) in

@@ -1,6 +1,8 @@
 -- Facts about each member of a list, and which lists have it.
-use Rattle.std.proofs.Common.{◌⊎◌, List, [], ◌∷◌, ◌++◌, inl, inr, subst}
-use Rattle.std.specs.List.{AllByRecursion}
+use Rattle.std.proofs.Common.{◌≡◌, ℕ, ◌⊎◌, zero, suc, List, [], ◌∷◌, ◌++◌, length, Some}
+use Rattle.std.proofs.Common.{◌≤◌, take, inl, inr, refl, arith, ap, subst}
+use Rattle.std.specs.List.{AllByRecursion, slice_get}
+use Rattle.std.proofs.lemmas.Option.{same_Some, none-some}
 use Rattle.node_machine.specs.Premises.{IsAmong}
 
 pub all_of : {A : Type 0} (P : A → Type 0) (xs : List A) (x : A) → AllByRecursion P xs
@@ -38,3 +40,25 @@ among_parts (z ∷ xs) ys x (inr is) = elim (among_parts xs ys x is) [
   | inl front ↦ inl (inr front)
   | inr back ↦ inr back
 ]
+
+pub among_at : {A : Type 0} (xs : List A) (k : ℕ) (x : A) → slice_get xs k ≡ Some x → IsAmong xs x
+among_at [] k x at = absurd (none-some x at)
+among_at (y ∷ xs) zero x at = inl (same_Some y x at)
+among_at (y ∷ xs) (suc k) x at = inr (among_at xs k x at)
+
+pub length_push : {A : Type 0} (xs : List A) (x : A) → length (xs ++ x ∷ []) ≡ suc (length xs)
+length_push [] x = refl
+length_push (y ∷ xs) x = ap suc (length_push xs x)
+
+pub length_more : {A : Type 0} (xs more : List A) → length xs ≤ length (xs ++ more)
+length_more [] more = omega arith
+length_more (y ∷ xs) more = let rest = length_more xs more in omega arith
+
+pub take_front : {A : Type 0} (xs rest : List A) → take (length xs) (xs ++ rest) ≡ xs
+take_front [] rest = refl
+take_front (y ∷ xs) rest = ap (λ ys. y ∷ ys) (take_front xs rest)
+
+pub item_behind : {A : Type 0} (front rest : List A) (x : A)
+    → slice_get (front ++ (x ∷ rest)) (length front) ≡ Some x
+item_behind [] rest x = refl
+item_behind (y ∷ front) rest x = item_behind front rest x

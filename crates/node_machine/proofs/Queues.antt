@@ -6,7 +6,6 @@ use Rattle.std.proofs.Common.{◌≡◌, ℕ, ◌+◌, ◌≤◌, ◌⊎◌, ◌
 use Rattle.std.proofs.Common.{◌++◌, map, Option, Some, None, is_some, option_map, inl, inr}
 use Rattle.std.proofs.Common.{refl, arith, sym, ◌∙◌, ap, subst}
 use Rattle.std.specs.List.{count_by, remove, slice_get}
-use Rattle.std.proofs.Math.Nat.{mod-eq_of_lt}
 use Rattle.std.proofs.lemmas.List.Sums.{sum_by-append, sum_by-cons, sum_by-remove}
 use Rattle.std.proofs.lemmas.Option.{get_or_from_slice_get, none-some, same_Some}
 use Rattle.std.proofs.lemmas.Option.{slice_get_within}
@@ -33,10 +32,10 @@ use Rattle.st_core.specs.Step.{untraced}
 use Rattle.st_core.specs.Streams.{is_own}
 use Rattle.st_core.proofs.ForCallers.{local_found, mapped, pick_found, pid_eq-refl, pid_eq-swap}
 use Rattle.st_core.proofs.ForCallers.{pid_same, process_pid, zero_found}
-use Rattle.node_machine.specs.Counts.{node_token, serial_count, stamp_count, next_clock}
+use Rattle.node_machine.specs.Counts.{node_token, stamp_count, next_clock}
 use Rattle.node_machine.specs.Node.{after_stamp, Answer, Common, machine_act, node_acted}
 use Rattle.node_machine.specs.Node.{node_actor, NodeAct, node_found, node_stamped_token, takes_answer}
-use Rattle.node_machine.proofs.Counts.{FitsSerial, serial_fits}
+use Rattle.node_machine.proofs.Counts.{FitsSerial, serial_fits, serial_same}
 use Rattle.node_machine.proofs.Steps.{node_process_after, NodeStepped}
 
 -- ALIKE MESSAGES
@@ -92,7 +91,7 @@ same_queue alike r done same none =
     let even = ap (count_by (bears alike r.pid)) same in
     omega arith
 
-count_removed : {A : Type 0} (test : A → Bool) (xs : List A) (k : ℕ) (x : A)
+pub count_removed : {A : Type 0} (test : A → Bool) (xs : List A) (k : ℕ) (x : A)
     → slice_get xs k ≡ Some x
     → count_by test (remove xs k) + cond (test x) 1 0 ≡ count_by test xs
 count_removed {A} test xs k x at =
@@ -423,16 +422,12 @@ zero_lasts_fit pids p r is =
 
 -- SENDS
 
-fits_same : (n : ℕ) → FitsSerial n → serial_count n ≡ n
-unfolding serial_count
-fits_same n fits = mod-eq_of_lt fits
-
 -- a stamp shows counts of 60 bits
 stamp_same : (p : Pid) (l : LocalState) (t : Token) → FitsSerial l.last
     → node_token (node_stamped_token p l t) ≡ node_stamped_token p l t
 stamp_same p l t fits =
-    let prev = fits_same l.last fits in
-    let this = fits_same (stamp_count l.clock) (serial_fits (l.clock + 1)) in
+    let prev = serial_same l.last fits in
+    let this = serial_same (stamp_count l.clock) (serial_fits (l.clock + 1)) in
     λ i. record (node_stamped_token p l t) { serial = record { prev = prev i; this = this i } }
 
 no_one : (b : Bool) → cond {A = ℕ} (b && false) 1 0 ≡ 0

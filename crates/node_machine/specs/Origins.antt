@@ -56,25 +56,23 @@ pub record IsOwnLabel (front rest : List Seen) (label : Label) : Type 0 where
   pub new : AllByRecursion (λ e. ¬ (Bears label e)) front
   pub stamps : StampsFirst label rest
 
--- a set on no token makes one at home, and so does a set of a label; another set keeps the origin
-abbrev pub AfterSet : List Seen → List Seen → Pid → LocalState → Option Token → Component
-    → TokenOrigin
+-- a set on no token makes one at home, and so does a set of a label; another set keeps the origin.
+-- A label that its process gives meets this rule
+abbrev pub AfterSet : (Label → Type 0) → Pid → LocalState → Option Token → Component → TokenOrigin
     → TokenOrigin
     → Type 0
-AfterSet front rest p l None c before now =
-    (now ≡ Home) × IsOwnLabel front rest (with_component c (fresh_token p l)).label
-AfterSet front rest p l (Some t) (component.Label x) before now =
-    (now ≡ Home) × IsOwnLabel front rest x
-AfterSet front rest p l (Some t) (component.Send b) before now = now ≡ before
-AfterSet front rest p l (Some t) (component.Receive b) before now = now ≡ before
-AfterSet front rest p l (Some t) (component.Print b) before now = now ≡ before
+AfterSet Own p l None c before now =
+    (now ≡ Home) × Own (with_component c (fresh_token p l)).label
+AfterSet Own p l (Some t) (component.Label x) before now = (now ≡ Home) × Own x
+AfterSet Own p l (Some t) (component.Send b) before now = now ≡ before
+AfterSet Own p l (Some t) (component.Receive b) before now = now ≡ before
+AfterSet Own p l (Some t) (component.Print b) before now = now ≡ before
 
 -- a token that is put back is one that was held, with its origin, or with another label and so at
 -- home
-abbrev pub AfterRestore : List Seen → List Seen → List Held → Token → TokenOrigin → Type 0
-AfterRestore front rest held t now = (x : Held) × IsAmong held x × (x.serial ≡ t.serial)
-    × (((x.label ≡ t.label) × (now ≡ x.origin))
-    ⊎ ((now ≡ Home) × IsOwnLabel front rest t.label))
+abbrev pub AfterRestore : (Label → Type 0) → List Held → Token → TokenOrigin → Type 0
+AfterRestore Own held t now = (x : Held) × IsAmong held x × (x.serial ≡ t.serial)
+    × (((x.label ≡ t.label) × (now ≡ x.origin)) ⊎ ((now ≡ Home) × Own t.label))
 
 -- the origin of the actor's token after its act, if it was this before: the actor, whose record is
 -- r, reported the front events, has these left, and held these tokens
@@ -84,9 +82,9 @@ abbrev pub OriginAfter : List Seen → List Seen → List Held → Process → N
 OriginAfter front rest held r (Common (act.Receive p w)) before now =
     now ≡ (if moves_token r (act.Receive p w) then Follows (length front) else before)
 OriginAfter front rest held r (Common (act.Set p c)) before now =
-    AfterSet front rest r.pid r.local r.local.token c before now
+    AfterSet (IsOwnLabel front rest) r.pid r.local r.local.token c before now
 OriginAfter front rest held r (Common (act.Restore p t)) before now =
-    AfterRestore front rest held (node_token t) now
+    AfterRestore (IsOwnLabel front rest) held (node_token t) now
 OriginAfter front rest held r a before now = now ≡ before
 
 -- p's token, if it has one, with this origin
