@@ -1,20 +1,27 @@
 -- The example keeps to it.
 use Rattle.std.proofs.Common.{◌≡◌, ◌==◌, true, false, map, List, [], ◌∷◌, Some, None, inl, inr}
-use Rattle.std.proofs.Common.{refl, arith, ap, subst}
+use Rattle.std.proofs.Common.{refl, arith, sym, ap, subst}
 use Rattle.std.proofs.lemmas.Bool.{false≢true}
 use Rattle.std.proofs.lemmas.Option.{same_Some, none-some}
 use Rattle.st_core.specs.declared.types.Pid.{Pid}
 use Rattle.st_core.specs.declared.types.Token.{Token}
 use Rattle.st_core.specs.declared.types.Component.TheVariants as component
 use Rattle.st_core.specs.declared.types.Act.TheVariants as act
+use Rattle.st_core.specs.declared.types.Want.TheVariants as want
+use Rattle.st_core.specs.Pick.{pick}
 use Rattle.st_core.specs.State.{Process, zero_state}
 use Rattle.st_core.specs.Step.{Outcome}
 use Rattle.node_machine.specs.Counts.{counter_value, node_token, serial_count}
-use Rattle.node_machine.specs.Node.{node_run, Common, Seen, seen_stream}
+use Rattle.node_machine.specs.Node.{node_found, node_run, Common, Seen, seen_stream}
 use Rattle.node_machine.specs.Premises.{NoNodeReset, put_backs, PutsBackOwn, ReportsTokens}
 use Rattle.node_machine.specs.Readings.{NeedsAtLeast}
-use Rattle.node_machine.specs.Origins.{AnswersComeNext, Held, Home, OriginAfter, OriginsAre}
-use Rattle.node_machine.specs.Example.{all_home, first_token, printer, prints_again, sender}
+use Rattle.node_machine.specs.Origins.{AnswersComeNext, Follows, Held, Home, OriginAfter}
+use Rattle.node_machine.specs.Origins.{OriginsAre}
+use Rattle.node_machine.specs.ByMessages.{AfterTake, no_past, OriginsAreBySends, other_label}
+use Rattle.node_machine.specs.ByMessages.{ReportsSendsTo, ReportsStamps, sends_to, message_send}
+use Rattle.node_machine.specs.ByMessages.{stamp_origins, stamp_stream}
+use Rattle.node_machine.specs.Example.{all_come, all_home, first_token, printer, prints_again}
+use Rattle.node_machine.specs.Example.{prints_what_came, sender, the_print, the_send, the_sends}
 use Rattle.node_machine.specs.Example.{wrapped_serials, wraps}
 
 abbrev pub outcomes : List Outcome
@@ -204,3 +211,108 @@ pub wrap_shown : map (λ (e : Seen). e.serial) (seen_stream wraps wrap_outcomes 
     ≡ wrapped_serials
 unfolding serial_count counter_value
 wrap_shown = refl
+
+-- A RECEIVE THAT ISN'T REPORTED
+
+abbrev pub come_outcomes : List Outcome
+come_outcomes = elim (node_run (printer ∷ sender ∷ []) prints_what_came) as (λ _. List Outcome) [
+  | None ↦ []
+  | Some os ↦ os
+]
+
+pub come_runs : node_run (printer ∷ sender ∷ []) prints_what_came ≡ Some come_outcomes
+unfolding serial_count counter_value
+come_runs = refl
+
+pub come_no_reset : NoNodeReset prints_what_came
+come_no_reset = (refl, (refl, (refl, (refl, (refl, (refl, tt))))))
+
+pub come_stamps : ReportsStamps printer (zero_state (printer ∷ sender ∷ [])) prints_what_came
+    come_outcomes
+unfolding serial_count counter_value
+come_stamps = (
+  λ _ r _ stamps. absurd (false≢true stamps),
+  (
+    λ mine. absurd (apart mine),
+    (
+      λ mine. absurd (apart mine),
+      (
+        λ mine. absurd (apart mine),
+        (λ _ r _ stamps. absurd (false≢true stamps), (λ _ r _ _. refl, tt)),
+      ),
+    ),
+  ),
+)
+
+pub come_sends : ReportsSendsTo printer (zero_state (printer ∷ sender ∷ [])) prints_what_came
+    come_outcomes
+unfolding serial_count counter_value
+come_sends = (
+  λ r _ sends. absurd (false≢true sends),
+  (
+    λ r _ sends. absurd (false≢true sends),
+    (
+      λ r _ sends. absurd (false≢true sends),
+      (
+        λ r _ _. refl,
+        (
+          λ r _ sends. absurd (false≢true sends),
+          (λ r _ sends. absurd (false≢true sends), tt),
+        ),
+      ),
+    ),
+  ),
+)
+
+-- the printer before its receive
+abbrev before_receive : Process
+before_receive = record {
+  pid = printer;
+  local = record { token = None; clock = 0; last = 0; traced = true };
+  queue = record {
+    from = sender;
+    value = 5;
+    token = Some (record {
+      label = record { 0 = 0 };
+      flags = record { send = true; receive = false; print = true };
+      serial = record { prev = 0; this = 1 };
+      from = sender;
+    });
+  } ∷ [];
+}
+
+receive_brings : (r : Process) → Some before_receive ≡ Some r
+    → AfterTake (the_send ∷ []) (message_send r.pid (node_found (pick want.First r.queue))) Home
+    (Follows 0)
+unfolding serial_count counter_value
+receive_brings r is =
+    subst (λ (x : Process). AfterTake (the_send ∷ [])
+    (message_send x.pid (node_found (pick want.First x.queue))) Home (Follows 0))
+    (same_Some before_receive r is) (0, refl, refl)
+
+pub come_origins : OriginsAreBySends the_sends (other_label the_print.label) printer no_past
+    (zero_state (printer ∷ sender ∷ [])) prints_what_came come_outcomes all_come
+unfolding serial_count counter_value
+come_origins = (
+  λ _ r _. refl,
+  λ _. refl,
+  (
+    λ mine. absurd (apart mine),
+    λ _. refl,
+    (
+      λ mine. absurd (apart mine),
+      λ _. refl,
+      (
+        λ mine. absurd (apart mine),
+        λ _. refl,
+        (λ _ r is. receive_brings r is, λ no. absurd (false≢true (sym no)), (λ _ r _. refl, λ _. refl, tt)),
+      ),
+    ),
+  ),
+)
+
+pub come_shown : (sends_to come_outcomes printer ≡ the_send ∷ [])
+    × (stamp_stream prints_what_came come_outcomes printer ≡ the_print ∷ [])
+    × (stamp_origins prints_what_came come_outcomes all_come printer ≡ Follows 0 ∷ [])
+unfolding serial_count counter_value
+come_shown = (refl, refl, refl)

@@ -15,7 +15,10 @@ pub mod Lasts
 pub mod NeedsAnyway
 pub mod Carried
 pub mod Follows
+pub mod Brings
+pub mod BySends
 pub mod Queues
+pub mod Sent
 pub mod Example
 -- what proofs of the crates above may cite
 pub mod ForCallers

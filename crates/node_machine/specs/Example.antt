@@ -1,14 +1,17 @@
 -- A run that keeps to all that the laws ask of one: a process prints twice, puts the token of the
 -- first print back, and prints again.
-use Rattle.std.specs.Prelude.{◌-◌, ◌^◌, true, false, List, [], ◌∷◌}
+use Rattle.std.specs.Prelude.{◌-◌, ◌^◌, true, false, List, [], ◌∷◌, Some, None}
 use Rattle.st_core.specs.declared.types.Pid.{Pid}
 use Rattle.st_core.specs.declared.types.Serial.{Serial}
 use Rattle.st_core.specs.declared.types.Token.{Token}
 use Rattle.st_core.specs.declared.types.Component.TheVariants as component
+use Rattle.st_core.specs.declared.types.Kind.TheVariants as kind
+use Rattle.st_core.specs.declared.types.Event.{Event}
 use Rattle.st_core.specs.declared.types.Act.TheVariants as act
 use Rattle.st_core.specs.declared.types.Want.TheVariants as want
 use Rattle.node_machine.specs.Node.{NodeAct, Common}
-use Rattle.node_machine.specs.Origins.{Home, TokenOrigin}
+use Rattle.node_machine.specs.Origins.{Follows, Home, TokenOrigin}
+use Rattle.node_machine.specs.ByMessages.{SendsTo}
 
 abbrev pub printer : Pid
 printer = record { node = 0; number = 1 }
@@ -57,3 +60,40 @@ wraps = Common (act.Tracer printer true) ∷ Common (act.Restore sender greatest
 abbrev pub wrapped_serials : List Serial
 wrapped_serials = record { prev = 0; this = 2 ^ 60 - 1 } ∷ record { prev = 2 ^ 60 - 1; this = 0 }
     ∷ record { prev = 0; this = 0 } ∷ record { prev = 0; this = 1 } ∷ []
+
+-- A run whose receive isn't reported: the sender sends to the printer, which takes the message and
+-- prints.
+abbrev pub prints_what_came : List NodeAct
+prints_what_came = Common (act.Tracer printer true)
+    ∷ Common (act.Set sender (component.Send true)) ∷ Common (act.Set sender (component.Print true))
+    ∷ Common (act.Send sender printer 5) ∷ Common (act.Receive printer want.First)
+    ∷ Common (act.Print printer 6) ∷ []
+
+-- the send, which is reported
+abbrev pub the_send : Event
+the_send = record {
+  label = record { 0 = 0 };
+  kind = kind.Send;
+  serial = record { prev = 0; this = 1 };
+  from = sender;
+  to = Some printer;
+  value = 5;
+}
+
+abbrev pub the_sends : SendsTo
+the_sends = record { gifts = the_send ∷ []; answers = [] }
+
+-- and the print
+abbrev pub the_print : Event
+the_print = record {
+  label = record { 0 = 0 };
+  kind = kind.Print;
+  serial = record { prev = 1; this = 2 };
+  from = printer;
+  to = None;
+  value = 6;
+}
+
+-- the printer's token came with the message
+abbrev pub all_come : List TokenOrigin
+all_come = Home ∷ Home ∷ Home ∷ Home ∷ Follows 0 ∷ Follows 0 ∷ []

@@ -7,4 +7,5 @@ pub mod Readings
 pub mod Given
 pub mod Ways
 pub mod Origins
+pub mod ByMessages
 pub mod Example

@@ -2,7 +2,7 @@
 //! functions that do nothing: each clause is a theorem over the definitions of `specs/`, and a
 //! proof that calls the function may use it.
 
-ghost use Rattle.std.specs.Prelude.{◌≡◌, ◌≢◌, ◌≤◌, ℕ, true, false, map, List, [], ◌∷◌, Some};
+ghost use Rattle.std.specs.Prelude.{◌≡◌, ◌≢◌, ◌≤◌, ◌<◌, ℕ, true, false, map, List, [], ◌∷◌, Some};
 ghost use Rattle.std.specs.Prelude.{slice_get, take};
 ghost use Rattle.st_core.specs.declared.types.Kind.TheVariants as kind;
 ghost use Rattle.st_core.specs.declared.types.Pid.{Pid};
@@ -10,12 +10,19 @@ ghost use Rattle.std.specs.List.{AllByRecursion, sum_by};
 ghost use Rattle.st_core.specs.Pid.{IsRising};
 ghost use Rattle.st_core.specs.State.{zero_state};
 ghost use Rattle.st_core.specs.Step.{Outcome};
-ghost use Rattle.node_machine.specs.Example.{all_home, printer, prints_again, sender};
+ghost use Rattle.st_core.specs.declared.types.Event.{Event};
+ghost use Rattle.node_machine.specs.ByMessages.{CanBySends, IsLastTaken, IsSuccessorOf, LabelRule};
+ghost use Rattle.node_machine.specs.ByMessages.{no_past, OriginsAreBySends, other_label};
+ghost use Rattle.node_machine.specs.ByMessages.{ReportsSendsTo, ReportsStamps, sends_to, SendsTo};
+ghost use Rattle.node_machine.specs.ByMessages.{stamp_origins, stamp_stream, TakesOnly};
+ghost use Rattle.node_machine.specs.Example.{all_come, all_home, printer, prints_again};
+ghost use Rattle.node_machine.specs.Example.{prints_what_came, sender, the_print, the_send};
+ghost use Rattle.node_machine.specs.Example.{the_sends};
 ghost use Rattle.node_machine.specs.Example.{wrapped_serials, wraps};
 ghost use Rattle.node_machine.specs.Given.{IsGiven, IsMet, is_given, strange_prevs};
 ghost use Rattle.node_machine.specs.Node.{NodeAct, Seen, node_run, seen_stream};
-ghost use Rattle.node_machine.specs.Origins.{AnswersComeNext, Can, Home, TokenOrigin, OriginsAre};
-ghost use Rattle.node_machine.specs.Origins.{origins_told};
+ghost use Rattle.node_machine.specs.Origins.{AnswersComeNext, Can, Follows, Home, OriginsAre};
+ghost use Rattle.node_machine.specs.Origins.{origins_told, TokenOrigin};
 ghost use Rattle.node_machine.specs.Premises.{IsAmong, NoNodeReset, PutsBackOwn, ReportsTaken};
 ghost use Rattle.node_machine.specs.Premises.{ReportsTokens};
 ghost use Rattle.node_machine.specs.Premises.{all_put_backs, places, put_backs};
@@ -86,6 +93,47 @@ pub fn an_origin_is_one_that_events_allow()
         → Can (seen_stream acts os p) i h }
 {}
 
+/// If a process reports each stamp, takes tokens only with messages that these sends sent, puts back
+/// only tokens of its own, and gives its tokens only labels that the rule allows, then of each of
+/// its stamps its stamps and the sends allow the origin that its token has. It may report no
+/// receive.
+pub fn a_token_comes_from_what_sends_allow()
+    ensures { (pids : List Pid) (acts : List NodeAct) (os : List Outcome)
+        → node_run pids acts ≡ Some os → NoNodeReset acts → (p : Pid)
+        → ReportsStamps p (zero_state pids) acts os
+        → (sent : SendsTo) (rule : LabelRule) (hs : List TokenOrigin)
+        → OriginsAreBySends sent rule p no_past (zero_state pids) acts os hs
+        → (i : ℕ) (e : Event) (h : TokenOrigin) → slice_get (stamp_stream acts os p) i ≡ Some e
+        → slice_get (stamp_origins acts os hs p) i ≡ Some h
+        → CanBySends sent rule (stamp_stream acts os p) i h }
+{}
+
+/// So if a stamp is the first with its label, and no message of these sends gives its token, that is
+/// from home, whatever labels its process gives.
+pub fn a_first_label_that_nothing_brings_is_at_home()
+    ensures { (sent : SendsTo) (rule : LabelRule) (es : List Event) (i : ℕ) (stamp : Event)
+        → slice_get es i ≡ Some stamp
+        → ((k : ℕ) (e : Event) → k < i → slice_get es k ≡ Some e → ¬ (e.label ≡ stamp.label))
+        → ((k : ℕ) → ¬ IsLastTaken sent es i k)
+        → ((k : ℕ) (e : Event) → slice_get sent.gifts k ≡ Some e → ¬ IsSuccessorOf e es i)
+        → (h : TokenOrigin) → CanBySends sent rule es i h → h ≡ Home }
+{}
+
+/// And if its process gives a stamp's label to no token, the stamp's token comes with a message.
+pub fn a_label_that_is_never_given_is_brought()
+    ensures { (sent : SendsTo) (es : List Event) (i : ℕ) (stamp : Event)
+        → slice_get es i ≡ Some stamp → (h : TokenOrigin)
+        → CanBySends sent (other_label stamp.label) es i h → (k : ℕ) × (h ≡ Follows k) }
+{}
+
+/// If each send of a token to a process is reported, the reported sends to it are those of all
+/// messages with which it takes one.
+pub fn reported_sends_are_all_that_is_taken()
+    ensures { (pids : List Pid) (acts : List NodeAct) (os : List Outcome)
+        → node_run pids acts ≡ Some os → (p : Pid) → ReportsSendsTo p (zero_state pids) acts os
+        → TakesOnly (sends_to os p) p (zero_state pids) acts os }
+{}
+
 /// If a process reports each receive of a token, whatever else it reports, and puts back only
 /// tokens of its own, the prev of each of its stamps is a last that its events before it show. Of
 /// its count nothing more can be said.
@@ -139,4 +187,18 @@ pub fn a_run_goes_through_the_wrap()
         × ReportsTokens printer (zero_state (printer ∷ sender ∷ [])) wraps os
         × PutsBackOwn printer [] (zero_state (printer ∷ sender ∷ [])) wraps os
         × (map (λ e. e.serial) (seen_stream wraps os printer) ≡ wrapped_serials) }
+{}
+
+/// A run can keep to all that the laws of unreported receives ask, for a process that gives its
+/// label to no token: here the sender's message brings the printer its token.
+pub fn a_run_takes_a_message_unreported()
+    ensures { (os : List Outcome) × (node_run (printer ∷ sender ∷ []) prints_what_came ≡ Some os)
+        × NoNodeReset prints_what_came
+        × ReportsStamps printer (zero_state (printer ∷ sender ∷ [])) prints_what_came os
+        × ReportsSendsTo printer (zero_state (printer ∷ sender ∷ [])) prints_what_came os
+        × OriginsAreBySends the_sends (other_label the_print.label) printer no_past
+        (zero_state (printer ∷ sender ∷ [])) prints_what_came os all_come
+        × (sends_to os printer ≡ the_send ∷ [])
+        × (stamp_stream prints_what_came os printer ≡ the_print ∷ [])
+        × (stamp_origins prints_what_came os all_come printer ≡ Follows 0 ∷ []) }
 {}
