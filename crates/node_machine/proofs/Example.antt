@@ -17,11 +17,14 @@ use Rattle.node_machine.specs.Premises.{NoNodeReset, put_backs, PutsBackOwn, Rep
 use Rattle.node_machine.specs.Readings.{NeedsAtLeast}
 use Rattle.node_machine.specs.Origins.{AnswersComeNext, Follows, Held, Home, OriginAfter}
 use Rattle.node_machine.specs.Origins.{OriginsAre}
+use Rattle.node_machine.specs.ByMessages.{CanBySends, clock_by_gift, gift_taken}
 use Rattle.node_machine.specs.ByMessages.{AfterTake, no_past, OriginsAreBySends, other_label}
 use Rattle.node_machine.specs.ByMessages.{ReportsSendsTo, ReportsStamps, sends_to, message_send}
 use Rattle.node_machine.specs.ByMessages.{stamp_origins, stamp_stream}
 use Rattle.node_machine.specs.Example.{all_come, all_home, first_token, printer, prints_again}
-use Rattle.node_machine.specs.Example.{prints_what_came, sender, the_print, the_send, the_sends}
+use Rattle.node_machine.specs.Example.{both_sends, other_send, other_sender, prints_what_came}
+use Rattle.node_machine.specs.Example.{reported_sends, second_comes, sender, sends_silently}
+use Rattle.node_machine.specs.Example.{the_print, the_send, the_sends, three}
 use Rattle.node_machine.specs.Example.{wrapped_serials, wraps}
 
 abbrev pub outcomes : List Outcome
@@ -316,3 +319,124 @@ pub come_shown : (sends_to come_outcomes printer ≡ the_send ∷ [])
     × (stamp_origins prints_what_came come_outcomes all_come printer ≡ Follows 0 ∷ [])
 unfolding serial_count counter_value
 come_shown = (refl, refl, refl)
+
+-- A SEND THAT ISN'T REPORTED
+
+abbrev pub silent_outcomes : List Outcome
+silent_outcomes = elim (node_run three sends_silently) as (λ _. List Outcome) [
+  | None ↦ []
+  | Some os ↦ os
+]
+
+pub silent_runs : node_run three sends_silently ≡ Some silent_outcomes
+unfolding serial_count counter_value
+silent_runs = refl
+
+-- the other isn't the printer either
+other_apart : other_sender ≡ printer → ⊥
+other_apart same = false≢true (ap (λ (p : Pid). p.number == 1) same)
+
+pub silent_stamps : ReportsStamps printer (zero_state three) sends_silently silent_outcomes
+unfolding serial_count counter_value
+silent_stamps = (
+  λ _ r _ stamps. absurd (false≢true stamps),
+  (
+    λ mine. absurd (apart mine),
+    (
+      λ mine. absurd (apart mine),
+      (
+        λ mine. absurd (other_apart mine),
+        (
+          λ mine. absurd (other_apart mine),
+          (λ _ r _ stamps. absurd (false≢true stamps), (λ _ r _ _. refl, tt)),
+        ),
+      ),
+    ),
+  ),
+)
+
+-- the printer before its receive
+abbrev before_second : Process
+before_second = record {
+  pid = printer;
+  local = record { token = None; clock = 0; last = 0; traced = true };
+  queue = record {
+    from = sender;
+    value = 5;
+    token = Some (record {
+      label = record { 0 = 0 };
+      flags = record { send = false; receive = false; print = true };
+      serial = record { prev = 0; this = 1 };
+      from = sender;
+    });
+  } ∷ record {
+    from = other_sender;
+    value = 7;
+    token = Some (record {
+      label = record { 0 = 0 };
+      flags = record { send = true; receive = false; print = false };
+      serial = record { prev = 0; this = 1 };
+      from = other_sender;
+    });
+  } ∷ [];
+}
+
+second_brings : (r : Process) → Some before_second ≡ Some r
+    → AfterTake both_sends.gifts (message_send r.pid (node_found (pick want.First r.queue))) Home
+    (Follows 1)
+unfolding serial_count counter_value
+second_brings r is =
+    subst (λ (x : Process). AfterTake both_sends.gifts
+    (message_send x.pid (node_found (pick want.First x.queue))) Home (Follows 1))
+    (same_Some before_second r is) (1, refl, refl)
+
+pub silent_origins : OriginsAreBySends both_sends (other_label the_print.label) printer no_past
+    (zero_state three) sends_silently silent_outcomes second_comes
+unfolding serial_count counter_value
+silent_origins = (
+  λ _ r _. refl,
+  λ _. refl,
+  (
+    λ mine. absurd (apart mine),
+    λ _. refl,
+    (
+      λ mine. absurd (apart mine),
+      λ _. refl,
+      (
+        λ mine. absurd (other_apart mine),
+        λ _. refl,
+        (
+          λ mine. absurd (other_apart mine),
+          λ _. refl,
+          (
+            λ _ r is. second_brings r is,
+            λ no. absurd (false≢true (sym no)),
+            (λ _ r _. refl, λ _. refl, tt),
+          ),
+        ),
+      ),
+    ),
+  ),
+)
+
+pub silent_shown : (sends_to silent_outcomes printer ≡ other_send ∷ [])
+    × (stamp_stream sends_silently silent_outcomes printer ≡ the_print ∷ [])
+    × (stamp_origins sends_silently silent_outcomes second_comes printer ≡ Follows 1 ∷ [])
+unfolding serial_count counter_value
+silent_shown = (refl, refl, refl)
+
+pub silent_can : CanBySends reported_sends (other_label the_print.label) (the_print ∷ []) 0
+    (Follows 0)
+unfolding serial_count
+silent_can = gift_taken 0 0 (record {
+  stamp = the_print;
+  is_stamp = refl;
+  gift = other_send;
+  at = refl;
+  label = refl;
+  prev = refl;
+  clock = 1;
+  shown = clock_by_gift other_send (inl refl);
+  count = refl;
+  lifted = inl (omega arith);
+})

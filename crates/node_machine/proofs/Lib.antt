@@ -17,6 +17,7 @@ pub mod Carried
 pub mod Follows
 pub mod Brings
 pub mod BySends
+pub mod Labels
 pub mod Queues
 pub mod Sent
 pub mod Example

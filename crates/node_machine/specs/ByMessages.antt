@@ -316,6 +316,21 @@ pub record IsAtHomeBySends (sent : SendsTo) (rule : LabelRule) (es : List Event)
       ⊎ ((token : Serial) × CanBeHeld sent front taken token
       × (token.prev ≡ stamp.serial.prev) × (stamp.serial.this ≡ stamp_count token.this))
 
+-- the stamp is the successor of a token that was held before the stamp at index k, and that no
+-- message with the stamp's label brought
+pub record IsEarlierToken (sent : SendsTo) (es : List Event) (stamp : Event) (k : ℕ) : Type 0 where
+  pub front : List Event
+  pub rest : List Event
+  pub split : es ≡ front ++ rest
+  pub within : length front ≤ k
+  pub taken : List Event
+  pub gifts : AllByRecursion (IsAmong sent.gifts) taken
+  pub others : AllByRecursion (λ e. ¬ (e.label ≡ stamp.label)) taken
+  pub token : Serial
+  pub held : CanBeHeld sent front taken token
+  pub prev : token.prev ≡ stamp.serial.prev
+  pub count : stamp.serial.this ≡ stamp_count token.this
+
 -- what the stamps of a process and the sends to it allow as the origin of the stamp at an index: a
 -- message that it took last; one whose token it put back; what is allowed of an earlier stamp with
 -- the token that it put back, or of the stamp right before, if that is the request of a spawn whose

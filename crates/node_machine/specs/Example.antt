@@ -97,3 +97,31 @@ the_print = record {
 -- the printer's token came with the message
 abbrev pub all_come : List TokenOrigin
 all_come = Home ∷ Home ∷ Home ∷ Home ∷ Follows 0 ∷ Follows 0 ∷ []
+
+-- A run in which a send isn't reported: the sender's message brings the printer its token, and the
+-- other's, which was reported, waits.
+abbrev pub other_sender : Pid
+other_sender = record { node = 0; number = 3 }
+
+abbrev pub three : List Pid
+three = printer ∷ sender ∷ other_sender ∷ []
+
+abbrev pub sends_silently : List NodeAct
+sends_silently = Common (act.Tracer printer true)
+    ∷ Common (act.Set sender (component.Print true)) ∷ Common (act.Send sender printer 5)
+    ∷ Common (act.Set other_sender (component.Send true))
+    ∷ Common (act.Send other_sender printer 7)
+    ∷ Common (act.Receive printer want.First) ∷ Common (act.Print printer 6) ∷ []
+
+abbrev pub other_send : Event
+other_send = record the_send { from = other_sender; value = 7 }
+
+-- both sends, and the reported one
+abbrev pub both_sends : SendsTo
+both_sends = record { gifts = other_send ∷ the_send ∷ []; answers = [] }
+
+abbrev pub reported_sends : SendsTo
+reported_sends = record { gifts = other_send ∷ []; answers = [] }
+
+abbrev pub second_comes : List TokenOrigin
+second_comes = Home ∷ Home ∷ Home ∷ Home ∷ Home ∷ Follows 1 ∷ Follows 1 ∷ []

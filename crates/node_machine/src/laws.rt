@@ -11,11 +11,14 @@ ghost use Rattle.st_core.specs.Pid.{IsRising};
 ghost use Rattle.st_core.specs.State.{zero_state};
 ghost use Rattle.st_core.specs.Step.{Outcome};
 ghost use Rattle.st_core.specs.declared.types.Event.{Event};
-ghost use Rattle.node_machine.specs.ByMessages.{CanBySends, IsLastTaken, IsSuccessorOf, LabelRule};
+ghost use Rattle.node_machine.specs.ByMessages.{CanBySends, IsAtHomeBySends, IsEarlierToken};
+ghost use Rattle.node_machine.specs.ByMessages.{IsLastTaken, IsSuccessorOf, LabelRule, new_label};
 ghost use Rattle.node_machine.specs.ByMessages.{no_past, OriginsAreBySends, other_label};
 ghost use Rattle.node_machine.specs.ByMessages.{ReportsSendsTo, ReportsStamps, sends_to, SendsTo};
 ghost use Rattle.node_machine.specs.ByMessages.{stamp_origins, stamp_stream, TakesOnly};
-ghost use Rattle.node_machine.specs.Example.{all_come, all_home, printer, prints_again};
+ghost use Rattle.node_machine.specs.Example.{all_come, all_home, both_sends, printer};
+ghost use Rattle.node_machine.specs.Example.{prints_again, reported_sends, second_comes};
+ghost use Rattle.node_machine.specs.Example.{sends_silently, three};
 ghost use Rattle.node_machine.specs.Example.{prints_what_came, sender, the_print, the_send};
 ghost use Rattle.node_machine.specs.Example.{the_sends};
 ghost use Rattle.node_machine.specs.Example.{wrapped_serials, wraps};
@@ -119,6 +122,15 @@ pub fn a_first_label_that_nothing_brings_is_at_home()
         → (h : TokenOrigin) → CanBySends sent rule es i h → h ≡ Home }
 {}
 
+/// And if each label that its process gives is new to it, a later stamp of a label is from home only
+/// if its token was held before the first one, and no message with the label brought it.
+pub fn a_new_label_is_given_before_its_stamps()
+    ensures { (sent : SendsTo) (es : List Event) (i k : ℕ) (stamp first : Event)
+        → slice_get es i ≡ Some stamp → k < i → slice_get es k ≡ Some first
+        → first.label ≡ stamp.label → IsAtHomeBySends sent new_label es i
+        → IsEarlierToken sent es stamp k }
+{}
+
 /// And if its process gives a stamp's label to no token, the stamp's token comes with a message.
 pub fn a_label_that_is_never_given_is_brought()
     ensures { (sent : SendsTo) (es : List Event) (i : ℕ) (stamp : Event)
@@ -201,4 +213,17 @@ pub fn a_run_takes_a_message_unreported()
         × (sends_to os printer ≡ the_send ∷ [])
         × (stamp_stream prints_what_came os printer ≡ the_print ∷ [])
         × (stamp_origins prints_what_came os all_come printer ≡ Follows 0 ∷ []) }
+{}
+
+/// And each send to the process has to be known: in this run one isn't reported, and what was
+/// reported allows the message of another, though the token came with its own.
+pub fn a_send_that_nobody_reports_misleads()
+    ensures { (os : List Outcome) × (node_run three sends_silently ≡ Some os)
+        × ReportsStamps printer (zero_state three) sends_silently os
+        × OriginsAreBySends both_sends (other_label the_print.label) printer no_past
+        (zero_state three) sends_silently os second_comes
+        × (sends_to os printer ≡ reported_sends.gifts)
+        × (stamp_stream sends_silently os printer ≡ the_print ∷ [])
+        × (stamp_origins sends_silently os second_comes printer ≡ Follows 1 ∷ [])
+        × CanBySends reported_sends (other_label the_print.label) (the_print ∷ []) 0 (Follows 0) }
 {}

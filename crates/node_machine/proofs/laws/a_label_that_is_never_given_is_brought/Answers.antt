@@ -1,6 +1,6 @@
 -- The lemma says it.
 use Rattle.std.proofs.Common.{refl}
-use Rattle.node_machine.proofs.BySends.{gift_brings}
+use Rattle.node_machine.proofs.Labels.{gift_brings}
 use Rattle.node_machine.proofs.laws.a_label_that_is_never_given_is_brought.Goals as goal
 
 pub returns : goal.returns
