@@ -21,7 +21,8 @@ use Rattle.st_core.specs.Report.{token_event}
 use Rattle.st_core.specs.State.{Process, State, process}
 use Rattle.st_core.specs.Step.{Outcome}
 use Rattle.node_machine.specs.Counts.{answer_count, node_token, serial_count, stamp_count}
-use Rattle.node_machine.specs.Node.{Answer, Common, machine_act, node_actor, node_found, NodeAct}
+use Rattle.node_machine.specs.Node.{Answer, Common, is_answer, machine_act, node_actor}
+use Rattle.node_machine.specs.Node.{node_found, NodeAct}
 use Rattle.node_machine.specs.Premises.{IsAmong}
 use Rattle.node_machine.specs.Given.{fresh}
 use Rattle.node_machine.specs.Origins.{AfterRestore, AfterSet, Follows, Held, held_in, Home}
@@ -92,10 +93,15 @@ message_send p None = []
 message_send p (Some found) =
     option_to_list (option_map (λ t. token_event kind.Send t (Some p) found.1.value) found.1.token)
 
--- the send of the message whose token an act takes
+-- the send of the message that an act takes, if that has a token
+abbrev pub message_of : Process → NodeAct → List Event
+message_of r (Common (act.Receive p w)) = message_send r.pid (node_found (pick w r.queue))
+message_of r (Answer p place) = message_send r.pid (node_found (pick (want.Place place) r.queue))
+message_of r a = []
+
+-- an answer's token isn't taken
 abbrev pub taken_by : Process → NodeAct → List Event
-taken_by r (Common (act.Receive p w)) = message_send r.pid (node_found (pick w r.queue))
-taken_by r a = []
+taken_by r a = if is_answer a then [] else message_of r a
 
 abbrev pub taken_found : Option Process → NodeAct → List Event
 taken_found found a = elim found [ None ↦ [] | Some r ↦ taken_by r a ]
@@ -150,10 +156,9 @@ AfterAnswer answers asked (e ∷ es) before now = (now ≡ before) × IsAmong an
 abbrev pub OriginBySends : SendsTo → LabelRule → Past → List Held → Process → NodeAct → TokenOrigin
     → Type 0
 OriginBySends sent rule past held r (Common (act.Receive p w)) now =
-    AfterTake sent.gifts (message_send r.pid (node_found (pick w r.queue))) past.origin now
+    AfterTake sent.gifts (message_of r (Common (act.Receive p w))) past.origin now
 OriginBySends sent rule past held r (Answer p place) now =
-    AfterAnswer sent.answers past.asked
-    (message_send r.pid (node_found (pick (want.Place place) r.queue))) past.origin now
+    AfterAnswer sent.answers past.asked (message_of r (Answer p place)) past.origin now
 OriginBySends sent rule past held r (Common (act.Set p c)) now =
     AfterSet (MayGive rule past) r.pid r.local r.local.token c past.origin now
 OriginBySends sent rule past held r (Common (act.Restore p t)) now =
@@ -210,13 +215,7 @@ abbrev pub sends_to : List Outcome → Pid → List Event
 sends_to [] p = []
 sends_to (o ∷ os) p = send_to p o.report ++ sends_to os p
 
--- the send of the message that an act takes, an answer or not, if that has a token
-abbrev pub message_of : Process → NodeAct → List Event
-message_of r (Common (act.Receive p w)) = message_send r.pid (node_found (pick w r.queue))
-message_of r (Answer p place) = message_send r.pid (node_found (pick (want.Place place) r.queue))
-message_of r a = []
-
--- those that p takes in a run from s are among these
+-- the sends of all messages with a token that p takes in a run from s, answers too, are among these
 abbrev pub TakesOnly : List Event → Pid → State → List NodeAct → List Outcome → Type 0
 TakesOnly sends p s [] os = Unit {0}
 TakesOnly sends p s (a ∷ acts) [] = Unit {0}
