@@ -96,10 +96,10 @@ pub fn an_origin_is_one_that_events_allow()
         → Can (seen_stream acts os p) i h }
 {}
 
-/// If a process reports each stamp, takes tokens only with messages that these sends sent, puts back
-/// only tokens of its own, and gives its tokens only labels that the rule allows, then of each of
-/// its stamps its stamps and the sends allow the origin that its token has. It may report no
-/// receive.
+/// If a process reports each stamp, takes tokens only with messages of these sends, puts back only
+/// tokens of its own, and gives its tokens only labels that the rule allows, then its stamps and the
+/// sends allow the origin of each stamp's token. It may report no receive. So if they allow one
+/// message alone, that is the one that brought it.
 pub fn a_token_comes_from_what_sends_allow()
     ensures { (pids : List Pid) (acts : List NodeAct) (os : List Outcome)
         → node_run pids acts ≡ Some os → NoNodeReset acts → (p : Pid)
@@ -111,7 +111,7 @@ pub fn a_token_comes_from_what_sends_allow()
         → CanBySends sent rule (stamp_stream acts os p) i h }
 {}
 
-/// So if a stamp is the first with its label, and no message of these sends gives its token, that is
+/// So if a stamp is the first with its label, and no message of these sends gives its token, it is
 /// from home, whatever labels its process gives.
 pub fn a_first_label_that_nothing_brings_is_at_home()
     ensures { (sent : SendsTo) (rule : LabelRule) (es : List Event) (i : ℕ) (stamp : Event)
