@@ -6,7 +6,7 @@ use Rattle.std.proofs.Common.{is_none, is_some, slice_get, refl, sym, ◌∙◌,
 use Rattle.std.proofs.Common.{◌==◌, ◌&&◌, ◌||◌, nat_lt, not, subst, arith}
 use Rattle.std.proofs.Common.{option_and_then}
 use Rattle.std.proofs.lemmas.Bool.{and_parts, false≢true, eq-eqb, eqb-true, and_from}
-use Rattle.std.proofs.lemmas.Option.{none-some, same_Some, option_and_then_some}
+use Rattle.std.proofs.lemmas.Option.{cond_some, none-some, option_and_then_some, same_Some}
 use Rattle.std.proofs.lemmas.Bool.Decides.{nat_tests}
 use Rattle.st_core.specs.declared.types.Pid.{Pid}
 use Rattle.st_core.specs.declared.types.Kind.{Kind}
@@ -65,12 +65,7 @@ own_at (x ∷ streams) p i e own at =
 
 -- WHAT RULES SAY
 
-pub given_if : {X : Type 0} (b : Bool) (y x : X) → cond b (Some y) None ≡ Some x → (b ≡ true)
-    × (y ≡ x)
-given_if true y x h = (refl, same_Some y x h)
-given_if false y x h = absurd (none-some x h)
-
-pub given_unless : {X : Type 0} (a b : Bool) (y x : X) → cond a None (cond b (Some y) None) ≡ Some x
+given_unless : {X : Type 0} (a b : Bool) (y x : X) → cond a None (cond b (Some y) None) ≡ Some x
     → (a ≡ false) × (b ≡ true) × (y ≡ x)
 given_unless true b y x h = absurd (none-some x h)
 given_unless false true y x h = (refl, refl, same_Some y x h)
@@ -214,7 +209,7 @@ module _ (streams : List Stream) (rising : IsRising (pids_of streams)) (fit : Fi
         (stamp_of streams e.from e.serial.this) x h (λ f is rest.
         let found = given_from (own_rule e.serial.this) e.from 0 (events_of streams e.from) f is in
         let g = found.1 in
-        let says = given_if (is_stamp g && g.serial.this == e.serial.this) (0 + found.0, g) f
+        let says = cond_some (is_stamp g && g.serial.this == e.serial.this) (0 + found.0, g) f
         found.3 in
         let parts = and_parts (is_stamp g) (g.serial.this == e.serial.this) says.0 in
         let passes : test (is_stamp e) f ≡ true = elim (is_stamp e)
@@ -257,7 +252,7 @@ pub stamp_if : (streams : List Stream) (q : Pid) (v : ℕ) (f : ℕ × Event)
 stamp_if streams q v f is =
     let found = given_from (own_rule v) q 0 (events_of streams q) f is in
     let g = found.1 in
-    let says = given_if (is_stamp g && g.serial.this == v) (0 + found.0, g) f found.3 in
+    let says = cond_some (is_stamp g && g.serial.this == v) (0 + found.0, g) f found.3 in
     let parts = and_parts (is_stamp g) (g.serial.this == v) says.0 in (
       record {
         index = found.0;

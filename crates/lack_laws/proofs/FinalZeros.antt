@@ -102,7 +102,7 @@ zero_never before (d ∷ es) along (suc j) (suc i) f e less at_f some at stamps 
 
 -- PARTS OF LISTS
 
-taken_at : {A : Type 0} (xs : List A) (i j : ℕ) (x : A) → slice_get (take i xs) j ≡ Some x
+pub taken_at : {A : Type 0} (xs : List A) (i j : ℕ) (x : A) → slice_get (take i xs) j ≡ Some x
     → (slice_get xs j ≡ Some x) × (j < i)
 taken_at xs zero j x at = absurd (none-some x at)
 taken_at [] (suc i) j x at = absurd (none-some x at)

@@ -10,6 +10,10 @@ pub use Rattle.lack_laws.proofs.ToldEvents.{event_of_mark, events, events_all, e
 pub use Rattle.lack_laws.proofs.ToldEvents.{go_on, told_at, GoOn}
 pub use Rattle.lack_laws.proofs.FinalZeros.{in_all, tells}
 pub use Rattle.lack_laws.proofs.NeedlessStreams.{above_if}
+-- ---- items of lists
+pub use Rattle.lack_laws.proofs.InsertedEvents.{all_from}
+pub use Rattle.lack_laws.proofs.FinalZeros.{taken_at}
+pub use Rattle.lack_laws.proofs.SilentSenders.{at_front, at_seam}
 -- ---- lists of counts that rise
 pub use Rattle.lack_laws.proofs.Ranks.{AllAbove, Climbs, IsIn, above_in, insert_climbs}
 -- ---- streams with further processes that report nothing

@@ -17,7 +17,7 @@ use Rattle.st_core.proofs.ForCallers.{pid_eq-refl, pid_same, are_own, AreReports
 use Rattle.st_core.proofs.ForCallers.{names_among_listed, unlisted_none, lists_among}
 use Rattle.st_pair.specs.Places.{event_at, is_stamp}
 use Rattle.st_pair.specs.Pairing.{agrees}
-use Rattle.st_pair.proofs.ForCallers.{events_in}
+use Rattle.st_pair.proofs.ForCallers.{events_in, listed_if}
 use Rattle.st_order.proofs.ForCallers.{all_found, AreFound}
 use Rattle.st_plan.proofs.ForCallers.{named}
 use Rattle.lack_laws.proofs.AcceptedStreams.{FitTogether, own_at}
@@ -67,8 +67,7 @@ others_with p i r (x ∷ streams) q other =
 pub listed_at : (streams : List Stream) (q : Pid) (k : ℕ) (e : Event)
     → event_at streams q k ≡ Some e
     → lists streams q ≡ true
-listed_at streams q k e at = elim (stream_of streams q) as (λ o. slice_get (events_in o) k ≡ Some e
-    → is_some o ≡ true) [ None ↦ λ at. absurd (none-some e at) | Some x ↦ λ at. refl ] at
+listed_at streams q k e at = lists_among streams q ∙ listed_if streams q k e at
 
 pub unlisted_events : (streams : List Stream) (q : Pid) → lists streams q ≡ false
     → events_of streams q ≡ []

@@ -317,13 +317,13 @@ left_none (d ∷ []) each =
     sym (leaves d) ∙ ap (λ b. cond (not b) d.serial.this d.serial.prev) here.0 ∙ here.1
 left_none (d ∷ f ∷ es) each = left_none (f ∷ es) (λ j g at. each (suc j) g at)
 
-at_front : (front rest : List Event) (j : ℕ) (d : Event) → slice_get front j ≡ Some d
+pub at_front : {A : Type 0} (front rest : List A) (j : ℕ) (d : A) → slice_get front j ≡ Some d
     → slice_get (front ++ rest) j ≡ Some d
 at_front [] rest j d at = absurd (none-some d at)
 at_front (e ∷ front) rest zero d at = at
 at_front (e ∷ front) rest (suc j) d at = at_front front rest j d at
 
-at_seam : (front rest : List Event) (e : Event)
+pub at_seam : {A : Type 0} (front rest : List A) (e : A)
     → slice_get (front ++ e ∷ rest) (length front) ≡ Some e
 at_seam [] rest e = refl
 at_seam (d ∷ front) rest e = at_seam front rest e
