@@ -4,11 +4,12 @@ pub mod Leaving
 pub mod ToldEvents
 -- The lemmas on what streams need.
 pub mod Flawed
+pub mod Passed
 pub mod Counted
 pub mod Ranking
 pub mod ZeroBehind
 pub mod Noted
-pub mod Merging
+pub mod SilentPids
 -- The lemmas on what happened in every run.
 pub mod LostReceives
 pub mod CertainLosses

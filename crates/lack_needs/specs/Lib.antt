@@ -6,9 +6,8 @@ pub mod Flaws
 pub mod AllRuns
 pub mod Losses
 -- For the parts alone: where a test holds first; all counts in turn; which stamps with prev 0
--- can't begin a trace; which sources are hidden; and streams with other processes among them.
+-- can't begin a trace; and which sources are hidden.
 pub mod Places
 pub mod Counts
 pub mod Unfounded
-pub mod Merged
 pub mod Hidden

@@ -1,12 +1,11 @@
 //! Streams with further processes that report nothing.
 
-ghost use Rattle.std.specs.Prelude.{◌≡◌, ◌∷◌, ◌++◌, [], drop, false, not, true, IfOk, OnOk};
+ghost use Rattle.std.specs.Prelude.{◌≡◌, ◌∷◌, ◌++◌, [], false, not, true, IfOk, OnOk};
 ghost use Rattle.std.specs.List.{AllByRecursion};
 ghost use Rattle.st_core.specs.Pid.{IsRising};
 ghost use Rattle.st_core.specs.Run.{pids_of};
 ghost use Rattle.st_core.specs.Streams.{is_own, lists, ComesLast};
 ghost use Rattle.lack_laws.specs.Silent.{with_silent};
-ghost use Rattle.lack_needs.specs.Merged.{is_other_next};
 
 use crate::ranks::{add_own, close_draft, open_last};
 use st_core::{Draft, Event, Pid, Streams};
@@ -23,39 +22,16 @@ pub fn is_unlisted(streams: &Streams, pid: Pid) -> bool
     }
 }
 
-/// Whether one of the others comes next, if these processes and these others came.
-fn is_other_next(pids: &[Pid], taken: usize, others: &[Pid], added: usize) -> bool
-    ensures { result ≡ is_other_next (drop taken pids.now) (drop added others.now) }
-{
-    if added >= others.len() {
-        return false;
-    }
-    if taken >= pids.len() {
-        return true;
-    }
-    others[added] < pids[taken]
-}
-
 /// The pids of the streams and of these processes, all by rising pid.
 pub fn pids_with(alloc: Global, streams: &Streams, others: &[Pid]) -> Result<Vec<Pid>, AllocError>
     requires apart { AllByRecursion (λ q. lists streams.now q ≡ false) others.now }
     requires rising { IsRising others.now }
     ensures { IfOk result (λ pids. pids.items ≡ pids_of (with_silent streams.now others.now)) }
 {
-    let pids = streams.pids();
-    let mut all = Vec::new(alloc);
-    let mut added: usize = 0;
-    let mut taken: usize = 0;
-    for _ in 0..pids.len() + others.len() {
-        if is_other_next(pids, taken, others, added) {
-            all.push(others[added])?;
-            added += 1;
-        } else {
-            all.push(pids[taken])?;
-            taken += 1;
-        }
-    }
-    Ok(all)
+    let mut pids = Vec::from_slice(alloc, streams.pids())?;
+    pids.extend_from_slice(others)?;
+    pids.sort()?;
+    Ok(pids)
 }
 
 /// Adds a process that comes last, with these events.
@@ -79,19 +55,11 @@ pub fn with_silent(alloc: Global, streams: &Streams, others: &[Pid]) -> Result<S
     requires rising { IsRising others.now }
     ensures { IfOk result (λ more. more ≡ with_silent streams.now others.now) }
 {
-    let pids = streams.pids();
+    let _pids = streams.pids();
+    let pids = pids_with(alloc, streams, others)?;
     let mut draft = Draft::new(alloc);
-    let mut added: usize = 0;
-    let mut taken: usize = 0;
-    for _ in 0..pids.len() + others.len() {
-        if is_other_next(pids, taken, others, added) {
-            open_last(&mut draft, others[added])?;
-            added += 1;
-        } else {
-            let pid = pids[taken];
-            add_process(&mut draft, pid, streams.events(pid))?;
-            taken += 1;
-        }
+    for &pid in &pids {
+        add_process(&mut draft, pid, streams.events(pid))?;
     }
     Ok(close_draft(draft))
 }

@@ -1,6 +1,7 @@
--- The processes that came, and those that are left, are all in turn.
-use Rattle.lack_needs.proofs.Merging.{IsMerging}
+-- The draft has the processes that were taken.
+use Rattle.std.proofs.Common.{◌≡◌, take}
+use Rattle.lack_laws.specs.Silent.{with_silent}
 use Rattle.lack_needs.proofs.silent.with_silent.Given as goal
 
-abbrev pub invariant-loop : goal.invariant-loop
-invariant-loop l = IsMerging l.fn.streams l.fn.others l.counter l.draft l.taken l.added
+abbrev pub invariant-loop-pid : goal.invariant-loop-pid
+invariant-loop-pid l = l.draft ≡ take l.pid-index (with_silent l.fn.streams l.fn.others)
