@@ -3,7 +3,7 @@ use Rattle.std.proofs.Common.{◌≡◌, ℕ, ◌+◌, ◌<◌, suc, Bool, true,
 use Rattle.std.proofs.Common.{get_or, take, drop, slice_get, Option, None, Some, refl, sym, ◌∙◌, ap}
 use Rattle.std.proofs.Common.{subst, arith}
 use Rattle.std.proofs.lemmas.Bool.{false≢true}
-use Rattle.std.proofs.lemmas.Option.{same_Some}
+use Rattle.std.proofs.lemmas.Option.{cond_some, none-some}
 use Rattle.st_core.specs.declared.types.Pid.{Pid}
 use Rattle.st_core.specs.declared.types.Event.{Event}
 use Rattle.st_core.specs.Pid.{IsRising}
@@ -87,21 +87,9 @@ module _ (rule : Pid → ℕ → Event
       far ∙ first-loop rule streams rising pids k d are within
       ∙ ap (λ (o : Option (Pid × ℕ)). or_else o (first rule (drop (k + 1) streams))) from
 
-none_some : {X : Type 0} (x : X) → None ≡ Some x → ⊥
-none_some x is = absurd (cc)
-
--- A test that gives the place of an event holds of it.
-abbrev place : Pid → ℕ → Pid × ℕ
-place p i = (p, i)
-
-gives_true : (b : Bool) (p q : Pid) (i j : ℕ)
-    → (let o : Option (Pid × ℕ) = cond b (Some (q, j)) None in o) ≡ Some (p, i)
-    → (b ≡ true) × (place q j ≡ place p i)
-gives_true true p q i j is = (refl, same_Some (q, j) (p, i) is)
-gives_true false p q i j is = absurd (none_some (p, i) is)
-
-none_false : (b : Bool) (x : Pid × ℕ) → cond b (Some x) None ≡ None → b ≡ false
-none_false true x is = absurd (none_some x (sym is))
+-- a test that gives no place doesn't hold
+pub none_false : {X : Type 0} (b : Bool) (x : X) → cond b (Some x) None ≡ None → b ≡ false
+none_false true x is = absurd (none-some x (sym is))
 none_false false x is = refl
 
 -- what a test gives first is the least place at which it holds
@@ -110,8 +98,8 @@ pub least_there : (test : List Event → Event → Bool) (streams : List Stream)
     → IsLeastPlace (HoldsAt test streams) p i
 least_there test streams p i rising is =
     let l = first_least (flaw_place test streams) streams (p, i) rising is in
-    let given = gives_true (test (take l.index (events_of streams l.pid)) l.event) p l.pid i l.index
-    l.gives in
+    let given = cond_some (test (take l.index (events_of streams l.pid)) l.event) (l.pid, l.index)
+    (p, i) l.gives in
     subst (λ (x : Pid × ℕ). IsLeastPlace (HoldsAt test streams) x.0 x.1) given.1 (record {
       holds = record { event = l.event; at = l.at; holds = given.0 };
       least = λ q j earlier h. false≢true (sym (none_false

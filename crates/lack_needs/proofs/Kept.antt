@@ -1,8 +1,8 @@
 -- Streams and their marks are whole streams: their events are those of the streams, and
 -- the marks of a process are those at its place.
-use Rattle.std.proofs.Common.{◌≡◌, ℕ, zero, suc, ◌≤◌, Bool, true, false, cond, List, [], ◌∷◌, map}
-use Rattle.std.proofs.Common.{length, slice_get, get_or, find, Option, Some, None, option_map, refl}
-use Rattle.std.proofs.Common.{sym, ◌∙◌, ap, arith}
+use Rattle.std.proofs.Common.{◌≡◌, ℕ, zero, suc, Bool, true, false, cond, List, [], ◌∷◌, map}
+use Rattle.std.proofs.Common.{slice_get, get_or, find, Option, Some, None, option_map, refl}
+use Rattle.std.proofs.Common.{sym, ◌∙◌, ap, drop}
 use Rattle.std.specs.List.{AllByRecursion}
 use Rattle.std.proofs.lemmas.Option.{same_Some}
 use Rattle.st_core.specs.declared.types.Pid.{Pid}
@@ -22,20 +22,28 @@ all_events [] ms = refl
 all_events (e ∷ es) [] = ap (λ xs. e ∷ xs) (all_events es [])
 all_events (e ∷ es) (b ∷ ms) = ap (λ xs. e ∷ xs) (all_events es ms)
 
+-- the first process has the first marks, and the others the rest
+pub wholes_next : (x : Stream) (streams : List Stream) (lists : List (List Bool))
+    → wholes_with (x ∷ streams) lists
+    ≡ record { pid = x.pid; marked = marked_with x.events (get_or lists 0 []) }
+    ∷ wholes_with streams (drop 1 lists)
+wholes_next x streams [] = refl
+wholes_next x streams (ms ∷ lists) = refl
+
+pub marks_later : (lists : List (List Bool)) (k : ℕ)
+    → get_or (drop 1 lists) k [] ≡ get_or lists (suc k) []
+marks_later [] k = refl
+marks_later (ms ∷ lists) k = refl
+
 -- all events are those of the streams
 pub all_kept : (streams : List Stream) (lists : List (List Bool))
     → all_streams (wholes_with streams lists) ≡ streams
 all_kept [] lists = refl
-all_kept (x ∷ streams) [] =
-    ap (λ es. let y : Stream = record { pid = x.pid; events = es } in
-    y ∷ all_streams (wholes_with streams []))
-    (all_events x.events [])
-    ∙ ap (λ ys. x ∷ ys) (all_kept streams [])
-all_kept (x ∷ streams) (ms ∷ lists) =
-    ap (λ es. let y : Stream = record { pid = x.pid; events = es } in
-    y ∷ all_streams (wholes_with streams lists))
-    (all_events x.events ms)
-    ∙ ap (λ ys. x ∷ ys) (all_kept streams lists)
+all_kept (x ∷ streams) lists =
+    ap all_streams (wholes_next x streams lists)
+    ∙ ap (λ es. let y : Stream = record { pid = x.pid; events = es } in
+    y ∷ all_streams (wholes_with streams (drop 1 lists))) (all_events x.events (get_or lists 0 []))
+    ∙ ap (λ ys. x ∷ ys) (all_kept streams (drop 1 lists))
 
 -- the mark of an event, if it is there
 pub mark_read : (es : List Event) (ms : List Bool) (i : ℕ)
@@ -53,6 +61,19 @@ marked_in o = elim o [ None ↦ [] | Some w ↦ w.marked ]
 abbrev found : Pid → List Whole → Option Whole
 found p wholes = find (λ (w : Whole). pid_eq w.pid p) wholes
 
+-- those of the first process, or of one of the others
+first_kept : (x : Stream) (streams : List Stream) (lists : List (List Bool)) (p : Pid) (b : Bool)
+    → pid_eq x.pid p ≡ b → marked_of (wholes_with (x ∷ streams) lists) p
+    ≡ cond b (marked_with x.events (get_or lists 0 []))
+    (marked_of (wholes_with streams (drop 1 lists)) p)
+first_kept x streams lists p b is =
+    let w : Whole = record { pid = x.pid; marked = marked_with x.events (get_or lists 0 []) } in
+    let others = found p (wholes_with streams (drop 1 lists)) in
+    ap (λ ws. marked_of ws p) (wholes_next x streams lists)
+    ∙ ap (λ c. marked_in (cond c (Some w) others)) is
+    ∙ elim b as (λ c. marked_in (cond c (Some w) others) ≡ cond c w.marked (marked_in others))
+    [ true ↦ refl | false ↦ refl ]
+
 -- the marked events of the process at a place
 pub marked_kept : (streams : List Stream) (lists : List (List Bool)) (k : ℕ) (p : Pid)
     → IsRising (pids_of streams)
@@ -60,47 +81,24 @@ pub marked_kept : (streams : List Stream) (lists : List (List Bool)) (k : ℕ) (
     → marked_of (wholes_with streams lists) p ≡ marked_with (events_of streams p)
     (get_or lists k [])
 marked_kept [] lists k p rising at = absurd (cc)
-marked_kept (x ∷ streams) [] zero p rising at =
+marked_kept (x ∷ streams) lists zero p rising at =
     let same : pid_eq x.pid p ≡ true = ap (λ q. pid_eq q p) (same_Some x.pid p at)
     ∙ pid_eq-refl p in
-    ap (λ b. marked_in (cond b (Some (record { pid = x.pid; marked = marked_with x.events [] }))
-    (found p (wholes_with streams [])))) same
-    ∙ sym (ap (λ b. marked_with (events_in (cond b (Some x) (stream_of streams p))) []) same)
-marked_kept (x ∷ streams) (ms ∷ lists) zero p rising at =
-    let same : pid_eq x.pid p ≡ true = ap (λ q. pid_eq q p) (same_Some x.pid p at)
-    ∙ pid_eq-refl p in
-    ap (λ b. marked_in (cond b (Some (record { pid = x.pid; marked = marked_with x.events ms }))
-    (found p (wholes_with streams lists)))) same
-    ∙ sym (ap (λ b. marked_with (events_in (cond b (Some x) (stream_of streams p))) ms) same)
-marked_kept (x ∷ streams) [] (suc k) p rising at =
-    let other = above_apart (pids_of streams) x.pid p k rising.0 at in
-    ap (λ b. marked_in (cond b (Some (record { pid = x.pid; marked = marked_with x.events [] }))
-    (found p (wholes_with streams [])))) other
-    ∙ marked_kept streams [] k p rising.1 at
-    ∙ sym (ap (λ b. marked_with (events_in (cond b (Some x) (stream_of streams p))) []) other)
-marked_kept (x ∷ streams) (ms ∷ lists) (suc k) p rising at =
-    let other = above_apart (pids_of streams) x.pid p k rising.0 at in
-    ap (λ b. marked_in (cond b (Some (record { pid = x.pid; marked = marked_with x.events ms }))
-    (found p (wholes_with streams lists)))) other
-    ∙ marked_kept streams lists k p rising.1 at
+    first_kept x streams lists p true same
     ∙ sym (ap (λ b. marked_with (events_in (cond b (Some x) (stream_of streams p)))
-    (get_or lists k [])) other)
+    (get_or lists 0 [])) same)
+marked_kept (x ∷ streams) lists (suc k) p rising at =
+    let other = above_apart (pids_of streams) x.pid p k rising.0 at in
+    first_kept x streams lists p false other
+    ∙ marked_kept streams (drop 1 lists) k p rising.1 at
+    ∙ ap (marked_with (events_of streams p)) (marks_later lists k)
+    ∙ sym (ap (λ b. marked_with (events_in (cond b (Some x) (stream_of streams p)))
+    (get_or lists (suc k) [])) other)
 
 pub marked_missing : (streams : List Stream) (lists : List (List Bool)) (p : Pid)
     → AllByRecursion (λ q. pid_eq q p ≡ false) (pids_of streams)
     → marked_of (wholes_with streams lists) p ≡ []
 marked_missing [] lists p missing = refl
-marked_missing (x ∷ streams) [] p missing =
-    ap (λ b. marked_in (cond b (Some (record { pid = x.pid; marked = marked_with x.events [] }))
-    (found p (wholes_with streams [])))) missing.0
-    ∙ marked_missing streams [] p missing.1
-marked_missing (x ∷ streams) (ms ∷ lists) p missing =
-    ap (λ b. marked_in (cond b (Some (record { pid = x.pid; marked = marked_with x.events ms }))
-    (found p (wholes_with streams lists)))) missing.0
-    ∙ marked_missing streams lists p missing.1
-
--- past the end there is none
-pub past_end : (es : List Event) (i : ℕ) → length es ≤ i → slice_get es i ≡ None
-past_end [] i past = refl
-past_end (e ∷ es) zero past = absurd (omega arith)
-past_end (e ∷ es) (suc i) past = past_end es i (omega arith)
+marked_missing (x ∷ streams) lists p missing =
+    first_kept x streams lists p false missing.0
+    ∙ marked_missing streams (drop 1 lists) p missing.1

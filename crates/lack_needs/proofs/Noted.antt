@@ -1,28 +1,29 @@
 -- The lowest count of each process is noted at its place. An event tells of a stamp of one process,
 -- so its count alone changes; and the lowest of events is that of those before with the one of the
 -- last.
-use Rattle.std.proofs.Common.{◌≡◌, ◌≢◌, ℕ, zero, suc, ◌+◌, ◌<◌, ◌≤◌, ◌&&◌, ◌||◌, not, nat_lt, Bool}
+use Rattle.std.proofs.Common.{◌≡◌, ◌≢◌, ℕ, zero, suc, ◌+◌, ◌<◌, ◌&&◌, ◌||◌, not, nat_lt, Bool}
 use Rattle.std.proofs.Common.{true, false, cond, List, [], ◌∷◌, ◌++◌, length, take, get_or}
 use Rattle.std.proofs.Common.{slice_get, slice_set, Option, Some, None, inl, inr, refl, sym, ◌∙◌}
-use Rattle.std.proofs.Common.{ap, subst, arith}
+use Rattle.std.proofs.Common.{ap, subst, arith, replicate}
 use Rattle.std.specs.List.{AllByRecursion}
-use Rattle.std.proofs.lemmas.List.{length-append}
+use Rattle.std.proofs.lemmas.List.{length-replicate}
 use Rattle.std.proofs.lemmas.Bool.{cases_lt, false≢true, lt-ltb}
-use Rattle.std.proofs.lemmas.Option.{get_or_from_slice_get, none-some, same_Some, slice_get_within}
+use Rattle.std.proofs.lemmas.Option.{get_or_from_slice_get, same_Some, slice_get_within}
 use Rattle.st_core.specs.declared.types.Pid.{Pid}
 use Rattle.st_core.specs.declared.types.Event.{Event}
-use Rattle.st_core.specs.Pid.{pid_eq, IsBelow, IsRising}
+use Rattle.st_core.specs.Pid.{pid_eq, IsRising}
 use Rattle.st_core.specs.Run.{Stream}
-use Rattle.st_core.proofs.ForCallers.{all_at, and_false, not_below_itself, pid_eq-refl, pid_eq-swap}
+use Rattle.st_core.proofs.ForCallers.{all_at, and_false, pid_eq-refl, pid_eq-swap}
 use Rattle.st_core.proofs.ForCallers.{pid_same, or_false}
 use Rattle.st_pair.specs.Places.{is_stamp}
 use Rattle.st_plan.proofs.ForCallers.{take_more}
 use Rattle.lack_needs.specs.Unfounded.{has_receive, lower_count, lowest_from, lowest_in}
 use Rattle.lack_needs.specs.Unfounded.{lowest_with, IsNoted}
+use Rattle.lack_needs.proofs.Passed.{one_place}
 
 -- ONE EVENT MORE
 
-or_assoc : (a b c : Bool) → (a || (b || c)) ≡ ((a || b) || c)
+pub or_assoc : (a b c : Bool) → (a || (b || c)) ≡ ((a || b) || c)
 or_assoc true b c = refl
 or_assoc false b c = refl
 
@@ -86,33 +87,6 @@ set_long : {X : Type 0} (xs : List X) (i : ℕ) (x : X) → length (slice_set xs
 set_long [] i x = refl
 set_long (y ∷ xs) zero x = refl
 set_long (y ∷ xs) (suc i) x = ap suc (set_long xs i x)
-
--- rising pids occur once
-one_place : (ps : List Pid) (i j : ℕ) (p : Pid) → IsRising ps → slice_get ps i ≡ Some p
-    → slice_get ps j ≡ Some p → i ≡ j
-one_place [] i j p rising at_i at_j = absurd (none-some p at_i)
-one_place (q ∷ ps) zero zero p rising at_i at_j = refl
-one_place (q ∷ ps) zero (suc j) p rising at_i at_j =
-    absurd (not_below_itself p (subst (λ x. IsBelow x p) (same_Some q p at_i)
-    (all_at (IsBelow q) ps j p rising.0 at_j)))
-one_place (q ∷ ps) (suc i) zero p rising at_i at_j =
-    absurd (not_below_itself p (subst (λ x. IsBelow x p) (same_Some q p at_j)
-    (all_at (IsBelow q) ps i p rising.0 at_i)))
-one_place (q ∷ ps) (suc i) (suc j) p rising at_i at_j =
-    ap suc (one_place ps i j p rising.1 at_i at_j)
-
-get_first : {X : Type 0} (xs ys : List X) (j : ℕ) → j < length xs
-    → slice_get (xs ++ ys) j ≡ slice_get xs j
-get_first [] ys j within = absurd (omega arith)
-get_first (x ∷ xs) ys zero within = refl
-get_first (x ∷ xs) ys (suc j) within = get_first xs ys j (omega arith)
-
-only_none : {X : Type 0} (xs : List (Option X)) (j : ℕ) → length xs ≤ j → j < length xs + 1
-    → slice_get (xs ++ None ∷ []) j ≡ Some None
-only_none [] zero past within = refl
-only_none [] (suc j) past within = absurd (omega arith)
-only_none (x ∷ xs) zero past within = absurd (omega arith)
-only_none (x ∷ xs) (suc j) past within = only_none xs j (omega arith) (omega arith)
 
 -- WHAT IS NOTED
 
@@ -185,29 +159,15 @@ noted_here ps low lows new e place rising here some was read put noted =
           ] refl;
     })
 
--- one process more of which nothing is known
-pub noted_none : (ps : List Pid) (k : ℕ) (p : Pid) (lows : List (Option ℕ))
-    → slice_get ps k ≡ Some p
-    → IsNoted (take k ps) (λ q. None) lows → IsNoted (take (k + 1) ps) (λ q. None)
-    (lows ++ None ∷ [])
-noted_none ps k p lows at noted =
-    let next : suc k ≡ k + 1 = omega arith in
-    subst (λ n. IsNoted (take n ps) (λ q. None) (lows ++ None ∷ [])) next
-    (subst (λ qs. IsNoted qs (λ q. None) (lows ++ None ∷ [])) (sym (take_more ps k p at)) (record {
-      long =
-          let one = length-append lows (None ∷ []) in
-          let other = length-append (take k ps) (p ∷ []) in
-          let long = noted.long in
-          omega arith;
-      each = λ j q there. elim (cases_lt j (length lows)) [
-        | inl within ↦
-            let long = noted.long in
-            get_first lows (None ∷ []) j within
-            ∙ noted.each j q (sym (get_first (take k ps) (p ∷ []) j (omega arith)) ∙ there)
-        | inr past ↦ only_none lows j (omega arith)
-            (let count = length-append (take k ps) (p ∷ []) in
-            let within = slice_get_within (take k ps ++ p ∷ []) j q there in
-            let long = noted.long in
-            omega arith)
-      ];
-    }))
+-- at first nothing is known
+none_there : (n k : ℕ) → k < n → slice_get (replicate {A = Option ℕ} n None) k ≡ Some None
+none_there zero k less = absurd (omega arith)
+none_there (suc n) zero less = refl
+none_there (suc n) (suc k) less = none_there n k (omega arith)
+
+pub noted_none : (ps : List Pid) (n : ℕ) (lows : List (Option ℕ)) → n ≡ length ps
+    → lows ≡ replicate n None → IsNoted ps (λ q. None) lows
+noted_none ps n lows even is = subst (IsNoted ps (λ q. None)) (sym is) (record {
+  long = length-replicate n None ∙ even;
+  each = λ k p at. let within = slice_get_within ps k p at in none_there n k (omega arith);
+})

@@ -11,6 +11,7 @@ use Rattle.st_core.specs.Run.{Stream, pids_of}
 use Rattle.st_core.specs.Streams.{total_of}
 use Rattle.st_plan.specs.Marks.{all_streams, told_events, told_streams, Marked, Whole}
 use Rattle.lack_needs.specs.Completions.{added_in, marked_with, wholes_with}
+use Rattle.lack_needs.proofs.Kept.{marks_later, wholes_next}
 
 -- the first of the marked events from an index on
 pub told_more : (es : List Event) (ms : List Bool) (i : ℕ) (e : Event) → slice_get es i ≡ Some e
@@ -60,16 +61,17 @@ pub all_told : (all : List Stream) (lists : List (List Bool)) (streams : List St
 all_told [] lists [] len each = refl
 all_told [] lists (y ∷ streams) len each = absurd (omega arith)
 all_told (x ∷ all) lists [] len each = absurd (omega arith)
-all_told (x ∷ all) [] (y ∷ streams) len each =
+all_told (x ∷ all) lists (y ∷ streams) len each =
+    let marks = get_or lists 0 [] in
     let t = each 0 (omega arith) in
     let whole = same_Some x t.whole t.at in
     let stream = same_Some y t.stream t.there in
     let pid : x.pid ≡ y.pid = ap (λ (s : Stream). s.pid) whole ∙ t.pid
     ∙ sym (ap (λ (s : Stream). s.pid) stream) in
-    let told : told_events (marked_with x.events []) ≡ y.events =
-    ap (λ (s : Stream). told_events (marked_with s.events [])) whole ∙ t.told
+    let told : told_events (marked_with x.events marks) ≡ y.events =
+    ap (λ (s : Stream). told_events (marked_with s.events marks)) whole ∙ t.told
     ∙ sym (ap (λ (s : Stream). s.events) stream) in
-    let rest = all_told all [] streams (omega arith) (λ k less.
+    let rest = all_told all (drop 1 lists) streams (omega arith) (λ k less.
     let n = each (suc k) (omega arith) in
     record {
       whole = n.whole;
@@ -77,31 +79,10 @@ all_told (x ∷ all) [] (y ∷ streams) len each =
       stream = n.stream;
       there = n.there;
       pid = n.pid;
-      told =
-          n.told;
+      told = ap (λ bs. told_events (marked_with n.whole.events bs)) (marks_later lists k) ∙ n.told;
     }) in
-    λ i. record { pid = pid i; events = told i } ∷ rest i
-all_told (x ∷ all) (ms ∷ lists) (y ∷ streams) len each =
-    let t = each 0 (omega arith) in
-    let whole = same_Some x t.whole t.at in
-    let stream = same_Some y t.stream t.there in
-    let pid : x.pid ≡ y.pid = ap (λ (s : Stream). s.pid) whole ∙ t.pid
-    ∙ sym (ap (λ (s : Stream). s.pid) stream) in
-    let told : told_events (marked_with x.events ms) ≡ y.events =
-    ap (λ (s : Stream). told_events (marked_with s.events ms)) whole ∙ t.told
-    ∙ sym (ap (λ (s : Stream). s.events) stream) in
-    let rest = all_told all lists streams (omega arith) (λ k less.
-    let n = each (suc k) (omega arith) in
-    record {
-      whole = n.whole;
-      at = n.at;
-      stream = n.stream;
-      there = n.there;
-      pid = n.pid;
-      told =
-          n.told;
-    }) in
-    λ i. record { pid = pid i; events = told i } ∷ rest i
+    ap told_streams (wholes_next x all lists)
+    ∙ (λ i. record { pid = pid i; events = told i } ∷ rest i)
 
 -- THE NUMBER OF UNTOLD EVENTS
 

@@ -6,7 +6,7 @@ use Rattle.std.proofs.Common.{Bool, true, false, not, cond, List, [], ◌∷◌,
 use Rattle.std.proofs.Common.{Some, None, is_some, if◌then◌else◌, refl, sym, ◌∙◌, ap, arith}
 use Rattle.std.proofs.lemmas.Bool.{and_from, and_parts, eq-eqb, eqb-true, false≢true, le-ltb}
 use Rattle.std.proofs.lemmas.Bool.{lt-ltb, ltb-false, ltb-true}
-use Rattle.std.proofs.lemmas.Option.{none-some, same_Some}
+use Rattle.std.proofs.lemmas.Option.{cond_some, none-some, same_Some}
 use Rattle.st_core.specs.declared.types.Pid.{Pid}
 use Rattle.st_core.specs.declared.types.Event.{Event}
 use Rattle.st_core.specs.Pid.{pid_eq, IsRising}
@@ -20,6 +20,8 @@ use Rattle.lack_laws.specs.Reasons.{HoldsAt}
 use Rattle.lack_laws.specs.OpenReasons.{IsLeastPlace, IsUnfounded}
 use Rattle.lack_needs.specs.Unfounded.{has_receive, is_known_below, is_unfounded, lower_count}
 use Rattle.lack_needs.specs.Unfounded.{lowest_count, lowest_from, lowest_in, lowest_with, tells_of}
+use Rattle.lack_needs.proofs.Flawed.{none_false}
+use Rattle.lack_needs.proofs.Noted.{or_assoc}
 
 -- A LOWER COUNT IS TOLD
 
@@ -29,10 +31,6 @@ tells_below q n e = tells_of q e && nat_lt e.serial.this n
 
 abbrev below : Pid → ℕ → Pid → ℕ → Event → Option (Pid × ℕ)
 below q n p i e = if tells_below q n e then Some (p, i) else None
-
-or_assoc : (a b c : Bool) → ((a || b) || c) ≡ (a || (b || c))
-or_assoc true b c = refl
-or_assoc false b c = refl
 
 min_below : (k m n : ℕ) → nat_lt (min k m) n ≡ (nat_lt k n || nat_lt m n)
 min_below k m n = elim (nat_lt k n) as (λ b. nat_lt k n ≡ b
@@ -76,7 +74,7 @@ in_below q p n i low (e ∷ es) =
     in_below q p n (i + 1) (lowest_with q low e) es
     ∙ ap (λ b. b || is_some rest) (below_step (tells_of q e) (nat_lt e.serial.this n) low
     e.serial.this n refl)
-    ∙ or_assoc (is_known_below low n) here (is_some rest)
+    ∙ sym (or_assoc (is_known_below low n) here (is_some rest))
     ∙ sym (ap (λ b. is_known_below low n || b) (or_given (cond here (Some (p, i)) None) rest
     ∙ ap (λ b. b || is_some rest) (some_if here (p, i))))
 
@@ -89,18 +87,10 @@ all_below q n low (x ∷ rest) =
     let later : Option (Pid × ℕ) = first (below q n) rest in
     all_below q n (lowest_in q low x.events) rest
     ∙ ap (λ b. b || is_some later) (in_below q x.pid n 0 low x.events)
-    ∙ or_assoc (is_known_below low n) (is_some here) (is_some later)
+    ∙ sym (or_assoc (is_known_below low n) (is_some here) (is_some later))
     ∙ sym (ap (λ b. is_known_below low n || b) (or_given here later))
 
 -- WHAT IS FOUND
-
-gives_true : (b : Bool) (x y : Pid × ℕ) → cond b (Some y) None ≡ Some x → (b ≡ true) × (y ≡ x)
-gives_true true x y is = (refl, same_Some y x is)
-gives_true false x y is = absurd (none-some x is)
-
-none_false : (b : Bool) (x : Pid × ℕ) → cond b (Some x) None ≡ None → b ≡ false
-none_false true x is = absurd (none-some x (sym is))
-none_false false x is = refl
 
 -- if a count is higher than the lowest, one of the lower ones is there
 lower_there : (streams : List Stream) (rising : IsRising (pids_of streams)) (q : Pid) (n : ℕ)
@@ -192,7 +182,7 @@ module _ (streams : List Stream) (rising : IsRising (pids_of streams)) where
             let there = lower_there streams rising e.from e.serial.this both.1 in
             let f = given_at (below e.from e.serial.this) streams there.0 rising there.1 in
             let d = f.event in
-            let tells = gives_true (tells_below e.from e.serial.this d) there.0 (f.pid, f.index)
+            let tells = cond_some (tells_below e.from e.serial.this d) (f.pid, f.index) there.0
             f.gives in
             let less = and_parts (tells_of e.from d) (nat_lt d.serial.this e.serial.this) tells.0 in
             let of = and_parts (pid_eq d.from e.from) (nat_lt 0 d.serial.prev) less.0 in

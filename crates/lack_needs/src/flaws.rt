@@ -98,18 +98,9 @@ impl Left {
         ensures { (es : List EventValue) → self ≡ left_by es
             → (IsTrue result ↔ GoesOnWithin top es event.now) }
     {
-        if event.serial.this <= event.serial.prev {
-            return false;
-        }
-        let high = self.flaws(event, Flaw::TooHigh(top));
-        if high {
-            return false;
-        }
-        let late = self.flaws(event, Flaw::Late);
-        if late {
-            return false;
-        }
-        let need = self.flaws(event, Flaw::Need);
-        !need
+        event.serial.this > event.serial.prev
+            && !self.flaws(event, Flaw::TooHigh(top))
+            && !self.flaws(event, Flaw::Late)
+            && !self.flaws(event, Flaw::Need)
     }
 }

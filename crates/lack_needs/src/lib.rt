@@ -16,7 +16,7 @@ mod unfounded_stamps;
 pub use completion::{Completion, completion_of, is_marked, marks_at};
 pub use first_flaws::find_flaw;
 pub use flaws::{Flaw, Left, is_stamp, prev_left};
-pub use losses::{is_sent, shows_loss};
+pub use losses::{is_sent, receive_of, shows_loss};
 pub use ranks::{counts_of, renumbered};
 pub use silent::{is_unlisted, pids_with, with_silent};
 pub use unfounded_stamps::find_unfounded;

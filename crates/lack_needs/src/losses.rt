@@ -179,7 +179,7 @@ pub fn shows_loss(
 }
 
 /// The receive of a send.
-fn receive_of(sent: &Event) -> Event
+pub fn receive_of(sent: &Event) -> Event
     ensures { result ≡ receipt_of sent.now }
 {
     Event {

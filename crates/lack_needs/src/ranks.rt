@@ -11,7 +11,6 @@ ghost use Rattle.lack_needs.specs.Counts.{all_counts, counts_in, ranked_stream};
 use st_core::{AddFault, Draft, Event, OpenFault, Pid, Serial, Streams};
 use std::alloc::{AllocError, Global};
 
-/// Notes the counts of one process.
 fn note_counts(counts: &mut Vec<u64>, events: &[Event]) -> Result<(), AllocError>
     ensures { OnOk result (counts.new.items ≡ counts.old.items ++ counts_in events.now) }
 {
@@ -22,7 +21,6 @@ fn note_counts(counts: &mut Vec<u64>, events: &[Event]) -> Result<(), AllocError
     Ok(())
 }
 
-/// 0 and all counts, in the order of the events.
 fn all_counts(alloc: Global, streams: &Streams) -> Result<Vec<u64>, AllocError>
     ensures { IfOk result (λ counts. counts.items ≡ 0 ∷ all_counts streams.now) }
 {
@@ -83,7 +81,6 @@ pub(crate) fn open_last(draft: &mut Draft, pid: Pid) -> Result<(), AllocError>
     }
 }
 
-/// Adds an event of a listed process.
 pub(crate) fn add_own(draft: &mut Draft, pid: Pid, event: Event) -> Result<(), AllocError>
     requires listed { lists draft.old pid ≡ true }
     requires own { is_own pid event ≡ true }

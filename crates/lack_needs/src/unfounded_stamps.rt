@@ -43,7 +43,6 @@ fn lower_count(low: Option<u64>, count: u64) -> u64
     }
 }
 
-/// Whether a count is known and less than this one.
 fn is_known_below(low: Option<u64>, count: u64) -> bool
     ensures { result ≡ is_known_below low count }
 {
@@ -71,7 +70,6 @@ fn note_event(lows: &mut Vec<Option<u64>>, streams: &Streams, event: &Event)
     }
 }
 
-/// Notes the stamps that these events tell of.
 fn note_events(lows: &mut Vec<Option<u64>>, streams: &Streams, events: &[Event])
     ensures { (low : PidValue → Option ℕ) → IsNoted (pids_of streams.now) low lows.old.items
         → IsNoted (pids_of streams.now) (λ q. lowest_in q (low q) events.now) lows.new.items }
@@ -81,23 +79,12 @@ fn note_events(lows: &mut Vec<Option<u64>>, streams: &Streams, events: &[Event])
     }
 }
 
-/// No count for each process.
-fn no_counts(alloc: Global, streams: &Streams) -> Result<Vec<Option<u64>>, AllocError>
-    ensures { IfOk result (λ lows. IsNoted (pids_of streams.now) (λ q. None) lows.items) }
-{
-    let mut lows = Vec::new(alloc);
-    for _ in streams.pids() {
-        lows.push(None)?;
-    }
-    Ok(lows)
-}
-
 /// For each process the lowest count of a stamp with another prev than 0 of which events tell.
 fn lowest_counts(alloc: Global, streams: &Streams) -> Result<Vec<Option<u64>>, AllocError>
     ensures { IfOk result (λ lows.
         IsNoted (pids_of streams.now) (lowest_count streams.now) lows.items) }
 {
-    let mut lows = no_counts(alloc, streams)?;
+    let mut lows = vec![in alloc; None; streams.pids().len()]?;
     for &pid in streams.pids() {
         note_events(&mut lows, streams, streams.events(pid));
     }

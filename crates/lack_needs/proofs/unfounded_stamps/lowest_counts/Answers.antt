@@ -1,15 +1,16 @@
 -- One process more.
-use Rattle.std.proofs.Common.{◌≤◌, ℕ, List, None, Option, length, take, subst, arith}
+use Rattle.std.proofs.Common.{◌≤◌, ℕ, List, None, Option, length, take, subst, arith, ap, rules}
 use Rattle.std.proofs.lemmas.List.{length-map, take_all}
 use Rattle.st_core.specs.declared.types.Pid.{Pid}
 use Rattle.st_core.specs.Run.{pids_of, Stream}
 use Rattle.lack_needs.specs.Unfounded.{lowest_from, IsNoted}
-use Rattle.lack_needs.proofs.Noted.{lowest_next}
+use Rattle.lack_needs.proofs.Noted.{lowest_next, noted_none}
 use Rattle.lack_needs.proofs.unfounded_stamps.lowest_counts.Goals as goal
 use Rattle.st_pair.proofs.ForCallers.{stream_here}
 
 pub loop-pid-init : goal.loop-pid-init
-loop-pid-init c = c.in_ok-lows.ensures
+loop-pid-init c = noted_none (pids_of c.args.streams.now) _ _ (ap length c.pids.ensures.value)
+    (c.in_ok-lows.ensures.items_if_clones_equal (λ y h. search rules))
 
 pub loop-pid-preserved : goal.loop-pid-preserved
 loop-pid-preserved c =
