@@ -1,11 +1,6 @@
--- A list of which one item is replaced by one that counts the same, and items that are among
--- others.
-use Rattle.std.proofs.Common.{◌≡◌, ℕ, ◌<◌, zero, suc, List, [], ◌∷◌, length, map, get_or, refl, sym}
-use Rattle.std.proofs.Common.{◌∙◌, ap}
+-- A list of which one item is replaced by one that counts the same.
+use Rattle.std.proofs.Common.{◌≡◌, ℕ, zero, suc, List, [], ◌∷◌, map, get_or, refl, ◌∙◌, ap}
 use Rattle.std.proofs.Math.ListN.{set}
-use Rattle.std.specs.List.{All, Contains}
-use Rattle.std.proofs.lemmas.List.Elements.{All-contains, All-contains_itself, All-same, All-set}
-use Rattle.std.proofs.lemmas.List.Elements.{All-weaker}
 use Rattle.lack_search.specs.declared.asks.Ask.{Ask}
 use Rattle.lack_search.specs.declared.asks.GivenMessage.{GivenMessage}
 use Rattle.lack_search.specs.declared.asks.GivenMessage.TheVariants as given
@@ -16,21 +11,6 @@ pub map_set_same : {X Y : Type 0} (f : X → Y) (xs : List X) (i : ℕ) (x d : X
 map_set_same f [] i x d same = refl
 map_set_same f (y ∷ xs) zero x d same = ap (λ z. z ∷ map f xs) same
 map_set_same f (y ∷ xs) (suc i) x d same = ap (λ zs. f y ∷ zs) (map_set_same f xs i x d same)
-
--- what holds of all items holds of each list of them
-pub All_among : {X : Type 0} (P : X → Type 0) (xs ys : List X) → All P xs → All (Contains xs) ys
-    → All P ys
-All_among P xs ys all among =
-    All-weaker (Contains xs) P (λ x here. All-contains P xs x all here) ys among
-
--- as those of a copy, and of a list in which one of them is put
-pub among_copy : {X : Type 0} (xs ys : List X) → ys ≡ xs → All (Contains xs) ys
-among_copy xs ys is = All-same (Contains xs) ys xs is (All-contains_itself xs)
-
-pub among_written : {X : Type 0} (xs ys : List X) (i : ℕ) (x : X) (k : ℕ) → k < length xs
-    → x ≡ get_or xs k x → All (Contains xs) ys → All (Contains xs) (set ys i x)
-among_written xs ys i x k within is among =
-    All-set (Contains xs) ys i x (k, within, sym is) among
 
 -- what a read past the end gives
 abbrev none : Ask

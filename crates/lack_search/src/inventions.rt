@@ -1,7 +1,6 @@
 //! The sends of the messages that are invented, and their prevs.
 
-ghost use Rattle.std.specs.Prelude.{◌≡◌, ◌++◌, [], length, vec_len, All, Contains, IfOk, IfSome};
-ghost use Rattle.std.specs.Prelude.{OnOk};
+ghost use Rattle.std.specs.Prelude.{◌≡◌, ◌++◌, [], length, vec_len, IfOk, IfSome, OnOk};
 ghost use Rattle.std.specs.Option.{option_copied};
 ghost use Rattle.lack_search.specs.Inventions.{prev_before, sent_as, without_messages, IsSendFor};
 ghost use Rattle.lack_search.specs.Inventions.{LeavesPrevs};
@@ -10,7 +9,6 @@ use crate::asks::{Ask, GivenMessage, split_asks};
 use crate::hidden_sends::{HiddenSend, split_hidden};
 use crate::merged_events::MergedEvents;
 use crate::senders::Turn;
-use crate::sorting::sorted_by_number;
 use lack_needs::{Left, is_stamp};
 use st_core::{Event, Kind, Label, Pid, Serial, Streams};
 use std::alloc::{AllocError, Global};
@@ -19,13 +17,9 @@ use std::alloc::{AllocError, Global};
 /// count lower, or at the end.
 #[derive(Clone, Copy)]
 pub(crate) struct Invention {
-    /// Its count.
     pub count: u64,
-    /// Its prev.
     pub prev: u64,
-    /// Its sender.
     pub sender: Pid,
-    /// Its receiver.
     pub to: Pid,
     /// The label of the stamp that gets it.
     pub label: Label,
@@ -34,7 +28,6 @@ pub(crate) struct Invention {
 }
 
 impl Invention {
-    /// The send itself.
     pub(crate) fn sent(&self) -> Event
         ensures { result ≡ sent_as self.now }
     {
@@ -108,7 +101,6 @@ impl Inventor<'_> {
         Ok(())
     }
 
-    /// Finds the prevs of all sends.
     fn walk(&mut self, mut events: MergedEvents<'_>) -> Result<(), AllocError>
         ensures prevs { OnOk result (LeavesPrevs self.old self.new) }
         ensures all { OnOk result (self.new.inventions.now ≡ []) }
@@ -217,29 +209,6 @@ fn give_all(
     Ok(sends)
 }
 
-/// How many sends pay for a table of all numbers of a node.
-const MANY: usize = 1 << 16;
-
-/// These sends by sender, and those of one sender as they stood.
-fn sends_by_sender(alloc: Global, mut sends: Vec<Invention>) -> Result<Vec<Invention>, AllocError>
-    ensures count { IfOk result (λ sorted. vec_len sorted ≡ vec_len sends) }
-    ensures sends { IfOk result (λ sorted. All (Contains sends.items) sorted.items) }
-{
-    if sends.is_sorted_by_key(|send| send.sender) {
-        return Ok(sends);
-    }
-    let node = match sends.first() {
-        None => 0,
-        Some(first) => first.sender.node(),
-    };
-    if sends.len() >= MANY && sends.iter().all(|send| send.sender.node() == node) {
-        let number_of = |send: &Invention| usize::from(send.sender.number());
-        return sorted_by_number(alloc, &sends, usize::from(u16::MAX), &number_of);
-    }
-    sends.sort_by_key(|send| send.sender)?;
-    Ok(sends)
-}
-
 /// Gives the needs that are left among these stamps messages, of these senders. Returns their
 /// sends, by sender and count.
 pub(crate) fn invent(
@@ -252,8 +221,10 @@ pub(crate) fn invent(
 ) -> Result<Vec<Invention>, AllocError>
     ensures { OnOk result (without_messages fed.new ≡ without_messages fed.old) }
 {
-    let sends = give_all(alloc, turns, senders, fed)?;
-    let mut sends = sends_by_sender(alloc, sends)?;
+    let mut sends = give_all(alloc, turns, senders, fed)?;
+    if !sends.is_sorted_by_key(|send| send.sender) {
+        sends.sort_by_key(|send| send.sender)?;
+    }
     let prevs = prevs_of(alloc, streams, hidden, fed, &sends)?;
     set_prevs(&mut sends, fed, &prevs);
     Ok(sends)

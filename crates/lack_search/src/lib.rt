@@ -16,7 +16,6 @@ mod merged_events;
 mod positions;
 mod senders;
 mod short;
-mod sorting;
 mod stretch;
 mod unlisted_pids;
 mod walk;

@@ -6,7 +6,6 @@
 
 ghost use Rattle.std.specs.Prelude.{◌≡◌, ◌*◌, ◌-◌, ◌%◌, ◌<◌, ◌^◌, length, min, true, vec_len, All};
 ghost use Rattle.std.specs.Prelude.{Contains, IfOk, IfSome, OnOk};
-ghost use Rattle.std.specs.List.Sorted.{IsPermutation};
 ghost use Rattle.st_core.specs.Run.{pids_of};
 ghost use Rattle.lack_search.specs.Senders.{may_have, AreAsked, AreTurnsOf, KeepsStreams};
 ghost use Rattle.lack_search.specs.Unlisted.{AreUnlisted};
@@ -14,13 +13,11 @@ ghost use Rattle.lack_search.specs.Unlisted.{AreUnlisted};
 use crate::asks::{Ask, GivenMessage};
 use crate::hidden_sends::HiddenSend;
 use crate::short::short;
-use crate::sorting::sorted_by_number;
 use crate::unlisted_pids::UnlistedPids;
 use lack_needs::is_stamp;
 use st_core::{Event, Pid, Streams};
 use std::alloc::{AllocError, Global};
 
-/// A count that a process stamps.
 #[derive(Clone, Copy, PartialEq, Eq, PartialOrd, Ord)]
 struct Stamp {
     count: u64,
@@ -37,7 +34,6 @@ struct Asked {
 }
 
 impl Asked {
-    /// The counts of these needs.
     fn of(alloc: Global, turns: &[Turn]) -> Result<Asked, AllocError>
         ensures { IfOk result (λ asked. vec_len asked.remainders
             ≡ min (length turns.now * 2) (2 ^ 64 - 1)) }
@@ -54,7 +50,6 @@ impl Asked {
         Ok(asked)
     }
 
-    /// The remainder of a count.
     fn place_of(&self, count: u64) -> usize
         ensures { 0 < vec_len self.now.remainders → result ≡ count % vec_len self.now.remainders }
     {
@@ -65,7 +60,6 @@ impl Asked {
         (count % places) as usize
     }
 
-    /// Whether a need may ask for this count.
     fn may_have(&self, count: u64) -> bool
         ensures { result ≡ may_have self.now count }
     {
@@ -133,7 +127,6 @@ struct Giver<'a> {
     listed: usize,
     /// How many of the others send this count.
     others: usize,
-    /// The others.
     unlisted: UnlistedPids,
 }
 
@@ -156,7 +149,6 @@ impl Giver<'_> {
         false
     }
 
-    /// The next listed process that may send this count.
     fn next_listed(&mut self, count: u64) -> Option<Pid>
         ensures listed { IfSome result (Contains (pids_of self.old.streams.now)) }
         ensures rest { KeepsStreams self.old self.new }
@@ -171,7 +163,6 @@ impl Giver<'_> {
         None
     }
 
-    /// The next process that may send this count.
     fn next(&mut self, count: u64) -> Result<Option<Pid>, AllocError>
         requires { AreUnlisted self.old.streams.now self.old.unlisted.pids.items }
         ensures unlisted { AreUnlisted self.old.streams.now self.new.unlisted.pids.items }
@@ -189,28 +180,11 @@ impl Giver<'_> {
         self.others = number.saturating_add(1);
         self.unlisted.nth(self.streams, number)
     }
-
-    /// The unlisted processes that were given out, by rising pid.
-    fn into_unlisted(self) -> Result<Vec<Pid>, AllocError>
-        ensures { IfOk result (λ pids. IsPermutation self.entry.unlisted.pids.items pids.items) }
-    {
-        let Giver {
-            streams: _,
-            stamps: _,
-            stamp: _,
-            count: _,
-            listed: _,
-            others: _,
-            unlisted,
-        } = self;
-        unlisted.into_rising()
-    }
 }
 
 /// A need without a message.
 #[derive(Clone, Copy)]
 pub(crate) struct Turn {
-    /// Its count.
     pub count: u64,
     /// Its number among the stamps that get messages.
     pub ask: u32,
@@ -221,13 +195,12 @@ pub(crate) struct Turn {
 pub(crate) struct Senders {
     /// The needs, by count, and those of one count in the order of the streams.
     pub turns: Vec<Turn>,
-    /// The sender of each.
     pub senders: Vec<Pid>,
     /// The processes among these that the streams don't list, by rising pid.
     pub unlisted: Vec<Pid>,
 }
 
-/// The needs that are left among these stamps, in their order here.
+/// The needs that are left among these stamps, by count, and those of one count in their order here.
 fn turns_of(alloc: Global, fed: &[Ask]) -> Result<Vec<Turn>, AllocError>
     ensures { IfOk result (λ turns. AreTurnsOf fed.now turns.items) }
 {
@@ -240,22 +213,8 @@ fn turns_of(alloc: Global, fed: &[Ask]) -> Result<Vec<Turn>, AllocError>
             })?;
         }
     }
-    Ok(turns)
-}
-
-/// These needs by count, and those of one count as they stood.
-fn turns_by_count(alloc: Global, mut turns: Vec<Turn>) -> Result<Vec<Turn>, AllocError>
-    ensures count { IfOk result (λ sorted. vec_len sorted ≡ vec_len turns) }
-    ensures turns { IfOk result (λ sorted. All (Contains turns.items) sorted.items) }
-{
     if turns.is_sorted_by_key(|turn| turn.count) {
         return Ok(turns);
-    }
-    let greatest = turns.iter().map(|turn| turn.count).max().unwrap_or(0);
-    // Counts are mostly no higher than a few times the needs.
-    if greatest <= (turns.len() as u64).saturating_mul(4) {
-        let count_of = |turn: &Turn| turn.count as usize;
-        return sorted_by_number(alloc, &turns, greatest as usize, &count_of);
     }
     turns.sort_by_key(|turn| turn.count)?;
     Ok(turns)
@@ -290,14 +249,6 @@ pub(crate) fn find_senders(
     ensures unlisted { IfOk result (λ found. AreUnlisted streams.now found.unlisted.items) }
 {
     let turns = turns_of(alloc, fed)?;
-    let turns = turns_by_count(alloc, turns)?;
-    if turns.is_empty() {
-        return Ok(Senders {
-            turns,
-            senders: Vec::new(alloc),
-            unlisted: Vec::new(alloc),
-        });
-    }
     let asked = Asked::of(alloc, &turns)?;
     let mut giver = Giver {
         streams,
@@ -310,7 +261,8 @@ pub(crate) fn find_senders(
     };
     drop(asked);
     let senders = take_turns(alloc, &mut giver, &turns)?;
-    let unlisted = giver.into_unlisted()?;
+    let Giver { unlisted, .. } = giver;
+    let unlisted = unlisted.into_rising()?;
     Ok(Senders {
         turns,
         senders,
