@@ -1,6 +1,5 @@
 -- For the parts alone, but for what a candidate tells.
 pub mod Sends
-pub mod Receipts
 pub mod Unlisted
 pub mod Walk
 pub mod Asks

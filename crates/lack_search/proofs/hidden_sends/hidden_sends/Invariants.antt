@@ -1,7 +1,6 @@
--- Each receipt so far has a listed sender.
-use Rattle.std.specs.List.{All}
-use Rattle.lack_search.specs.Receipts.{HasListedSender}
+-- The sends so far are hidden sends of the streams.
+use Rattle.lack_search.specs.Sends.{AreSendsIn}
 use Rattle.lack_search.proofs.hidden_sends.hidden_sends.Given as goal
 
 abbrev pub invariant-loop-pid : goal.invariant-loop-pid
-invariant-loop-pid l = All (HasListedSender l.streams) l.receipts.items
+invariant-loop-pid l = AreSendsIn l.streams l.hidden.items
