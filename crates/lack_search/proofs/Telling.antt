@@ -10,13 +10,13 @@ use Rattle.st_core.specs.declared.types.Pid.{Pid}
 use Rattle.st_core.specs.declared.types.Event.{Event}
 use Rattle.st_core.specs.Pid.{IsRising}
 use Rattle.st_core.specs.Run.{Stream, pids_of}
-use Rattle.st_core.specs.Streams.{added, events_of, ComesLast, IsStreams}
-use Rattle.st_core.proofs.ForCallers.{pid_eq-refl, IsBelow-apart}
+use Rattle.st_core.specs.Streams.{added, events_of, IsStreams}
 use Rattle.st_pair.proofs.ForCallers.{events_in, is_at, stream_here, take_map}
 use Rattle.st_plan.specs.Marks.{told_events, told_streams, Whole}
 use Rattle.lack_laws.specs.Silent.{with_silent}
 use Rattle.lack_laws.proofs.ForCallers.{silent_events, silent_sound}
 use Rattle.lack_needs.specs.Completions.{marked_with, wholes_with}
+use Rattle.lack_needs.proofs.ForCallers.{added_last}
 use Rattle.lack_search.specs.declared.assembly.Assembly.{Assembly}
 use Rattle.lack_search.specs.declared.merged_events.Origin.{Origin}
 use Rattle.lack_search.specs.Assembly.{streams_of_pids, AddsTold, IsAdded}
@@ -24,19 +24,6 @@ use Rattle.lack_search.specs.Links.{event_counts}
 use Rattle.lack_search.specs.MergedEvents.{is_told, told_if}
 
 -- ONE EVENT
-
--- the other processes are below the last one
-added_last : (xs : List Stream) (p : Pid) (es : List Event) (e : Event) → ComesLast xs p
-    → added (xs ++ record { pid = p; events = es } ∷ []) p e
-    ≡ xs ++ record { pid = p; events = es ++ e ∷ [] } ∷ []
-added_last [] p es e last =
-    ap (λ b. let x : Stream = cond b (record { pid = p; events = es ++ e ∷ [] })
-    (record { pid = p; events = es }) in
-    x ∷ []) (pid_eq-refl p)
-added_last (x ∷ xs) p es e last =
-    ap (λ b. let y : Stream = cond b (record x { events = x.events ++ e ∷ [] }) x in
-    y ∷ added (xs ++ record { pid = p; events = es } ∷ []) p e) (IsBelow-apart x.pid p last.0)
-    ∙ ap (λ ys. x ∷ ys) (added_last xs p es e last.1)
 
 told_push : (es : List Event) (bs : List Bool) (e : Event) (b : Bool) → length bs ≡ length es
     → told_events (marked_with (es ++ e ∷ []) (bs ++ b ∷ []))

@@ -15,7 +15,6 @@ use std::cmp::Ordering;
 /// The message that a stamp gets.
 #[derive(Clone, Copy, PartialEq, Eq)]
 pub(crate) enum GivenMessage {
-    /// None.
     Missing,
     /// That of a reported send which nobody received, of this process and with this index there:
     /// its receive was lost.
@@ -27,15 +26,12 @@ pub(crate) enum GivenMessage {
 /// A send or print that asks for a message of its prev.
 #[derive(Clone, Copy)]
 pub(crate) struct Ask {
-    /// The process whose stamp it is.
     pub process: Pid,
     /// The stamp's index among the reported events and hidden sends of its process.
     pub index: u32,
-    /// The stamp's label.
     pub label: Label,
     /// The stamp's prev.
     pub count: u64,
-    /// The message that it got.
     pub message: GivenMessage,
 }
 
@@ -104,7 +100,6 @@ impl Asks {
         Ok(())
     }
 
-    /// Notes what the events of a process ask for.
     fn note_all(&mut self, process: Pid, mut events: MergedEvents<'_>) -> Result<(), AllocError>
         requires { AreGivenLost self.old }
         ensures { OnOk result (AreGivenLost self.new) }

@@ -25,13 +25,11 @@ use std::mem::replace;
 /// The events and processes that are added to streams.
 #[derive(Drop)]
 pub(crate) struct Parts {
-    /// The hidden sends, by sender and count.
     pub hidden: Vec<HiddenSend>,
     /// The stamps that got messages, by process and index.
     pub fed: Vec<Ask>,
     /// The sends of the messages that are invented, by sender and count.
     pub inventions: Vec<Invention>,
-    /// The processes that the streams don't list, by rising pid.
     pub unlisted: Vec<Pid>,
 }
 
@@ -49,7 +47,6 @@ struct Assembly<'a> {
 }
 
 impl<'a> Assembly<'a> {
-    /// No processes yet.
     fn new(alloc: Global, streams: &Streams, parts: &'a Parts) -> Result<Assembly<'a>, AllocError>
         ensures draft { IfOk result (λ assembly. assembly.draft ≡ []) }
         ensures marks { IfOk result (λ assembly. assembly.marks.items ≡ []) }
@@ -64,7 +61,6 @@ impl<'a> Assembly<'a> {
         })
     }
 
-    /// Begins the next process, with room for so many events.
     fn begin(&mut self, streams: &Streams, pid: Pid, most: usize) -> Result<(), AllocError>
         requires { self.old.marks.items ≡ [] }
         ensures { OnOk result (IsUnderWay self.old.draft pid [] self.new) }
@@ -79,7 +75,6 @@ impl<'a> Assembly<'a> {
         self.marks.reserve(most)
     }
 
-    /// Adds an event of the process.
     fn add(&mut self, pid: Pid, event: Event, origin: Origin) -> Result<(), AllocError>
         ensures { OnOk result (AddsTold pid (told_if origin event) self.old self.new) }
     {
@@ -111,7 +106,6 @@ impl<'a> Assembly<'a> {
         Ok(left)
     }
 
-    /// Adds the events of a process with its invented sends.
     fn add_process(
         &mut self,
         pid: Pid,
@@ -179,7 +173,6 @@ impl<'a> Assembly<'a> {
         Ok(told)
     }
 
-    /// The draft of all that was added, and where it is.
     fn into_draft(self) -> (Draft, Positions)
         ensures { result.0 ≡ self.entry.draft }
     {

@@ -40,7 +40,6 @@ pub struct Candidate {
     pub unlisted: Vec<Pid>,
 }
 
-/// The parts that are added to the streams.
 fn parts_of(alloc: Global, streams: &Streams, pairing: &Pairing) -> Result<Parts, AllocError>
     ensures hidden { IfOk result (λ parts. AreSendsIn streams.now parts.hidden.items) }
     ensures unlisted { IfOk result (λ parts. AreUnlisted streams.now parts.unlisted.items) }

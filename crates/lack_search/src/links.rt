@@ -19,9 +19,7 @@ use std::alloc::{AllocError, Global};
 /// One end of a message: an event of the whole streams.
 #[derive(Clone, Copy)]
 struct MessageEnd {
-    /// The place of its process.
     process: usize,
-    /// Its index there.
     index: u32,
 }
 
@@ -30,7 +28,6 @@ struct MessageEnd {
 struct Linker<'a> {
     streams: &'a Streams,
     whole: &'a Streams,
-    /// Where the events are in the whole streams.
     positions: &'a Positions,
     /// For each process, by its place, and each of its events the index of its other end.
     rows: Vec<Vec<u32>>,
@@ -66,7 +63,6 @@ impl Linker<'_> {
         }
     }
 
-    /// Links both ends of a message.
     fn link(&mut self, send: Option<MessageEnd>, receive: Option<MessageEnd>)
         ensures { KeepsShape self.old self.new }
     {
@@ -76,7 +72,6 @@ impl Linker<'_> {
         }
     }
 
-    /// Links the reported sends of a process with their reported receives.
     fn link_reported(&mut self, pairing: &Pairing, pid: Pid, events: &[Event])
         ensures { KeepsShape self.old self.new }
     {
@@ -91,7 +86,6 @@ impl Linker<'_> {
         }
     }
 
-    /// Links hidden sends with their receives.
     fn link_hidden(&mut self, hidden: &[HiddenSend])
         ensures { KeepsShape self.old self.new }
     {
@@ -115,7 +109,6 @@ impl Linker<'_> {
         }
     }
 
-    /// Links invented sends with their receives.
     fn link_invented(&mut self, inventions: &[Invention])
         ensures { KeepsShape self.old self.new }
     {
@@ -127,16 +120,10 @@ impl Linker<'_> {
         }
     }
 
-    /// The links.
     fn into_links(self, alloc: Global) -> Result<Vec<Sequence<u32>>, AllocError>
         ensures { IfOk result (λ links. map length links.items ≡ lengths_of self.entry) }
     {
-        let Linker {
-            streams: _,
-            whole: _,
-            positions: _,
-            rows,
-        } = self;
+        let Linker { rows, .. } = self;
         let mut links = Vec::with_capacity(alloc, rows.len())?;
         for row in rows {
             links.push(Sequence::from_vec(row))?;
@@ -145,7 +132,6 @@ impl Linker<'_> {
     }
 }
 
-/// No links yet of the events of whole streams.
 fn no_links(alloc: Global, whole: &Streams) -> Result<Vec<Vec<u32>>, AllocError>
     ensures { IfOk result (λ rows. map (λ row. length row.items) rows.items ≡ event_counts whole.now) }
 {

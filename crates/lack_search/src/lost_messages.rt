@@ -17,15 +17,11 @@ use std::alloc::{AllocError, Global};
 /// A reported send which nobody received.
 #[derive(Clone, Copy)]
 struct LostMessage {
-    /// Its count.
     count: u64,
-    /// Its receiver.
     to: Pid,
-    /// Its sender.
     from: Pid,
     /// Its index there.
     index: u32,
-    /// Its label.
     label: Label,
     /// Whether a stamp got it.
     given: bool,
@@ -34,9 +30,7 @@ struct LostMessage {
 /// Which messages a stamp may get.
 #[derive(Clone, Copy, PartialEq, Eq)]
 enum Choice {
-    /// Those of its own label.
     OwnLabel,
-    /// All.
     AnyLabel,
 }
 
@@ -68,7 +62,6 @@ impl Choice {
         self.key(ask.process, ask.count, ask.label)
     }
 
-    /// The key of a message.
     fn key_of_message(self, message: &LostMessage) -> MessageKey
         ensures { result ≡ key_of self message.now.to message.now.count message.now.label }
     {
@@ -76,7 +69,6 @@ impl Choice {
     }
 }
 
-/// Notes the sends of a process that have no receive.
 fn note_lost(
     streams: &Streams,
     pairing: &Pairing,
@@ -105,7 +97,6 @@ fn note_lost(
     Ok(())
 }
 
-/// The reported sends without a receive.
 fn lost_messages(
     alloc: Global,
     streams: &Streams,

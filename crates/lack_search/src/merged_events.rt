@@ -10,7 +10,6 @@ use st_core::{Event, Kind, Streams};
 /// Where an event comes from.
 #[derive(Clone, Copy)]
 pub(crate) enum Origin {
-    /// It was reported.
     Reported,
     /// It is a hidden send.
     Hidden,
@@ -21,7 +20,6 @@ pub(crate) enum Origin {
 }
 
 impl Origin {
-    /// Whether it was reported.
     pub(crate) fn is_told(self) -> bool
         ensures { result ≡ is_told self }
     {
@@ -32,7 +30,6 @@ impl Origin {
     }
 }
 
-/// An event of a process, and where it comes from.
 #[derive(Clone, Copy)]
 pub(crate) struct MergedEvent {
     pub event: Event,
@@ -44,9 +41,7 @@ pub(crate) struct MergedEvent {
 #[derive(Drop)]
 pub(crate) struct MergedEvents<'a> {
     streams: &'a Streams,
-    /// The reported events that are left.
     reported: &'a [Event],
-    /// The hidden sends that are left.
     hidden: &'a [HiddenSend],
     /// The stamps that ask, of those that are left.
     asks: &'a [Ask],
@@ -57,7 +52,6 @@ pub(crate) struct MergedEvents<'a> {
 }
 
 impl<'a> MergedEvents<'a> {
-    /// The events of a process: the reported ones, and what is added to them.
     pub(crate) fn new(
         streams: &'a Streams,
         reported: &'a [Event],

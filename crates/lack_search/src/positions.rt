@@ -16,13 +16,10 @@ pub(crate) struct Positions {
     /// For each process of the streams, by its place, the number of its first event among the
     /// reported ones of all.
     pub starts: Vec<usize>,
-    /// The reported events.
     pub reported: Vec<u32>,
-    /// The hidden sends.
     pub hidden: Vec<u32>,
     /// The receives that stamps got.
     pub fed: Vec<u32>,
-    /// The invented sends.
     pub invented: Vec<u32>,
 }
 
@@ -44,7 +41,6 @@ impl Positions {
         })
     }
 
-    /// Begins the next process of the streams.
     pub(crate) fn begin(&mut self) -> Result<(), AllocError>
         ensures { OnOk result (self.new.starts.items
             ≡ self.old.starts.items ++ vec_len self.old.reported ∷ []) }
@@ -54,7 +50,6 @@ impl Positions {
         Ok(())
     }
 
-    /// Notes the index of an event of this origin.
     pub(crate) fn note(&mut self, origin: Origin, index: u32) -> Result<(), AllocError>
         ensures { OnOk result (IsIndexNoted origin index self.old self.new) }
     {

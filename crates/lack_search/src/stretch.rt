@@ -14,7 +14,6 @@ use std::alloc::{AllocError, Global};
 pub(crate) struct Stretch<'a> {
     /// The stamp before it; none at the start of a process.
     pub before: Option<&'a Event>,
-    /// Its receives.
     pub receives: &'a [Event],
     /// The stamp that ends it; none at the end of a process.
     pub stamp: Option<&'a Event>,
@@ -55,7 +54,6 @@ pub(crate) struct GapTables {
 }
 
 impl GapTables {
-    /// Tables that aren't filled yet.
     pub(crate) fn new(alloc: Global) -> GapTables
         ensures { vec_len result.by_count ≡ 0 }
     {
@@ -69,7 +67,6 @@ impl GapTables {
         }
     }
 
-    /// Adds a receive, after which the clock is this.
     fn add(&mut self, receive: &Event, clock: u64) -> Result<(), AllocError>
         ensures { OnOk result (vec_len self.new.by_count ≡ vec_len self.old.by_count + 1) }
     {
@@ -81,7 +78,6 @@ impl GapTables {
         Ok(())
     }
 
-    /// Fills the tables from a stretch.
     pub(crate) fn fill(&mut self, stretch: Stretch<'_>) -> Result<(), AllocError>
         ensures { OnOk result (vec_len self.new.by_count ≡ length stretch.entry.receives.now) }
     {
@@ -103,7 +99,6 @@ impl GapTables {
         Ok(())
     }
 
-    /// The last gap.
     pub(crate) fn end(&self) -> usize
         ensures { result ≡ vec_len self.now.by_count }
     {

@@ -24,7 +24,6 @@ fn pid_after(pid: Pid) -> Pid
 /// Pids that streams don't list, as many as were asked for.
 #[derive(Drop)]
 pub(crate) struct UnlistedPids {
-    /// In the order in which they were found.
     pids: Vec<Pid>,
     /// The pid that is tried next.
     next: Pid,
@@ -87,7 +86,7 @@ impl UnlistedPids {
     pub(crate) fn into_rising(self) -> Result<Vec<Pid>, AllocError>
         ensures { IfOk result (λ pids. IsPermutation self.pids.items pids.items) }
     {
-        let UnlistedPids { mut pids, next: _ } = self;
+        let UnlistedPids { mut pids, .. } = self;
         pids.sort()?;
         Ok(pids)
     }

@@ -37,7 +37,6 @@ struct StretchSend {
 /// The event after a send in its stretch.
 #[derive(Clone, Copy, PartialEq, Eq)]
 enum Next {
-    /// Nothing, at the end of a process.
     Nothing,
     /// The next hidden send, with this prev.
     Send(u64),
@@ -127,7 +126,6 @@ struct Standing {
 }
 
 impl Standing {
-    /// Before the receives of a stretch.
     fn at_start(stretch: Stretch<'_>) -> Standing
         ensures { result.gap ≡ 0 }
     {
@@ -167,7 +165,6 @@ impl Standing {
         self.gap
     }
 
-    /// Behind the next send, at its place.
     fn after(self, ground: &GapTables, send: &StretchSend) -> Standing
         ensures gap { result.gap ≡ send.now.gap }
         ensures clock { self.clock ≤ result.clock }
@@ -181,7 +178,6 @@ impl Standing {
     }
 }
 
-/// The walk forth: gives each send its place.
 fn walk_forth(ground: &mut GapTables, stretch: Stretch<'_>, sends: &mut [StretchSend])
     requires { AreWithin (vec_len ground.old.by_count) sends.old }
     ensures gaps { AreWithin (vec_len ground.old.by_count) sends.new }
@@ -229,7 +225,6 @@ fn last_with_stamp(ground: &GapTables, stretch: Stretch<'_>, sends: &[StretchSen
     count
 }
 
-/// Puts the last sends of the stretch right before the reported stamp.
 fn move_to_stamp(ground: &GapTables, sends: &mut [StretchSend], count: usize)
     requires { AreWithin (vec_len ground.now.by_count) sends.old }
     ensures { AreWithin (vec_len ground.now.by_count) sends.new }
@@ -256,9 +251,7 @@ fn note_places(sends: &[StretchSend], start: usize, places: &mut Vec<u32>) -> Re
 #[derive(Drop)]
 struct StretchWalk {
     ground: GapTables,
-    /// The hidden sends of the stretch that is walked.
     sends: Vec<StretchSend>,
-    /// The places of all hidden sends so far.
     places: Vec<u32>,
 }
 
