@@ -3,11 +3,11 @@
 -- receive of that count does. It comes after the event that leaves another prev, since whatever
 -- stands between that receive and the stamp leaves the prev.
 use Rattle.std.proofs.Common.{[], ◌≡◌, inl, inr, ℕ, zero, suc, ◌<◌, ◌≤◌, Bool, true, false, not}
-use Rattle.std.proofs.Common.{cond}
+use Rattle.std.proofs.Common.{cond, ◌+◌}
 use Rattle.std.proofs.Common.{List, ◌∷◌, ◌++◌, length, take, Some, None, slice_get, refl, sym, ◌∙◌}
 use Rattle.std.proofs.Common.{ap, arith}
 use Rattle.std.proofs.lemmas.Bool.{cases_lt}
-use Rattle.std.proofs.lemmas.List.{length-append}
+use Rattle.std.proofs.lemmas.List.{length-append, take_all}
 use Rattle.std.proofs.lemmas.Option.{none-some, same_Some}
 use Rattle.st_core.specs.declared.types.Event.{Event}
 use Rattle.st_core.specs.Laws.{greatest_count, prev_after}
@@ -159,17 +159,10 @@ told_grows (x ∷ ms) (suc m) (suc n) most =
 
 pub told_most : (ms : List Marked) (n : ℕ)
     → length (told_events (take n ms)) ≤ length (told_events ms)
-told_most ms zero = omega arith
-told_most [] (suc n) = omega arith
-told_most (x ∷ ms) (suc n) =
-    let rest = told_most ms n in
-    let less = told_events (take n ms) in
-    let more = told_events ms in
-    elim x.told as (λ b. length (cond b (x.event ∷ less) less)
-    ≤ length (cond b (x.event ∷ more) more)) [
-      | true ↦ omega (arith, rest)
-      | false ↦ rest
-    ]
+told_most ms n =
+    let grows = told_grows ms n (n + length ms) (omega arith) in
+    let all = ap (λ xs. length (told_events xs)) (take_all (n + length ms) ms (omega arith)) in
+    omega (arith, grows, all)
 
 -- one more is told up to a told event
 pub told_next : (ms : List Marked) (k : ℕ) (m : Marked) → slice_get ms k ≡ Some m
