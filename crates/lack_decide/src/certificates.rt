@@ -15,7 +15,6 @@ use st_core::{Act, Sequence, Streams};
 use std::alloc::{AllocError, Global};
 use std::thread::Threads;
 
-/// Whether the act is a reset.
 fn is_reset(act: &Act) -> bool
     ensures { result ≡ is_reset act.now }
 {
@@ -33,7 +32,6 @@ fn is_reset(act: &Act) -> bool
     }
 }
 
-/// Whether none of the acts is a reset.
 fn has_no_reset(acts: &[Act]) -> bool
     ensures { IsTrue result ↔ NoReset acts.now }
 {
@@ -102,6 +100,22 @@ fn certify_construction<const TOP: u64>(
     }
 }
 
+/// Certifies the lean acts, or if they don't serve those of the construction.
+fn certify_either<const TOP: u64>(
+    rt: &(impl Threads + Sync),
+    alloc: Global,
+    streams: &Streams,
+    completion: &Completion,
+    most: u64,
+) -> Result<Option<Certificate>, AllocError>
+    ensures { IfOk result (λ some. IfSome some (IsCertificate TOP streams.now most)) }
+{
+    match certify_lean::<TOP>(rt, alloc, streams, completion, most)? {
+        None => certify_construction::<TOP>(rt, alloc, streams, completion, most),
+        lean => Ok(lean),
+    }
+}
+
 /// Why a completion has no certificate, if none of the acts that were tried serves.
 fn fault_of(completion: &Completion, most: u64) -> CertificateFault
     ensures { IsCertificateFault completion.now.wholes most result }
@@ -110,26 +124,6 @@ fn fault_of(completion: &Completion, most: u64) -> CertificateFault
         CertificateFault::TooManyActs
     } else {
         CertificateFault::Uncertified
-    }
-}
-
-/// Writes the acts of a completion by the auditor's construction, for which it is proved that they
-/// show the told events of plain streams. They are more than those of `certificate`, which takes
-/// them only if its own don't serve.
-pub fn certificate_by_construction<const TOP: u64>(
-    rt: &(impl Threads + Sync),
-    alloc: Global,
-    streams: &Streams,
-    completion: &Completion,
-    most: u64,
-) -> Result<Certificate, CertificateFault>
-    ensures certified { IfOk result (IsCertificate TOP streams.now most) }
-    ensures fault { IfErr result (IsCertificateFault completion.now.wholes most) }
-{
-    match certify_construction::<TOP>(rt, alloc, streams, completion, most) {
-        Err(AllocError) => Err(CertificateFault::Memory),
-        Ok(Some(found)) => Ok(found),
-        Ok(None) => Err(fault_of(completion, most)),
     }
 }
 
@@ -155,9 +149,9 @@ pub fn certificate<const TOP: u64>(
     ensures certified { IfOk result (IsCertificate TOP streams.now most) }
     ensures fault { IfErr result (IsCertificateFault completion.now.wholes most) }
 {
-    match certify_lean::<TOP>(rt, alloc, streams, completion, most) {
+    match certify_either::<TOP>(rt, alloc, streams, completion, most) {
         Err(AllocError) => Err(CertificateFault::Memory),
         Ok(Some(found)) => Ok(found),
-        Ok(None) => certificate_by_construction::<TOP>(rt, alloc, streams, completion, most),
+        Ok(None) => Err(fault_of(completion, most)),
     }
 }

@@ -13,6 +13,6 @@ mod decision;
 mod judge;
 
 pub use answer::{Answer, Certificate, CertificateFault, CompleteFault, Never};
-pub use certificates::{certificate, certificate_by_construction};
+pub use certificates::certificate;
 pub use decision::complete;
 pub use lack_needs::{Completion, is_marked, renumbered, with_silent};

@@ -1,11 +1,14 @@
-//! Completions and their acts: that they are found, and what is left if memory runs out.
+//! Completions and their acts: that they are found, of 100,000 events too, and what is left if
+//! memory runs out.
 
 use crate::helpers::{same, streams_at_last};
 use lack_decide::{
-    Answer, CertificateFault, CompleteFault, Completion, Never, certificate,
-    certificate_by_construction, complete,
+    Answer, CertificateFault, CompleteFault, Completion, Never, certificate, complete, renumbered,
 };
-use st_core::Streams;
+use st_audit::told_acts;
+use st_check::{Verdict, check};
+use st_core::{Draft, Event, Kind, Label, Serial, Streams};
+use st_samples::{p30, p31};
 use std::alloc::Global;
 use std::process::Abort;
 use std::test::Fail;
@@ -62,11 +65,13 @@ fn a_token_is_set_once(rt: HostRuntime) -> Result<(), Fail> {
 }
 
 #[test]
-fn the_acts_of_the_construction_are_certified(rt: HostRuntime) -> Result<(), Fail> {
+fn the_acts_of_the_construction_show_the_streams(rt: HostRuntime) -> Result<(), Fail> {
     let streams = streams_at_last(&rt, rt.alloc(), REQUEST);
     let completion = completion_at_last(&rt, rt.alloc(), &streams);
-    let found = certificate_by_construction::<MOST>(&rt, rt.alloc(), &streams, &completion, 100)?;
-    assert!(rt; found.acts.len() >= 7);
+    let whole = completion.streams();
+    let acts = told_acts::<MOST, Completion>(&rt, rt.alloc(), whole, &completion)?.ok_or("none")?;
+    let verdict = check::<MOST>(rt.alloc(), &streams, acts.as_slice())?;
+    assert!(rt; matches!(verdict, Verdict::Yes(_)));
     Ok(())
 }
 
@@ -105,4 +110,43 @@ fn a_certificate_without_memory_may_be_asked_again(rt: HostRuntime) {
         found => found,
     };
     assert!(rt; matches!(found, Ok(_)));
+}
+
+/// How many messages were received.
+const RECEIVES: u64 = 100_000;
+
+/// Makes the stream of 31, which received this many messages of 30, whose sends nobody reported.
+fn receives_of_hidden_sends(alloc: Global) -> Result<Streams, Fail> {
+    let mut draft = Draft::new(alloc);
+    draft.open(p30())?;
+    draft.open(p31())?;
+    for this in 1..=RECEIVES {
+        let event = Event {
+            label: Label(1),
+            kind: Kind::Receive,
+            serial: Serial { prev: 0, this },
+            from: p30(),
+            to: Some(p31()),
+            value: 0,
+        };
+        draft.add(p31(), event)?;
+    }
+    Ok(draft.close()?)
+}
+
+#[test]
+fn a_hundred_thousand_hidden_sends_are_completed_and_certified(
+    rt: HostRuntime,
+) -> Result<(), Fail> {
+    let streams = receives_of_hidden_sends(rt.alloc())?;
+    let Answer::Whole(completion) = complete::<MOST>(rt.alloc(), &streams)? else {
+        panic!(rt; "not completed");
+    };
+    same(&rt, &completion.added(), &RECEIVES);
+    let limit = 1_000_000;
+    let found = certificate::<MOST>(&rt, rt.alloc(), &streams, &completion, limit)?;
+    same(&rt, &(found.pairs.len() as u64), &RECEIVES);
+    let ranked = renumbered(rt.alloc(), completion.streams())?;
+    same(&rt, &ranked.total(), &(2 * RECEIVES));
+    Ok(())
 }

@@ -4,7 +4,6 @@
 //! |---|---|
 //! | `checks` | `st_check`: checks and replays |
 //! | `completes` | `lack_decide` |
-//! | `completions` | `lack_decide`: completions of 100,000 events |
 //! | `memory` | the other crates, if memory runs out |
 //! | `helpers` | none: what several of these take |
 #![tactic(auto)]
@@ -13,8 +12,6 @@
 mod checks;
 #[cfg(test)]
 mod completes;
-#[cfg(test)]
-mod completions;
 #[cfg(test)]
 mod helpers;
 #[cfg(test)]

@@ -1,8 +1,9 @@
 -- No act that was taken is a reset.
-use Rattle.std.proofs.Common.{drop}
-use Rattle.st_core.specs.Laws.{NoReset}
+use Rattle.std.proofs.Common.{◌≡◌, ℕ, ◌<◌, false, slice_get, Some}
+use Rattle.st_core.specs.declared.types.Act.{Act}
+use Rattle.st_core.specs.Laws.{is_reset}
 use Rattle.lack_decide.proofs.certificates.has_no_reset.Given as goal
 
--- so if none is of those that are left, none is
 abbrev pub invariant-loop-act : goal.invariant-loop-act
-invariant-loop-act l = NoReset (drop l.act-index l.acts) → NoReset l.acts
+invariant-loop-act l = (k : ℕ) (a : Act) → k < l.act-index → slice_get l.acts k ≡ Some a
+    → is_reset a ≡ false
