@@ -1,6 +1,6 @@
 -- Why the reasons hold, and why they are final: each is one of the open question's, at its place.
 -- And why acts show the streams otherwise: a completion needs nothing.
-use Rattle.std.proofs.Common.{◌≡◌, ◌↔◌, ℕ, ◌<◌, zero, suc, ◌&&◌, nat_lt, not, Bool, true, false}
+use Rattle.std.proofs.Common.{◌≡◌, ◌↔◌, ℕ, ◌<◌, suc, ◌&&◌, nat_lt, not, Bool, true, false}
 use Rattle.std.proofs.Common.{List, [], ◌∷◌}
 use Rattle.std.proofs.Common.{slice_get, take, Some, None, refl, sym, ◌∙◌, subst, arith}
 use Rattle.std.proofs.lemmas.Bool.{false≢true}
@@ -26,7 +26,7 @@ use Rattle.lack_laws.specs.Reasons.{HoldsAt}
 use Rattle.lack_laws.specs.OpenReasons.{HasNoOpenReason, Late, OpenReason, Refused}
 use Rattle.lack_laws.specs.OpenReasons.{StandsAgainstOpen, TooHigh, Unfounded}
 use Rattle.lack_laws.specs.Silent.{with_silent}
-use Rattle.lack_laws.proofs.ForCallers.{silent_sound}
+use Rattle.lack_laws.proofs.ForCallers.{silent_sound, taken_at}
 use Rattle.lack_needs.specs.Completions.{Completed}
 use Rattle.lack_decide.specs.declared.answer.Never.{Never}
 use Rattle.lack_decide.specs.declared.answer.Never.TheVariants as never
@@ -152,16 +152,6 @@ greatest_below (e ∷ es) this high each =
     let rest = greatest_below es this high (λ k f at. each (suc k) f at) in
     omega (arith, first, rest)
 
-taken_at : (es : List Event) (i k : ℕ) (f : Event) → slice_get (take i es) k ≡ Some f
-    → (k < i) × (slice_get es k ≡ Some f)
-taken_at es zero k f at = absurd (cc)
-taken_at [] (suc i) k f at = absurd (cc)
-taken_at (e ∷ es) (suc i) zero f at = ((omega arith), at)
-taken_at (e ∷ es) (suc i) (suc k) f at =
-    let rest = taken_at es i k f at in
-    let low = rest.0 in
-    ((omega (arith, low)), rest.1)
-
 none_if : (stamp less : Bool) → less ≡ true → (stamp && not less) ≡ true → ⊥
 none_if true true is h = false≢true h
 none_if true false is h = false≢true is
@@ -178,6 +168,6 @@ some_higher streams p i e accepted late at lower =
     same late.holds in
     let rises = serial_rises streams (paired streams accepted) p i e at in
     let low = greatest_below (take i es) e.serial.this (omega (arith, rises))
-    (λ k f there. let t = taken_at es i k f there in lower k f t.0 t.1) in
+    (λ k f there. let t = taken_at es i k f there in lower k f t.1 t.0) in
     none_if (is_stamp e) (nat_lt (greatest_count (take i es)) e.serial.this)
     (grind (arith, nat_tests, low)) holds

@@ -1,16 +1,10 @@
 -- The acts of events are counted one event, and one process, after the other.
-use Rattle.std.proofs.Common.{◌≡◌, ℕ, ◌+◌, zero, suc, List, [], ◌∷◌, drop, take, slice_get, Some}
+use Rattle.std.proofs.Common.{◌≡◌, ℕ, ◌+◌, suc, List, drop, take, slice_get, Some}
 use Rattle.std.proofs.Common.{sym, ◌∙◌, ap, arith}
-use Rattle.std.proofs.lemmas.Option.{same_Some}
 use Rattle.st_core.specs.declared.types.Event.{Event}
+use Rattle.st_pair.proofs.ForCallers.{drop_next}
 use Rattle.st_plan.proofs.ForCallers.{take_more}
 use Rattle.lack_decide.specs.Bounds.{acts_after, saturated, skipped}
-
-drop_here : (es : List Event) (i : ℕ) (e : Event) → slice_get es i ≡ Some e
-    → drop i es ≡ e ∷ drop (suc i) es
-drop_here [] i e at = absurd (cc)
-drop_here (f ∷ es) zero e at = ap (λ x. x ∷ es) (same_Some f e at)
-drop_here (f ∷ es) (suc i) e at = drop_here es i e at
 
 -- those of the events from one on are its own and those of the others
 pub acts_next : (es : List Event) (i : ℕ) (e : Event) → slice_get es i ≡ Some e
@@ -18,7 +12,7 @@ pub acts_next : (es : List Event) (i : ℕ) (e : Event) → slice_get es i ≡ S
     ≡ 6 + skipped (take i es) e + acts_after (take (i + 1) es) (drop (i + 1) es)
 acts_next es i e at =
     let next : suc i ≡ i + 1 = omega arith in
-    ap (acts_after (take i es)) (drop_here es i e at)
+    ap (acts_after (take i es)) (drop_next es i e at)
     ∙ ap (λ before. 6 + skipped (take i es) e + acts_after before (drop (suc i) es))
     (sym (take_more es i e at))
     ∙ ap (λ n. 6 + skipped (take i es) e + acts_after (take n es) (drop n es)) next

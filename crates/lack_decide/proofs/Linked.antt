@@ -1,18 +1,17 @@
 -- Nothing is needed in streams whose events are all fit: a send names one receive, and each receive
 -- a send that names it, so no two receives have the same send.
-use Rattle.std.proofs.Common.{◌≡◌, ℕ, ◌+◌, ◌<◌, ◌≤◌, zero, suc, ◌&&◌, nat_lt, not, Bool, true}
+use Rattle.std.proofs.Common.{◌≡◌, ℕ, ◌<◌, ◌≤◌, suc, nat_lt, Bool, true}
 use Rattle.std.proofs.Common.{false, cond, inl, inr, List, [], ◌∷◌, length, take}
 use Rattle.std.proofs.Common.{slice_get, Option, Some, None, refl, sym, ◌∙◌, ap, subst, arith}
-use Rattle.std.proofs.lemmas.Bool.{cases_lt, false≢true}
-use Rattle.std.proofs.lemmas.Bool.Decides.{nat_tests}
-use Rattle.std.proofs.lemmas.Option.{none-some, same_Some}
+use Rattle.std.proofs.lemmas.Bool.{cases_lt, ltb-true}
+use Rattle.std.proofs.lemmas.Option.{none-some, same_Some, slice_get_within}
 use Rattle.st_core.specs.declared.types.Pid.{Pid}
 use Rattle.st_core.specs.declared.types.Event.{Event}
 use Rattle.st_core.specs.Laws.{greatest_count}
-use Rattle.st_core.specs.Pid.{pid_eq, IsRising}
+use Rattle.st_core.specs.Pid.{pid_eq}
 use Rattle.st_core.specs.Run.{Stream, pids_of}
 use Rattle.st_core.specs.Streams.{events_of, stream_of, IsStreams}
-use Rattle.st_core.proofs.ForCallers.{above_apart, pid_eq-refl, pid_same, place_within}
+use Rattle.st_core.proofs.ForCallers.{pid_same}
 use Rattle.st_pair.specs.Pairing.{agrees, is_send, refusal, source_of, stamp_of}
 use Rattle.st_pair.specs.Places.{event_at, is_stamp}
 use Rattle.st_pair.specs.declared.answer.Source.{Source}
@@ -21,27 +20,13 @@ use Rattle.st_pair.proofs.ForCallers.{agrees_if, events_in, paired, source_from,
 use Rattle.st_pair.proofs.ForCallers.{send_stamps}
 use Rattle.st_order.specs.Items.{is_hidden}
 use Rattle.lack_laws.specs.Local.{IsNeedless}
-use Rattle.lack_laws.proofs.ForCallers.{accepted_if, own_at, received_to, FitTogether}
+use Rattle.lack_laws.proofs.ForCallers.{accepted_if, own_at, received_to, FitTogether, above_if}
 use Rattle.lack_needs.specs.Additions.{receipt_of}
-use Rattle.lack_decide.specs.Links.{other_end, AreEventsFit, IsEventFit, IsLinked}
+use Rattle.lack_needs.proofs.ForCallers.{one_place}
+use Rattle.lack_decide.specs.Links.{other_end, AreEventsFit, IsLinked}
+use Rattle.st_plan.proofs.ForCallers.{greatest_has}
 
 -- THE EVENTS OF A PROCESS
-
--- a stamp that isn't late counts higher than each event before it
-low : (es : List Event) (i j : ℕ) (d : Event) → j < i → slice_get es j ≡ Some d
-    → d.serial.this ≤ greatest_count (take i es)
-low [] i j d less at = absurd (none-some d at)
-low (e ∷ es) zero j d less at = absurd (omega arith)
-low (e ∷ es) (suc i) zero d less at =
-    let same = ap (λ (x : Event). x.serial.this) (same_Some e d at) in
-    omega arith
-low (e ∷ es) (suc i) (suc j) d less at = let rest = low es i j d (omega arith) at in omega arith
-
-high : (stamp : Bool) (greatest this : ℕ) → (stamp && not (nat_lt greatest this)) ≡ false
-    → stamp ≡ true
-    → greatest < this
-high true greatest this timely stamps = grind (arith, nat_tests, timely)
-high false greatest this timely stamps = absurd (false≢true stamps)
 
 -- an event has a process that is listed
 pub place_with : (streams : List Stream) (p : Pid) (i : ℕ) (e : Event)
@@ -55,21 +40,6 @@ place_with (x ∷ streams) p i e at =
       | true ↦ λ same at. (0, ap (λ (q : Pid). Some q) (pid_same x.pid p same))
       | false ↦ λ other at. let rest = place_with streams p i e at in (suc rest.0, rest.1)
     ] refl at
-
--- a pid is at one place
-same_place : (ps : List Pid) (k l : ℕ) (p : Pid) → IsRising ps → slice_get ps k ≡ Some p
-    → slice_get ps l ≡ Some p
-    → k ≡ l
-same_place [] k l p rising at there = absurd (none-some p at)
-same_place (q ∷ ps) zero zero p rising at there = refl
-same_place (q ∷ ps) zero (suc l) p rising at there =
-    absurd (false≢true (sym (above_apart ps q p l rising.0 there)
-    ∙ ap (λ x. pid_eq x p) (same_Some q p at) ∙ pid_eq-refl p))
-same_place (q ∷ ps) (suc k) zero p rising at there =
-    absurd (false≢true (sym (above_apart ps q p k rising.0 at)
-    ∙ ap (λ x. pid_eq x p) (same_Some q p there) ∙ pid_eq-refl p))
-same_place (q ∷ ps) (suc k) (suc l) p rising at there =
-    ap suc (same_place ps k l p rising.1 at there)
 
 -- A SEND AND ITS RECEIVE
 
@@ -88,47 +58,16 @@ abbrev pub AllFit : ℕ → List Stream → List (List ℕ) → ℕ → Type 0
 AllFit top streams links n = (k : ℕ) (p : Pid) → k < n → slice_get (pids_of streams) k ≡ Some p
     → AreEventsFit top streams links (events_of streams p)
 
--- one process more
-pub fit_next : (top : ℕ) (streams : List Stream) (links : List (List ℕ)) (n : ℕ) (p : Pid)
-    (es : List Event)
-    → slice_get (pids_of streams) n ≡ Some p → es ≡ events_of streams p
-    → AllFit top streams links n → AreEventsFit top streams links es
-    → AllFit top streams links (n + 1)
-fit_next top streams links n p es at are before here = λ k q less there. elim (cases_lt k n) [
-  | inl below ↦ before k q below there
-  | inr above ↦
-      let same : k ≡ n = omega (arith, less, above) in
-      let is = same_Some p q (sym at ∙ ap (slice_get (pids_of streams)) (sym same) ∙ there) in
-      subst (λ (x : Pid). AreEventsFit top streams links (events_of streams x)) is
-      (subst (AreEventsFit top streams links) are here)
-]
-
--- one event more
-pub fit_more : (top : ℕ) (streams : List Stream) (links : List (List ℕ)) (es : List Event) (n : ℕ)
-    (d : Event)
-    → slice_get es n ≡ Some d
-    → ((j : ℕ) (e : Event) → j < n → slice_get es j ≡ Some e → IsEventFit top streams links es j e)
-    → IsEventFit top streams links es n d
-    → (j : ℕ) (e : Event) → j < n + 1 → slice_get es j ≡ Some e
-    → IsEventFit top streams links es j e
-fit_more top streams links es n d at before here j e less there = elim (cases_lt j n) [
-  | inl below ↦ before j e below there
-  | inr above ↦
-      let same : n ≡ j = omega (arith, less, above) in
-      let is = same_Some d e (sym at ∙ ap (slice_get es) same ∙ there) in
-      subst (λ (m : ℕ). IsEventFit top streams links es m e) same
-      (subst (IsEventFit top streams links es n) is here)
-]
-
 module _ (top : ℕ) (streams : List Stream) (links : List (List ℕ)) (sound : IsStreams streams)
     (fit : (p : Pid) → AreEventsFit top streams links (events_of streams p)) where
   grows : (p : Pid) (j i : ℕ) (d e : Event) → j < i → event_at streams p j ≡ Some d
       → event_at streams p i ≡ Some e
       → is_stamp e ≡ true → d.serial.this < e.serial.this
   grows p j i d e less at there stamps =
-      let below = low (events_of streams p) i j d less at in
-      let above = high (is_stamp e) (greatest_count (take i (events_of streams p))) e.serial.this
-      (fit p i e there).goes_on.timely stamps in
+      let below = greatest_has (events_of streams p) i j d at less in
+      let before = take i (events_of streams p) in
+      let above = ltb-true (greatest_count before) e.serial.this (above_if (is_stamp e)
+      (nat_lt (greatest_count before) e.serial.this) stamps (fit p i e there).goes_on.timely) in
       omega (arith, below, above)
 
   -- two stamps of a process with one count are one
@@ -162,7 +101,7 @@ module _ (top : ℕ) (streams : List Stream) (links : List (List ℕ)) (sound : 
       (send_stamps s.sent s.sends) (send_stamps t.sent t.sends) counts in
       let at : slice_get (pids_of streams) s.place ≡ Some e.from =
       subst (λ (p : Pid). slice_get (pids_of streams) s.place ≡ Some p) from s.at in
-      let place : s.place ≡ t.place = same_place
+      let place : s.place ≡ t.place = one_place
       (pids_of streams) s.place t.place e.from sound.draft.rising at t.at in (
         same_Some s.sent t.sent (sym there ∙ ap (event_at streams e.from) index ∙ t.there),
         sym s.back ∙ ap (λ k. other_end links k s.index) place ∙ ap (other_end links t.place) index
@@ -232,5 +171,5 @@ pub all_fit : (top : ℕ) (streams : List Stream) (links : List (List ℕ)) (n :
     → AllFit top streams links n → (p : Pid) → AreEventsFit top streams links (events_of streams p)
 all_fit top streams links n all each p i e at =
     let found = place_with streams p i e at in
-    let within = place_within (pids_of streams) found.0 p found.1 in
+    let within = slice_get_within (pids_of streams) found.0 p found.1 in
     each found.0 p (omega (arith, within, all)) found.1 i e at

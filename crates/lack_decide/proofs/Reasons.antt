@@ -551,48 +551,29 @@ module _ (top : ℕ) (streams : List Stream) (sound : IsStreams streams) where
       }) less
 
   late_quiet : refusal streams ≡ None → HoldsOfNone is_late streams → (n : ℕ) → n < 5 → AreQuiet n
-  late_quiet accepted timely zero less = paired_quiet accepted 0 (omega arith)
-  late_quiet accepted timely (suc zero) less = paired_quiet accepted 1 (omega arith)
-  late_quiet accepted timely (suc (suc zero)) less = paired_quiet accepted 2 (omega arith)
-  late_quiet accepted timely (suc (suc (suc zero))) less = paired_quiet accepted 3 (omega arith)
-  late_quiet accepted timely (suc (suc (suc (suc zero)))) less = timely
-  late_quiet accepted timely (suc (suc (suc (suc (suc n))))) less = absurd (omega (arith, less))
+  late_quiet accepted timely n less = elim (cases_lt n 4) [
+    | inl early ↦ paired_quiet accepted n early
+    | inr last ↦ let same : 4 ≡ n = omega (arith, less, last) in subst AreQuiet same timely
+  ]
 
   founded_quiet : refusal streams ≡ None → HoldsOfNone is_late streams
       → ((q : Pid) (j : ℕ) → IsUnfounded streams q j → ⊥) → (n : ℕ) → n < 6 → AreQuiet n
-  founded_quiet accepted timely founded zero less = late_quiet accepted timely 0 (omega arith)
-  founded_quiet accepted timely founded (suc zero) less = late_quiet accepted timely 1 (omega arith)
-  founded_quiet accepted timely founded (suc (suc zero)) less =
-      late_quiet accepted timely 2 (omega arith)
-  founded_quiet accepted timely founded (suc (suc (suc zero))) less =
-      late_quiet accepted timely 3 (omega arith)
-  founded_quiet accepted timely founded (suc (suc (suc (suc zero)))) less =
-      late_quiet accepted timely 4 (omega arith)
-  founded_quiet accepted timely founded (suc (suc (suc (suc (suc zero))))) less = λ q j f at.
-      founded q j
-  founded_quiet accepted timely founded (suc (suc (suc (suc (suc (suc n)))))) less =
-      absurd (omega (arith, less))
+  founded_quiet accepted timely founded n less = elim (cases_lt n 5) [
+    | inl early ↦ late_quiet accepted timely n early
+    | inr last ↦
+        let same : 5 ≡ n = omega (arith, less, last) in
+        subst AreQuiet same (λ q j f at. founded q j)
+  ]
 
   -- where no reason of the open question holds, none is against an event
   pub none_against : HasNoOpenReason top streams → (reason : Never) (p : Pid) (i : ℕ) (e : Event)
       → event_at streams p i ≡ Some e → ¬ IsAgainst top streams p i e reason
-  none_against none never.PrevNotBefore p i e at =
-      not_against never.PrevNotBefore p i e at (paired_quiet none.accepted 0 (omega arith) p i e at)
-  none_against none (never.NotRising j) p i e at =
-      not_against (never.NotRising j) p i e at (paired_quiet none.accepted 1 (omega arith) p i e at)
-  none_against none (never.Repeated q j) p i e at =
-      not_against (never.Repeated q j) p i e at
-      (paired_quiet none.accepted 2 (omega arith) p i e at)
-  none_against none (never.Mismatch q j) p i e at =
-      not_against (never.Mismatch q j) p i e at
-      (paired_quiet none.accepted 3 (omega arith) p i e at)
-  none_against none (never.Late j) p i e at =
-      not_against (never.Late j) p i e at (none.timely p i e at)
-  none_against none never.Unfounded p i e at =
-      not_against never.Unfounded p i e at (none.founded p i)
   none_against none never.TooHigh p i e at = λ against.
       let low = none.within p i e at in
       omega (arith, low, against)
+  none_against none reason p i e at =
+      not_against reason p i e at
+      (founded_quiet none.accepted none.timely none.founded (reason_rank reason) (omega arith) p i e at)
 
   pub reason_means : (p : Pid) (i : ℕ) (reason : Never) → IsFoundReason top streams p i reason
       → IsFirstReason top streams p i reason

@@ -9,8 +9,8 @@ ghost use Rattle.lack_needs.specs.Additions.{AreAdditionsNeeded, IsReceived};
 ghost use Rattle.lack_needs.specs.Completions.{wholes_with};
 ghost use Rattle.lack_decide.specs.Needed.{AreNeeded, IsNeededAmong, IsNextOf};
 
-use crate::judge::{is_received, other_end};
-use lack_needs::{is_marked, is_stamp, marks_at};
+use crate::judge::other_end;
+use lack_needs::{is_marked, is_sent, is_stamp, marks_at};
 use st_core::{Event, Kind, Sequence, Streams};
 
 /// One more than the index of the last mark that is set; 0 if none is.
@@ -40,11 +40,11 @@ fn is_sent_for(
     let Some(to) = sent.to else {
         return false;
     };
-    let link = other_end(links, place, index);
-    let Some(event) = streams.event(to, u64::from(link)) else {
-        return false;
-    };
-    is_received(sent, &event)
+    is_sent(
+        streams,
+        sent,
+        (to, u64::from(other_end(links, place, index))),
+    )
 }
 
 /// Whether a send or print with this count for its prev is right after this index.
@@ -95,10 +95,10 @@ fn are_needed(
 {
     let end = told_end(marks);
     for index in 0..events.len() {
-        if !is_marked(marks, index) {
-            if !is_needed(streams, links, place, events, marks, end, index) {
-                return false;
-            }
+        if !is_marked(marks, index)
+            && !is_needed(streams, links, place, events, marks, end, index)
+        {
+            return false;
         }
     }
     true

@@ -1,6 +1,6 @@
 //! How many acts surely suffice for a completion.
 
-ghost use Rattle.std.specs.Prelude.{◌≡◌, ◌+◌, [], List};
+ghost use Rattle.std.specs.Prelude.{◌≡◌, [], List};
 ghost use Rattle.st_core.specs.declared.types.Event.{Event as EventValue};
 ghost use Rattle.lack_needs.specs.Flaws.{left_by};
 ghost use Rattle.lack_decide.specs.Bounds.{act_bound, acts_after, saturated, skipped};
@@ -11,13 +11,6 @@ use st_core::{Event, Kind, Streams};
 /// A stamp takes at most this many: before its own act the token gets its label and flags, and if
 /// it begins a trace, or counts are skipped, three more prepare for that.
 const ACTS_OF_EVENT: u64 = 6;
-
-/// The sum, or the greatest number if it is above.
-fn plus(first: u64, second: u64) -> u64
-    ensures { result ≡ saturated (first + second) }
-{
-    first.saturating_add(second)
-}
 
 /// How many counts a process passes unreported before an event.
 fn skipped(left: Left, event: &Event) -> u64
@@ -41,8 +34,8 @@ fn acts_of_events(events: &[Event]) -> u64
     let mut left = Left::by_none();
     let mut count: u64 = 0;
     for event in events {
-        let more = plus(ACTS_OF_EVENT, skipped(left, event));
-        count = plus(count, more);
+        let more = ACTS_OF_EVENT.saturating_add(skipped(left, event));
+        count = count.saturating_add(more);
         left = left.after(event);
     }
     count
@@ -54,8 +47,8 @@ pub(crate) fn act_bound(streams: &Streams) -> u64
 {
     let mut count: u64 = 0;
     for &pid in streams.pids() {
-        let more = plus(1, acts_of_events(streams.events(pid)));
-        count = plus(count, more);
+        let more = acts_of_events(streams.events(pid)).saturating_add(1);
+        count = count.saturating_add(more);
     }
     count
 }

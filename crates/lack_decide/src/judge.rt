@@ -16,19 +16,19 @@ ghost use Rattle.lack_needs.specs.Additions.{receipt_of};
 ghost use Rattle.lack_decide.specs.Links.{other_end, AreEventsFit, IsLinked};
 
 use crate::additions::are_additions_needed;
-use lack_needs::{Completion, Left, completion_of, is_marked, is_unlisted, marks_at, pids_with};
+use lack_needs::{
+    Completion, Left, completion_of, is_marked, is_unlisted, marks_at, pids_with, receive_of,
+};
 use lack_search::Candidate;
 use st_core::{Event, Kind, Pid, Sequence, Streams, is_rising};
 use std::alloc::{AllocError, Global};
 
-/// Whether these are one event.
 fn is_same_event(event: &Event, other: &Event) -> bool
     ensures { IsTrue result ↔ (event.now ≡ other.now) }
 {
     *event == *other
 }
 
-/// Whether these are one process.
 fn is_same_pid(pid: Pid, other: Pid) -> bool
     ensures { IsTrue result ↔ (pid ≡ other) }
 {
@@ -97,18 +97,8 @@ pub(crate) fn other_end(links: &[Sequence<u32>], place: usize, index: usize) -> 
     }
 }
 
-/// The receive of a send.
-fn receive_of(sent: &Event) -> Event
-    ensures { result ≡ receipt_of sent.now }
-{
-    Event {
-        kind: Kind::Receive,
-        ..*sent
-    }
-}
-
 /// Whether the event is the receive of this one, and this a send.
-pub(crate) fn is_received(sent: &Event, event: &Event) -> bool
+fn is_received(sent: &Event, event: &Event) -> bool
     ensures sends { result ≡ true → is_send sent.now ≡ true }
     ensures same { result ≡ true → receipt_of sent.now ≡ event.now }
 {

@@ -27,8 +27,8 @@ loop-pid-preserved c =
     let same = ap (λ qs. get_or qs k none) are in
     let own = c.acts_of_events.ensures in
     let events = ap (acts_after []) c.events.ensures.value in
-    let more = c.plus-more.ensures in
-    let now = c.plus-count.ensures in
+    let more = c.saturating_add-more.ensures in
+    let now = c.saturating_add-count.ensures in
     let so_far = c.loop-pid.invariant in
     let here = ap (λ q. acts_after [] (events_of streams q)) same in
     omega (arith, taken, pushed, own, events, more, now, so_far, here)

@@ -1,8 +1,12 @@
 -- One process more; and in the end all were taken.
-use Rattle.std.proofs.Common.{get_or, length, slice_get, sym, ◌∙◌, ap, arith}
+use Rattle.std.proofs.Common.{get_or, length, slice_get, sym, ◌∙◌, ap, subst, arith}
 use Rattle.st_core.specs.declared.types.Pid.{Pid}
+use Rattle.st_core.specs.Run.{pids_of}
+use Rattle.st_core.specs.Streams.{events_of}
 use Rattle.st_pair.proofs.ForCallers.{at_get_or}
-use Rattle.lack_decide.proofs.Linked.{all_fit, fit_next, needless}
+use Rattle.lack_decide.proofs.Linked.{all_fit, needless}
+use Rattle.lack_decide.specs.Links.{AreEventsFit}
+use Rattle.lack_needs.proofs.ForCallers.{more_passed}
 use Rattle.lack_decide.proofs.judge.are_all_fit.Goals as goal
 
 abbrev none : Pid
@@ -14,9 +18,12 @@ loop-place-preserved c =
     let p = get_or c.pids-pid-items.result.now k none in
     let at = sym (ap (λ ps. slice_get ps k) c.pids-pid-items.ensures.value)
     ∙ at_get_or _ k none c.loop-place-test.true in
-    fit_next c.args.top c.args.streams.now c.args.links.now k p _ at c.events.ensures.value
-    c.loop-place.invariant
-    (c.are_fit.ensures c.if-not-are_fit.false)
+    let top = c.args.top in
+    let streams = c.args.streams.now in
+    let links = c.args.links.now in
+    more_passed (λ _ q. AreEventsFit top streams links (events_of streams q)) (pids_of streams) k p
+    at c.loop-place.invariant (subst (AreEventsFit top streams links) c.events.ensures.value
+    (c.are_fit.ensures c.if-not-are_fit.false))
 
 pub returns : goal.returns
 returns c = λ yes.

@@ -1,8 +1,9 @@
 -- The processes that were taken aren't listed.
-use Rattle.std.proofs.Common.{◌≡◌, false, take}
-use Rattle.std.specs.List.{AllByRecursion}
+use Rattle.std.proofs.Common.{◌≡◌, ℕ, ◌<◌, false, slice_get, Some}
+use Rattle.st_core.specs.declared.types.Pid.{Pid}
 use Rattle.st_core.specs.Streams.{lists}
 use Rattle.lack_decide.proofs.judge.are_apart.Given as goal
 
 abbrev pub invariant-loop-pid : goal.invariant-loop-pid
-invariant-loop-pid l = AllByRecursion (λ q. lists l.streams q ≡ false) (take l.pid-index l.unlisted)
+invariant-loop-pid l = (k : ℕ) (q : Pid) → k < l.pid-index → slice_get l.unlisted k ≡ Some q
+    → lists l.streams q ≡ false

@@ -1,9 +1,9 @@
 -- An event is tested after those before it.
 use Rattle.std.proofs.Common.{get_or, take, ◌∙◌, arith}
+use Rattle.std.proofs.lemmas.Option.{slice_get_within}
 use Rattle.st_pair.proofs.ForCallers.{at_get_or, blank}
-use Rattle.st_core.proofs.ForCallers.{place_within}
-use Rattle.lack_needs.proofs.ForCallers.{left_more}
-use Rattle.lack_decide.proofs.Linked.{fit_more}
+use Rattle.lack_needs.proofs.ForCallers.{left_more, more_passed}
+use Rattle.lack_decide.specs.Links.{IsEventFit}
 use Rattle.lack_decide.proofs.judge.are_fit.Goals as goal
 
 pub loop-i-preserved : goal.loop-i-preserved
@@ -14,8 +14,8 @@ loop-i-preserved c =
     let at = at_get_or es i blank c.loop-i-test.true in
     record {
       left = c.after-left.ensures (take i es) c.loop-i.invariant.left ∙ left_more es i e at;
-      fit = fit_more c.args.top c.args.streams.now c.args.links.now es i e at c.loop-i.invariant.fit
-          (record {
+      fit = more_passed (IsEventFit c.args.top c.args.streams.now c.args.links.now es) es i e at
+          c.loop-i.invariant.fit (record {
             goes_on = (c.goes_on.ensures (take i es) c.loop-i.invariant.left).0
                 c.if-not-goes_on.false;
             linked = c.has_send.ensures c.if-not-has_send.false;
@@ -25,5 +25,5 @@ loop-i-preserved c =
 pub returns : goal.returns
 returns c = λ yes i e at.
     let past = c.loop-i-test.false in
-    let within = place_within c.args.events.now i e at in
+    let within = slice_get_within c.args.events.now i e at in
     c.loop-i.invariant.fit i e (omega (arith, past, within)) at
