@@ -1,6 +1,6 @@
 -- Why the first of candidates is the first of all: each that is so has a candidate at its place.
 use Rattle.std.proofs.Common.{◌≡◌, ◌⊎◌, ℕ, ◌+◌, zero, suc, List, [], ◌∷◌, ◌++◌, Option, Some, None}
-use Rattle.std.proofs.Common.{inl, inr, length, slice_get, refl, sym, ◌∙◌, subst, arith}
+use Rattle.std.proofs.Common.{inl, inr, length, slice_get, sym, ◌∙◌, subst, arith}
 use Rattle.std.proofs.lemmas.Option.{same_Some}
 use Rattle.st_core.specs.declared.types.Pid.{Pid}
 use Rattle.st_pair.specs.Laws.{IsEarlier}
@@ -9,6 +9,7 @@ use Rattle.lack_pieces.specs.declared.placed_reason.PlacedReason.{PlacedReason}
 use Rattle.lack_pieces.specs.Firsts.{IsEarliest, IsFirstWith}
 use Rattle.lack_pieces.specs.Verdicts.{ComesBefore, IsVerdictAmong, IsFirstAmong}
 use Rattle.lack_pieces.proofs.Order.{not_before, not_both, not_earlier, not_earlier_back}
+use Rattle.lack_laws.proofs.ForCallers.{at_front, at_seam}
 
 -- two reasons at one place
 pub record IsBeside (a b : PlacedReason) : Type 0 where
@@ -90,16 +91,6 @@ module _ (Is More : PlacedReason → Type 0) where
 
 -- THE FIRST OF VERDICTS
 
-get_left : {A : Type 0} (xs ys : List A) (k : ℕ) (x : A) → slice_get xs k ≡ Some x
-    → slice_get (xs ++ ys) k ≡ Some x
-get_left [] ys k x at = absurd (cc)
-get_left (y ∷ xs) ys zero x at = at
-get_left (y ∷ xs) ys (suc k) x at = get_left xs ys k x at
-
-get_last : {A : Type 0} (xs : List A) (x : A) → slice_get (xs ++ x ∷ []) (length xs) ≡ Some x
-get_last [] x = refl
-get_last (y ∷ xs) x = get_last xs x
-
 get_either : {A : Type 0} (xs : List A) (y : A) (k : ℕ) (x : A)
     → slice_get (xs ++ y ∷ []) k ≡ Some x → (slice_get xs k ≡ Some x) ⊎ (y ≡ x)
 get_either [] y zero x at = inr (same_Some y x at)
@@ -112,11 +103,11 @@ module _ (verdicts : List (Option PlacedReason)) where
       → IsVerdictAmong (verdicts ++ next ∷ []) r
   among_more next r a = record {
     place = a.place;
-    at = get_left verdicts (next ∷ []) a.place (Some r) a.at;
+    at = at_front verdicts (next ∷ []) a.place (Some r) a.at;
   }
 
   among_last : (r : PlacedReason) → IsVerdictAmong (verdicts ++ Some r ∷ []) r
-  among_last r = record { place = length verdicts; at = get_last verdicts (Some r) }
+  among_last r = record { place = length verdicts; at = at_seam verdicts [] (Some r) }
 
   among_either : (next : Option PlacedReason) (r : PlacedReason)
       → IsVerdictAmong (verdicts ++ next ∷ []) r

@@ -1,6 +1,6 @@
 -- Worked cases: reasons in pieces of a few events, computed. Nothing cites this file; it shows that
 -- the definitions say what is meant.
-use Rattle.std.proofs.Common.{◌≡◌, ℕ, [], ◌∷◌, inl, inr, refl, arith}
+use Rattle.std.proofs.Common.{◌≡◌, [], ◌∷◌, inl, inr, refl, arith}
 use Rattle.st_core.proofs.Samples.{a, b, got, printed, sent}
 use Rattle.lack_decide.specs.declared.answer.Never.TheVariants as never
 use Rattle.lack_pieces.specs.Pieces.{Piece}

@@ -1,7 +1,7 @@
 -- Why the lowest counts tell what is unfounded: a lower one is there exactly if the lowest is
 -- lower, and the first one that a walk meets is the lowest, since counts rise.
-use Rattle.std.proofs.Common.{◌≡◌, ◌⊎◌, ℕ, ◌<◌, ◌+◌, zero, Bool, true, false, List, Option, Some}
-use Rattle.std.proofs.Common.{None, inl, inr, slice_get, refl, sym, ◌∙◌, ap, subst, arith}
+use Rattle.std.proofs.Common.{◌≡◌, ◌⊎◌, ℕ, ◌<◌, ◌≤◌, ◌+◌, zero, Bool, true, false, List, Option}
+use Rattle.std.proofs.Common.{Some, None, inl, inr, slice_get, refl, sym, ◌∙◌, ap, subst, arith}
 use Rattle.std.proofs.lemmas.Bool.{cases_lt, false≢true}
 use Rattle.std.proofs.lemmas.Option.{same_Some}
 use Rattle.st_core.specs.declared.types.Pid.{Pid}
@@ -16,7 +16,7 @@ use Rattle.lack_pieces.specs.declared.placed_reason.PlacedReason.{PlacedReason}
 use Rattle.lack_pieces.specs.declared.unfounded_events.Lowest.{Lowest}
 use Rattle.lack_pieces.specs.Firsts.{HoldsOfRank, IsEarliest, IsFirstOfRank, IsFirstWith}
 use Rattle.lack_pieces.specs.Firsts.{StampsRise}
-use Rattle.lack_pieces.specs.Lowest.{IsKnownBelow, IsLowestIn, IsLowestOfReceipts, IsLowestOfStamps}
+use Rattle.lack_pieces.specs.Lowest.{IsKnownBelow, IsLowest, IsLowestIn}
 use Rattle.lack_pieces.specs.Lowest.{IsReceiptCounted, IsStampCounted, IsUnfoundedReceipt}
 use Rattle.lack_pieces.specs.Lowest.{IsUnfoundedStamp}
 use Rattle.lack_pieces.specs.Pieces.{Piece}
@@ -26,37 +26,28 @@ use Rattle.lack_pieces.proofs.Candidates.{first_of_all, first_still, first_with,
 use Rattle.lack_pieces.proofs.Order.{not_earlier, not_earlier_back}
 use Rattle.lack_pieces.proofs.Readings.{own_events}
 use Rattle.lack_pieces.proofs.ReceivedCounts.{counts_climb, reason_at}
-use Rattle.lack_pieces.proofs.Walks.{more_passed, unfounded}
+use Rattle.lack_pieces.proofs.Walks.{unfounded}
+use Rattle.lack_needs.proofs.ForCallers.{more_passed}
 
 -- THE LOWEST COUNT
 
-below_stamp : (es : List Event) (low : Option ℕ) (count : ℕ) → IsLowestOfStamps es low
-    → IsKnownBelow low count → (n : ℕ) × IsStampCounted es n × (n < count)
-below_stamp es None count lowest known = absurd known
-below_stamp es (Some low) count lowest known = (low, lowest.0, known)
+below_lowest : (Is : ℕ → Type 0) (low : Option ℕ) (count : ℕ) → IsLowest Is low
+    → IsKnownBelow low count → (n : ℕ) × Is n × (n < count)
+below_lowest Is None count lowest known = absurd known
+below_lowest Is (Some low) count lowest known = (low, lowest.0, known)
 
-stamp_below : (es : List Event) (low : Option ℕ) (n count : ℕ) → IsLowestOfStamps es low
-    → IsStampCounted es n → n < count → IsKnownBelow low count
-stamp_below es None n count lowest is less = absurd (lowest n is)
-stamp_below es (Some low) n count lowest is less = let least = lowest.1 n is in
-    omega (arith, less, least)
-
-below_receipt : (rs : List Receipt) (low : Option ℕ) (count : ℕ) → IsLowestOfReceipts rs low
-    → IsKnownBelow low count → (n : ℕ) × IsReceiptCounted rs n × (n < count)
-below_receipt rs None count lowest known = absurd known
-below_receipt rs (Some low) count lowest known = (low, lowest.0, known)
-
-receipt_below : (rs : List Receipt) (low : Option ℕ) (n count : ℕ) → IsLowestOfReceipts rs low
-    → IsReceiptCounted rs n → n < count → IsKnownBelow low count
-receipt_below rs None n count lowest is less = absurd (lowest n is)
-receipt_below rs (Some low) n count lowest is less = let least = lowest.1 n is in
+lowest_below : (Is : ℕ → Type 0) (low : Option ℕ) (n count : ℕ) → IsLowest Is low → Is n
+    → n < count → IsKnownBelow low count
+lowest_below Is None n count lowest is less = absurd (lowest n is)
+lowest_below Is (Some low) n count lowest is less = let least = lowest.1 n is in
     omega (arith, less, least)
 
 module _ (piece : Piece) (lowest : Lowest) (is : IsLowestIn piece lowest) (e : Event) where
   pub behind_known : IsKnownBelow lowest.stamps e.serial.this
       ⊎ IsKnownBelow lowest.receipts e.serial.this → HasStampBelow piece e
   behind_known (inl known) =
-      let f = below_stamp piece.events lowest.stamps e.serial.this is.stamps known in
+      let f = below_lowest (IsStampCounted piece.events) lowest.stamps e.serial.this
+      is.stamps known in
       let s = f.1 in
       let less = f.2 in
       let same = s.is in
@@ -69,7 +60,8 @@ module _ (piece : Piece) (lowest : Lowest) (is : IsLowestIn piece lowest) (e : E
         above = s.above;
       }
   behind_known (inr known) =
-      let f = below_receipt piece.receipts lowest.receipts e.serial.this is.receipts known in
+      let f = below_lowest (IsReceiptCounted piece.receipts) lowest.receipts e.serial.this
+      is.receipts known in
       let s = f.1 in
       let less = f.2 in
       let same = s.is in
@@ -85,8 +77,8 @@ module _ (piece : Piece) (lowest : Lowest) (is : IsLowestIn piece lowest) (e : E
   pub known_behind : HasStampBelow piece e → IsKnownBelow lowest.stamps e.serial.this
       ⊎ IsKnownBelow lowest.receipts e.serial.this
   known_behind b = elim b.tells [
-    | inl stamp ↦ inl (stamp_below piece.events lowest.stamps b.first.serial.this e.serial.this
-        is.stamps (record {
+    | inl stamp ↦ inl (lowest_below (IsStampCounted piece.events) lowest.stamps
+        b.first.serial.this e.serial.this is.stamps (record {
           place = b.index;
           event = b.first;
           at = stamp.0.at;
@@ -94,8 +86,8 @@ module _ (piece : Piece) (lowest : Lowest) (is : IsLowestIn piece lowest) (e : E
           above = b.above;
           is = refl;
         }) b.lower)
-    | inr receipt ↦ inr (receipt_below piece.receipts lowest.receipts b.first.serial.this
-        e.serial.this is.receipts (record {
+    | inr receipt ↦ inr (lowest_below (IsReceiptCounted piece.receipts) lowest.receipts
+        b.first.serial.this e.serial.this is.receipts (record {
           place = receipt.place;
           receipt = record { pid = b.pid; index = b.index; event = b.first };
           at = receipt.at;
@@ -263,7 +255,7 @@ module _ (piece : Piece) (i : ℕ) (e : Event) (at : slice_get piece.events i �
       → IsReceived piece.events (i + 1) b
   received_kept true stamps h = let less = h.2 in (h.0, h.1, omega (arith, less), h.3, h.4)
   received_kept false stamps none =
-      more_passed (λ (f : Event). is_stamp f ≡ true) piece.events i e at none stamps
+      more_passed (λ _ (f : Event). is_stamp f ≡ true) piece.events i e at none stamps
 
   pub after_receive : is_stamp e ≡ true → IsReceived piece.events i true
       → IsAfterReceive (own_streams piece) piece.pid i e
@@ -304,55 +296,52 @@ module _ (piece : Piece) (i : ℕ) (e : Event) (at : slice_get piece.events i �
 
 -- THE LOWEST COUNT IS THE FIRST
 
+-- an item with another prev counts no lower, if those before have prev 0 and those behind climb
+no_lower : {A : Type 0} (Counts : A → Type 0) (count prev : A → ℕ) (xs : List A) (i : ℕ) (x : A)
+    → slice_get xs i ≡ Some x
+    → ((k : ℕ) (y : A) → k < i → slice_get xs k ≡ Some y → Counts y → prev y ≡ 0)
+    → ((k : ℕ) (y : A) → i < k → slice_get xs k ≡ Some y → Counts y → count x ≤ count y)
+    → (k : ℕ) (y : A) → slice_get xs k ≡ Some y → Counts y → 0 < prev y → count x ≤ count y
+no_lower Counts count prev xs i x at none climb k y there counts above = elim (cases_lt k i) [
+  | inl less ↦ let zero_prev = none k y less there counts in absurd (omega (arith, zero_prev, above))
+  | inr high ↦ elim (cases_lt i k) [
+    | inl less ↦ climb k y less there counts
+    | inr equal ↦
+        let one : i ≡ k = omega (arith, high, equal) in
+        let same = ap count (same_Some x y (sym at ∙ ap (slice_get xs) one ∙ there)) in
+        omega (arith, same)
+  ]
+]
+
 pub lowest_stamp : (es : List Event) (i : ℕ) (e : Event) → StampsRise es → slice_get es i ≡ Some e
     → is_stamp e ≡ true → 0 < e.serial.prev
     → ((k : ℕ) (f : Event) → k < i → slice_get es k ≡ Some f → is_stamp f ≡ true
     → f.serial.prev ≡ 0)
-    → IsLowestOfStamps es (Some e.serial.this)
+    → IsLowest (IsStampCounted es) (Some e.serial.this)
 lowest_stamp es i e rise at stamps above none = (
   record { place = i; event = e; at = at; stamps = stamps; above = above; is = refl },
   λ count s.
       let same = s.is in
-      elim (cases_lt s.place i) [
-        | inl less ↦
-            let zero_prev = none s.place s.event less s.at s.stamps in
-            let positive = s.above in
-            absurd (omega (arith, zero_prev, positive))
-        | inr high ↦ elim (cases_lt i s.place) [
-          | inl less ↦ let low = rise i s.place e s.event less at s.at stamps s.stamps in
-              omega (arith, low, same)
-          | inr equal ↦
-              let one : s.place ≡ i = omega (arith, high, equal) in
-              let event = ap (λ (x : Event). x.serial.this) (same_Some s.event e (sym s.at
-              ∙ ap (slice_get es) one ∙ at)) in
-              omega (arith, event, same)
-        ]
-      ],
+      let low = no_lower (λ f. is_stamp f ≡ true) (λ f. f.serial.this) (λ f. f.serial.prev) es i e
+      at none (λ k f less there second.
+      let more = rise i k e f less at there stamps second in omega (arith, more))
+      s.place s.event s.at s.stamps s.above in
+      omega (arith, low, same),
 )
 
 pub lowest_receipt : (rs : List Receipt) (i : ℕ) (r : Receipt) → AreInOrder rs
     → slice_get rs i ≡ Some r → 0 < r.event.serial.prev
     → ((k : ℕ) (s : Receipt) → k < i → slice_get rs k ≡ Some s → s.event.serial.prev ≡ 0)
-    → IsLowestOfReceipts rs (Some r.event.serial.this)
+    → IsLowest (IsReceiptCounted rs) (Some r.event.serial.this)
 lowest_receipt rs i r order at above none = (
   record { place = i; receipt = r; at = at; above = above; is = refl },
   λ count s.
       let same = s.is in
-      elim (cases_lt s.place i) [
-        | inl less ↦
-            let zero_prev = none s.place s.receipt less s.at in
-            let positive = s.above in
-            absurd (omega (arith, zero_prev, positive))
-        | inr high ↦ elim (cases_lt i s.place) [
-          | inl less ↦ let low = counts_climb rs order i s.place r s.receipt less at s.at in
-              omega (arith, low, same)
-          | inr equal ↦
-              let one : s.place ≡ i = omega (arith, high, equal) in
-              let receipt = ap (λ (x : Receipt). x.event.serial.this) (same_Some s.receipt r
-              (sym s.at ∙ ap (slice_get rs) one ∙ at)) in
-              omega (arith, receipt, same)
-        ]
-      ],
+      let low = no_lower (λ _. Unit {0}) (λ t. t.event.serial.this) (λ t. t.event.serial.prev) rs i
+      r at (λ k t less there _. none k t less there)
+      (λ k t less there _. counts_climb rs order i k r t less at there)
+      s.place s.receipt s.at tt s.above in
+      omega (arith, low, same),
 )
 
 -- ONE RECEIPT MORE

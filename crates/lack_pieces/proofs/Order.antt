@@ -34,10 +34,13 @@ abbrev reason_cmp : PlacedReason → PlacedReason → Ordering
 reason_cmp a b =
     ordering_then (nat_cmp (reason_rank a.never) (reason_rank b.never)) (place_cmp a b)
 
+place_total : IsTotalOrder place_cmp
+place_total = then_total (on_total (λ (a : PlacedReason). a.pid) pid_total)
+    (on_total (λ (a : PlacedReason). a.index) nat_cmp_total)
+
 reason_total : IsTotalOrder reason_cmp
 reason_total = then_total (on_total (λ (a : PlacedReason). reason_rank a.never) nat_cmp_total)
-    (then_total (on_total (λ (a : PlacedReason). a.pid) pid_total)
-    (on_total (λ (a : PlacedReason). a.index) nat_cmp_total))
+    place_total
 
 module _ (a b : PlacedReason) where
   earlier_if : place_cmp a b ≡ Less → IsEarlier a.pid a.index b.pid b.index
@@ -96,9 +99,7 @@ not_before a b c first second before = not_less reason_cmp reason_total a b c
 pub not_earlier : (a b c : PlacedReason) → ¬ IsEarlier a.pid a.index b.pid b.index
     → ¬ IsEarlier b.pid b.index c.pid c.index
     → ¬ IsEarlier a.pid a.index c.pid c.index
-not_earlier a b c first second earlier = not_less place_cmp
-    (then_total (on_total (λ (x : PlacedReason). x.pid) pid_total)
-    (on_total (λ (x : PlacedReason). x.index) nat_cmp_total)) a b c
+not_earlier a b c first second earlier = not_less place_cmp place_total a b c
     (λ less. first (earlier_if a b less)) (λ less. second (earlier_if b c less))
     (if_earlier a c earlier)
 
@@ -112,9 +113,6 @@ not_both a b before after =
 pub not_earlier_back : (a b : PlacedReason) → IsEarlier a.pid a.index b.pid b.index
     → ¬ IsEarlier b.pid b.index a.pid a.index
 not_earlier_back a b before after =
-    let total : IsTotalOrder place_cmp =
-    then_total (on_total (λ (x : PlacedReason). x.pid) pid_total)
-    (on_total (λ (x : PlacedReason). x.index) nat_cmp_total) in
     let back : place_cmp a b ≡ Greater =
-    total.antisymm a b ∙ ap ordering_reverse (if_earlier b a after) in
+    place_total.antisymm a b ∙ ap ordering_reverse (if_earlier b a after) in
     absurd (let clash : Less ≡ Greater = sym (if_earlier a b before) ∙ back in cc)

@@ -5,7 +5,7 @@ use Rattle.std.proofs.Common.{◌≡◌, ◌⊎◌, ℕ, ◌<◌, ◌≤◌, ◌
 use Rattle.std.proofs.Common.{cond, List, [], ◌∷◌, Option, Some, None, inl, inr, length, slice_get}
 use Rattle.std.proofs.Common.{refl, sym, ◌∙◌, ap, subst, arith}
 use Rattle.std.proofs.lemmas.Bool.{and_from, and_parts, cases_lt, eq-eqb, eqb-true}
-use Rattle.std.proofs.lemmas.Option.{same_Some}
+use Rattle.std.proofs.lemmas.Option.{same_Some, slice_get_within}
 use Rattle.st_core.specs.declared.types.Pid.{Pid}
 use Rattle.st_core.specs.declared.types.Event.{Event}
 use Rattle.st_core.proofs.ForCallers.{some_if}
@@ -25,7 +25,7 @@ use Rattle.lack_pieces.specs.Verdicts.{AreInOrder}
 use Rattle.lack_pieces.proofs.Candidates.{first_still, first_with, not_before_itself, IsBeside}
 use Rattle.lack_pieces.proofs.Order.{not_earlier_back}
 use Rattle.lack_pieces.proofs.Readings.{own_events}
-use Rattle.lack_pieces.proofs.Walks.{mismatch, repeated, within_length}
+use Rattle.lack_pieces.proofs.Walks.{mismatch, repeated}
 
 -- RECEIPTS IN ORDER
 
@@ -55,8 +55,8 @@ blank_receipt = record { pid = record { node = 0; number = 0 }; index = 0; event
 
 -- WHAT REPEATS
 
--- a receipt before place n, and the one before it, have one count
-pub record IsRepeatBelow (receipts : List Receipt) (n : ℕ) (found : PlacedReason) : Type 0 where
+-- a receipt and the one before it have one count
+pub record IsRepeat (receipts : List Receipt) (found : PlacedReason) : Type 0 where
   pub first : ℕ
   pub place : ℕ
   pub next : first + 1 ≡ place
@@ -64,34 +64,28 @@ pub record IsRepeatBelow (receipts : List Receipt) (n : ℕ) (found : PlacedReas
   pub receipt : Receipt
   pub at_first : slice_get receipts first ≡ Some before
   pub at : slice_get receipts place ≡ Some receipt
-  pub within : place < n
   pub same : before.event.serial.this ≡ receipt.event.serial.this
   pub is : found ≡ reason_at receipt (never.Repeated before.pid before.index)
+
+-- and the receipt is before place n
+pub record IsRepeatBelow (receipts : List Receipt) (n : ℕ) (found : PlacedReason) : Type 0 where
+  pub repeat : IsRepeat receipts found
+  pub within : repeat.place < n
 
 pub repeat_ranked : (receipts : List Receipt) (n : ℕ) (r : PlacedReason)
     → IsRepeatBelow receipts n r
     → reason_rank r.never ≡ 2
-repeat_ranked receipts n r c = ap (λ (x : PlacedReason). reason_rank x.never) c.is
+repeat_ranked receipts n r c = ap (λ (x : PlacedReason). reason_rank x.never) c.repeat.is
 
 pub repeat_widened : (receipts : List Receipt) (m n : ℕ) (r : PlacedReason) → m ≤ n
     → IsRepeatBelow receipts m r → IsRepeatBelow receipts n r
-repeat_widened receipts m n r wide c = record {
-  first = c.first;
-  place = c.place;
-  next = c.next;
-  before = c.before;
-  receipt = c.receipt;
-  at_first = c.at_first;
-  at = c.at;
-  within = let less = c.within in omega (arith, less, wide);
-  same = c.same;
-  is = c.is;
-}
+repeat_widened receipts m n r wide c =
+    record { repeat = c.repeat; within = let less = c.within in omega (arith, less, wide) }
 
 module _ (top : ℕ) (piece : Piece) (order : AreInOrder piece.receipts) where
-  repeat_earlier : (n : ℕ) (r : PlacedReason) (c : IsRepeatBelow piece.receipts n r)
+  repeat_earlier : (r : PlacedReason) (c : IsRepeat piece.receipts r)
       → IsEarlier c.before.pid c.before.index c.receipt.pid c.receipt.index
-  repeat_earlier n r c = elim (order c.first c.place c.before c.receipt
+  repeat_earlier r c = elim (order c.first c.place c.before c.receipt
       (let next = c.next in omega (arith, next)) c.at_first c.at) [
         | inl less ↦ let same = c.same in absurd (omega (arith, less, same))
         | inr both ↦ both.1
@@ -99,17 +93,19 @@ module _ (top : ℕ) (piece : Piece) (order : AreInOrder piece.receipts) where
 
   pub repeat_holds : (n : ℕ) (r : PlacedReason) → IsRepeatBelow piece.receipts n r
       → HoldsOfRank top piece 2 r
-  repeat_holds n r c = subst (HoldsOfRank top piece 2) (sym c.is) (record {
-    event = c.receipt.event;
-    holds = (
-      record { place = c.place; at = c.at },
-      repeat_earlier n r c,
-      c.before.event,
-      record { place = c.first; at = c.at_first },
-      c.same,
-    );
-    of_rank = refl;
-  })
+  repeat_holds n r below =
+      let c = below.repeat in
+      subst (HoldsOfRank top piece 2) (sym c.is) (record {
+        event = c.receipt.event;
+        holds = (
+          record { place = c.place; at = c.at },
+          repeat_earlier r c,
+          c.before.event,
+          record { place = c.first; at = c.at_first },
+          c.same,
+        );
+        of_rank = refl;
+      })
 
   -- a receipt with the count of one at an earlier place comes behind it
   behind : (j k : ℕ) (a b : Receipt) → slice_get piece.receipts j ≡ Some a
@@ -159,16 +155,18 @@ module _ (top : ℕ) (piece : Piece) (order : AreInOrder piece.receipts) where
       let before = at_before piece.receipts k (suc k) here (omega arith) at in (
         reason_at here (never.Repeated before.0.pid before.0.index),
         record {
-          first = k;
-          place = suc k;
-          next = omega arith;
-          before = before.0;
-          receipt = here;
-          at_first = before.1;
-          at = at;
-          within = within_length piece.receipts (suc k) here at;
-          same = count_before j k first before.0 here less there before.1 at same;
-          is = refl;
+          repeat = record {
+            first = k;
+            place = suc k;
+            next = omega arith;
+            before = before.0;
+            receipt = here;
+            at_first = before.1;
+            at = at;
+            same = count_before j k first before.0 here less there before.1 at same;
+            is = refl;
+          };
+          within = slice_get_within piece.receipts (suc k) here at;
         },
         record { pid = sym pid; index = sym index },
       )
@@ -192,22 +190,11 @@ module _ (receipts : List Receipt) (i : ℕ) (before receipt : Receipt) (positiv
 
   -- one of those before, or the receipt and the one before it
   older_or : (r : PlacedReason) (c : IsRepeatBelow receipts (i + 1) r)
-      → IsRepeatBelow receipts i r ⊎ ((c.before ≡ before) × (c.receipt ≡ receipt))
-  older_or r c = elim (cases_lt c.place i) [
-    | inl less ↦ inl (record {
-      first = c.first;
-      place = c.place;
-      next = c.next;
-      before = c.before;
-      receipt = c.receipt;
-      at_first = c.at_first;
-      at = c.at;
-      within = less;
-      same = c.same;
-      is = c.is;
-    })
+      → IsRepeatBelow receipts i r ⊎ ((c.repeat.before ≡ before) × (c.repeat.receipt ≡ receipt))
+  older_or r below = let c = below.repeat in elim (cases_lt c.place i) [
+    | inl less ↦ inl (record { repeat = c; within = less })
     | inr high ↦
-        let within = c.within in
+        let within = below.within in
         let next = c.next in
         let one : c.place ≡ i = omega (arith, within, high) in
         let two : c.first ≡ i - 1 = omega (arith, next, one, positive) in
@@ -223,7 +210,7 @@ module _ (receipts : List Receipt) (i : ℕ) (before receipt : Receipt) (positiv
   repeat_still other = first_still (IsRepeatBelow receipts i) (IsRepeatBelow receipts (i + 1)) least
       older (λ r c. elim (older_or r c) [
         | inl old ↦ old
-        | inr new ↦ absurd (other (ap (λ (x : Receipt). x.event.serial.this) (sym new.0) ∙ c.same
+        | inr new ↦ absurd (other (ap (λ (x : Receipt). x.event.serial.this) (sym new.0) ∙ c.repeat.same
             ∙ ap (λ (x : Receipt). x.event.serial.this) new.1))
       ]) first
 
@@ -234,22 +221,24 @@ module _ (receipts : List Receipt) (i : ℕ) (before receipt : Receipt) (positiv
   repeat_more next result same is with =
       first_with (IsRepeatBelow receipts i) (IsRepeatBelow receipts (i + 1)) 2 next
       (repeat_ranked receipts i) (ap (λ (x : PlacedReason). reason_rank x.never) is) (record {
-        first = i - 1;
-        place = i;
-        next = omega (arith, positive);
-        before = before;
-        receipt = receipt;
-        at_first = at_first;
-        at = at;
+        repeat = record {
+          first = i - 1;
+          place = i;
+          next = omega (arith, positive);
+          before = before;
+          receipt = receipt;
+          at_first = at_first;
+          at = at;
+          same = same;
+          is = is;
+        };
         within = omega arith;
-        same = same;
-        is = is;
       }) older (λ r c. elim (older_or r c) [
         | inl old ↦ inl old
         | inr new ↦ inr (record {
-          pid = ap (λ (x : PlacedReason). x.pid) c.is ∙ ap (λ (x : Receipt). x.pid) new.1
+          pid = ap (λ (x : PlacedReason). x.pid) c.repeat.is ∙ ap (λ (x : Receipt). x.pid) new.1
               ∙ sym (ap (λ (x : PlacedReason). x.pid) is);
-          index = ap (λ (x : PlacedReason). x.index) c.is ∙ ap (λ (x : Receipt). x.index) new.1
+          index = ap (λ (x : PlacedReason). x.index) c.repeat.is ∙ ap (λ (x : Receipt). x.index) new.1
               ∙ sym (ap (λ (x : PlacedReason). x.index) is);
         })
       ]) least result with first
@@ -400,12 +389,11 @@ module _ (events : List Event) (receipts : List Receipt) (order : AreInOrder rec
 
 -- WHAT ISN'T THE SEND OF A RECEIPT
 
--- the process has a send or print of the count of a receipt before place n, which isn't its send
-pub record IsMismatchBelow (piece : Piece) (n : ℕ) (found : PlacedReason) : Type 0 where
+-- the process has a send or print of the count of a receipt, which isn't its send
+pub record IsMismatch (piece : Piece) (found : PlacedReason) : Type 0 where
   pub place : ℕ
   pub receipt : Receipt
   pub at : slice_get piece.receipts place ≡ Some receipt
-  pub within : place < n
   pub index : ℕ
   pub event : Event
   pub own : slice_get piece.events index ≡ Some event
@@ -414,42 +402,38 @@ pub record IsMismatchBelow (piece : Piece) (n : ℕ) (found : PlacedReason) : Ty
   pub other : ¬ IsSendOf event receipt.event
   pub is : found ≡ reason_at receipt (never.Mismatch piece.pid index)
 
+-- and the receipt is before place n
+pub record IsMismatchBelow (piece : Piece) (n : ℕ) (found : PlacedReason) : Type 0 where
+  pub mismatch : IsMismatch piece found
+  pub within : mismatch.place < n
+
 pub mismatch_ranked : (piece : Piece) (n : ℕ) (r : PlacedReason) → IsMismatchBelow piece n r
     → reason_rank r.never ≡ 3
-mismatch_ranked piece n r c = ap (λ (x : PlacedReason). reason_rank x.never) c.is
+mismatch_ranked piece n r c = ap (λ (x : PlacedReason). reason_rank x.never) c.mismatch.is
 
 pub mismatch_widened : (piece : Piece) (m n : ℕ) (r : PlacedReason) → m ≤ n
     → IsMismatchBelow piece m r
     → IsMismatchBelow piece n r
-mismatch_widened piece m n r wide c = record {
-  place = c.place;
-  receipt = c.receipt;
-  at = c.at;
-  within = let less = c.within in omega (arith, less, wide);
-  index = c.index;
-  event = c.event;
-  own = c.own;
-  stamps = c.stamps;
-  count = c.count;
-  other = c.other;
-  is = c.is;
-}
+mismatch_widened piece m n r wide c =
+    record { mismatch = c.mismatch; within = let less = c.within in omega (arith, less, wide) }
 
 module _ (top : ℕ) (piece : Piece) where
   pub mismatch_holds : StampsRise piece.events → (n : ℕ) (r : PlacedReason)
       → IsMismatchBelow piece n r
       → HoldsOfRank top piece 3 r
-  mismatch_holds rise n r c = subst (HoldsOfRank top piece 3) (sym c.is) (record {
-    event = c.receipt.event;
-    holds = (
-      record { place = c.place; at = c.at },
-      refl,
-      c.event,
-      stamp_some piece rise c.receipt.event.serial.this c.index c.event c.own c.stamps c.count,
-      c.other,
-    );
-    of_rank = refl;
-  })
+  mismatch_holds rise n r below =
+      let c = below.mismatch in
+      subst (HoldsOfRank top piece 3) (sym c.is) (record {
+        event = c.receipt.event;
+        holds = (
+          record { place = c.place; at = c.at },
+          refl,
+          c.event,
+          stamp_some piece rise c.receipt.event.serial.this c.index c.event c.own c.stamps c.count,
+          c.other,
+        );
+        of_rank = refl;
+      })
 
   pub mismatch_found : (r : PlacedReason) → HoldsOfRank top piece 3 r
       → (c : PlacedReason) × IsMismatchBelow piece (length piece.receipts) c × IsBeside r c
@@ -461,17 +445,19 @@ module _ (top : ℕ) (piece : Piece) where
       ≡ Some (x.1, x.2.2)) x.2.1 x.2.3) in (
         reason_at receipt (never.Mismatch piece.pid x.1),
         record {
-          place = x.2.0.place;
-          receipt = receipt;
-          at = x.2.0.at;
-          within = within_length piece.receipts x.2.0.place receipt x.2.0.at;
-          index = x.1;
-          event = x.2.2;
-          own = own.0;
-          stamps = own.1;
-          count = own.2;
-          other = x.2.4;
-          is = refl;
+          mismatch = record {
+            place = x.2.0.place;
+            receipt = receipt;
+            at = x.2.0.at;
+            index = x.1;
+            event = x.2.2;
+            own = own.0;
+            stamps = own.1;
+            count = own.2;
+            other = x.2.4;
+            is = refl;
+          };
+          within = slice_get_within piece.receipts x.2.0.place receipt x.2.0.at;
         },
         record { pid = refl; index = refl },
       )
@@ -484,23 +470,11 @@ module _ (piece : Piece) (n : ℕ) (receipt : Receipt)
   older_mismatch r = mismatch_widened piece n (n + 1) r (omega arith)
 
   older_mismatch_or : (r : PlacedReason) (c : IsMismatchBelow piece (n + 1) r)
-      → IsMismatchBelow piece n r ⊎ (c.receipt ≡ receipt)
-  older_mismatch_or r c = elim (cases_lt c.place n) [
-    | inl less ↦ inl (record {
-      place = c.place;
-      receipt = c.receipt;
-      at = c.at;
-      within = less;
-      index = c.index;
-      event = c.event;
-      own = c.own;
-      stamps = c.stamps;
-      count = c.count;
-      other = c.other;
-      is = c.is;
-    })
+      → IsMismatchBelow piece n r ⊎ (c.mismatch.receipt ≡ receipt)
+  older_mismatch_or r below = let c = below.mismatch in elim (cases_lt c.place n) [
+    | inl less ↦ inl (record { mismatch = c; within = less })
     | inr high ↦
-        let within = c.within in
+        let within = below.within in
         let one : c.place ≡ n = omega (arith, within, high) in
         inr (same_Some c.receipt receipt (sym c.at ∙ ap (slice_get piece.receipts) one ∙ at))
   ]
@@ -512,9 +486,9 @@ module _ (piece : Piece) (n : ℕ) (receipt : Receipt)
   mismatch_still none = first_still (IsMismatchBelow piece n) (IsMismatchBelow piece (n + 1)) least
       older_mismatch (λ r c. elim (older_mismatch_or r c) [
         | inl old ↦ old
-        | inr same ↦ absurd (none c.index c.event c.own c.stamps
-            (c.count ∙ ap (λ (x : Receipt). x.event.serial.this) same)
-            (subst (λ (x : Receipt). ¬ IsSendOf c.event x.event) same c.other))
+        | inr same ↦ let m = c.mismatch in absurd (none m.index m.event m.own m.stamps
+            (m.count ∙ ap (λ (x : Receipt). x.event.serial.this) same)
+            (subst (λ (x : Receipt). ¬ IsSendOf m.event x.event) same m.other))
       ]) first
 
   pub mismatch_more : (index : ℕ) (event : Event) (next result : PlacedReason)
@@ -525,23 +499,25 @@ module _ (piece : Piece) (n : ℕ) (receipt : Receipt)
   mismatch_more index event next result own stamps count other is with =
       first_with (IsMismatchBelow piece n) (IsMismatchBelow piece (n + 1)) 3 next
       (mismatch_ranked piece n) (ap (λ (x : PlacedReason). reason_rank x.never) is) (record {
-        place = n;
-        receipt = receipt;
-        at = at;
+        mismatch = record {
+          place = n;
+          receipt = receipt;
+          at = at;
+          index = index;
+          event = event;
+          own = own;
+          stamps = stamps;
+          count = count;
+          other = other;
+          is = is;
+        };
         within = omega arith;
-        index = index;
-        event = event;
-        own = own;
-        stamps = stamps;
-        count = count;
-        other = other;
-        is = is;
       }) older_mismatch (λ r c. elim (older_mismatch_or r c) [
         | inl old ↦ inl old
         | inr same ↦ inr (record {
-          pid = ap (λ (x : PlacedReason). x.pid) c.is ∙ ap (λ (x : Receipt). x.pid) same
+          pid = ap (λ (x : PlacedReason). x.pid) c.mismatch.is ∙ ap (λ (x : Receipt). x.pid) same
               ∙ sym (ap (λ (x : PlacedReason). x.pid) is);
-          index = ap (λ (x : PlacedReason). x.index) c.is ∙ ap (λ (x : Receipt). x.index) same
+          index = ap (λ (x : PlacedReason). x.index) c.mismatch.is ∙ ap (λ (x : Receipt). x.index) same
               ∙ sym (ap (λ (x : PlacedReason). x.index) is);
         })
       ]) least result with first

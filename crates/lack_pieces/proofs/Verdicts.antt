@@ -1,22 +1,19 @@
 -- Why the first of all pieces' reasons is that of the streams: each reason of the streams is in a
 -- piece, whose verdict is that reason or one that comes before it.
-use Rattle.std.proofs.Common.{◌≡◌, ◌↔◌, ℕ, zero, suc, Bool, true, false, List, [], ◌∷◌, Option}
+use Rattle.std.proofs.Common.{◌≡◌, ◌↔◌, ℕ, zero, suc, true, List, [], ◌∷◌, Option}
 use Rattle.std.proofs.Common.{Some, None, length, inl, inr, slice_get, refl, sym, ◌∙◌, arith}
 use Rattle.std.specs.Option.{option_map_or}
-use Rattle.std.specs.Prelude.{is_none, is_some}
-use Rattle.std.proofs.lemmas.Bool.{cases_lt, false≢true}
-use Rattle.st_core.specs.declared.types.Kind.{Kind}
+use Rattle.std.proofs.lemmas.Bool.{cases_lt}
 use Rattle.st_core.specs.declared.types.Kind.TheVariants as kind
 use Rattle.st_core.specs.declared.types.Pid.{Pid}
 use Rattle.st_core.specs.declared.types.Event.{Event}
-use Rattle.st_core.specs.Pid.{pid_eq}
 use Rattle.st_core.specs.Run.{Stream}
-use Rattle.st_core.specs.Streams.{is_of, lists, IsStreams}
-use Rattle.st_core.proofs.ForCallers.{both_of, lists_among, pid_same}
+use Rattle.st_core.specs.Streams.{lists, IsStreams}
+use Rattle.st_core.proofs.ForCallers.{both_of, lists_among}
 use Rattle.st_pair.specs.Places.{event_at, is_stamp}
 use Rattle.st_pair.proofs.ForCallers.{listed_if}
 use Rattle.st_plan.proofs.ForCallers.{named}
-use Rattle.lack_laws.proofs.ForCallers.{own_at}
+use Rattle.lack_laws.proofs.ForCallers.{own_at, stamper}
 use Rattle.lack_decide.specs.declared.answer.Never.{Never}
 use Rattle.lack_decide.specs.declared.answer.Never.TheVariants as never
 use Rattle.lack_decide.specs.Answers.{reason_rank, IsAgainst}
@@ -28,17 +25,6 @@ use Rattle.lack_pieces.specs.Verdicts.{IsVerdictIn, IsVerdictOn}
 use Rattle.lack_pieces.proofs.Order.{not_before}
 use Rattle.lack_pieces.proofs.Readings.{after_in, after_own, in_own, mismatch_in, repeated_in}
 use Rattle.lack_pieces.proofs.Readings.{stands}
-
--- a send or print of a process is from it
-stamped_by : (k : Kind) (from : Pid) (to : Option Pid) (p : Pid)
-    → (let b : Bool = elim k [ kind.Send ↦ true | kind.Receive ↦ false | kind.Print ↦ true ] in b)
-    ≡ true
-    → is_of k from to p ≡ true → from ≡ p
-stamped_by kind.Send from to p stamps own = pid_same from p
-    (both_of (pid_eq from p) (is_some to) own).0
-stamped_by kind.Receive from to p stamps own = absurd (false≢true stamps)
-stamped_by kind.Print from to p stamps own = pid_same from p
-    (both_of (pid_eq from p) (is_none to) own).0
 
 -- a list of as many as another has something wherever that has
 at_both : {A B : Type 0} (xs : List A) (ys : List B) (k : ℕ) (x : A) → length ys ≡ length xs
@@ -52,7 +38,7 @@ module _ (top : ℕ) (streams : List Stream) (pieces : List Piece) (sound : IsSt
     (are : ArePieces streams pieces) where
   from_own : (p : Pid) (i : ℕ) (e : Event) → event_at streams p i ≡ Some e → is_stamp e ≡ true
       → e.from ≡ p
-  from_own p i e at stamps = stamped_by e.kind e.from e.to p stamps
+  from_own p i e at stamps = stamper e.kind e.from e.to p stamps
       (own_at streams p i e sound.draft.own at)
 
   -- EACH REASON IS IN A PIECE

@@ -1,7 +1,7 @@
 -- Reasons of each rank as facts on the events of a piece: a walk that has passed no event with such
 -- a fact finds the first one.
-use Rattle.std.proofs.Common.{◌≡◌, ℕ, ◌<◌, ◌≤◌, ◌+◌, zero, suc, Bool, true, false, List, [], ◌∷◌}
-use Rattle.std.proofs.Common.{length, Option, Some, None}
+use Rattle.std.proofs.Common.{◌≡◌, ℕ, ◌<◌, ◌≤◌, ◌+◌, zero, suc, Bool, true, false, List}
+use Rattle.std.proofs.Common.{Option, Some, None}
 use Rattle.std.proofs.Common.{inl, inr, slice_get, refl, sym, ◌∙◌, ap, subst, arith}
 use Rattle.std.proofs.lemmas.Bool.{cases_lt}
 use Rattle.std.proofs.lemmas.Option.{same_Some}
@@ -20,6 +20,7 @@ use Rattle.lack_pieces.specs.Pieces.{Piece}
 use Rattle.lack_pieces.specs.Reasons.{own_streams, IsAgainstIn}
 use Rattle.lack_pieces.specs.Verdicts.{IsFirstIn, IsVerdictIn}
 use Rattle.lack_pieces.proofs.Readings.{own_events}
+use Rattle.lack_needs.proofs.ForCallers.{more_passed}
 
 -- THE REASON OF A RANK
 
@@ -157,25 +158,6 @@ pub at_same : (es : List Event) (k : ℕ) (f e : Event) → slice_get es k ≡ S
     → slice_get es k ≡ Some e → f ≡ e
 at_same es k f e at there = same_Some f e (sym at ∙ there)
 
--- what is in a list is before its end
-pub within_length : {A : Type 0} (xs : List A) (k : ℕ) (x : A) → slice_get xs k ≡ Some x
-    → k < length xs
-within_length [] k x at = absurd (cc)
-within_length (y ∷ xs) zero x at = omega arith
-within_length (y ∷ xs) (suc k) x at = let rest = within_length xs k x at in omega (arith, rest)
-
--- what holds of those before an index, and of the one there, holds of those before the next
-pub more_passed : {A : Type 0} (P : A → Type 0) (xs : List A) (n : ℕ) (x : A)
-    → slice_get xs n ≡ Some x
-    → ((k : ℕ) (y : A) → k < n → slice_get xs k ≡ Some y → P y) → P x
-    → (k : ℕ) (y : A) → k < n + 1 → slice_get xs k ≡ Some y → P y
-more_passed P xs n x at before here k y less there = elim (cases_lt k n) [
-  | inl below ↦ before k y below there
-  | inr high ↦
-      let one : k ≡ n = omega (arith, less, high) in
-      subst P (same_Some x y (sym at ∙ sym (ap (slice_get xs) one) ∙ there)) here
-]
-
 -- SENDS AND PRINTS THAT RISE ABOVE EARLIER ONES, OR ABOVE RECEIVES
 
 -- each send or print before index n counts above each event before it that is a send or print, or
@@ -299,7 +281,7 @@ module _ (es : List Event) (i : ℕ) (e : Event) (here : slice_get es i ≡ Some
   -- past an event that is a receive
   pub stamp_kept : (last : Option (ℕ × ℕ)) → is_stamp e ≡ false → IsLastStamp es i last
       → IsLastStamp es (i + 1) last
-  stamp_kept None receives none = more_passed (λ (f : Event). is_stamp f ≡ false) es i e here none
+  stamp_kept None receives none = more_passed (λ _ (f : Event). is_stamp f ≡ false) es i e here none
       receives
   stamp_kept (Some found) receives l = let less = l.before in
       record {
@@ -308,14 +290,9 @@ module _ (es : List Event) (i : ℕ) (e : Event) (here : slice_get es i ≡ Some
         stamps = l.stamps;
         before = omega (arith, less);
         count = l.count;
-        last = λ k f after within at. elim (cases_lt k i) [
-          | inl below ↦ l.last k f after below at
-          | inr high ↦
-              let one : k ≡ i = omega (arith, within, high) in
-              ap is_stamp (at_same es i f e (subst (λ (n : ℕ). slice_get es n ≡ Some f) one at)
-              here)
-              ∙ receives
-        ];
+        last = λ k f after within at. more_passed (λ k (f : Event). found.0 < k → is_stamp f ≡ false)
+            es i e here (λ k f low at after. l.last k f after low at) (λ _. receives) k f within at
+            after;
       }
 
   -- past a send or print, which is then the last
@@ -371,7 +348,7 @@ module _ (es : List Event) (i : ℕ) (e : Event) (here : slice_get es i ≡ Some
       → (is_stamp e ≡ false → e.serial.this < count) → IsLastReceive es i count last
       → IsLastReceive es (i + 1) count last
   receive_kept count None low none = more_passed
-      (λ (f : Event). is_stamp f ≡ false → f.serial.this < count) es i e here none low
+      (λ _ (f : Event). is_stamp f ≡ false → f.serial.this < count) es i e here none low
   receive_kept count (Some j) low l = let less = l.before in
       record {
         event = l.event;
@@ -379,13 +356,7 @@ module _ (es : List Event) (i : ℕ) (e : Event) (here : slice_get es i ≡ Some
         before = omega (arith, less);
         receives = l.receives;
         reaches = l.reaches;
-        last = λ k f after within at receives. elim (cases_lt k i) [
-          | inl below ↦ l.last k f after below at receives
-          | inr high ↦
-              let one : k ≡ i = omega (arith, within, high) in
-              let same = at_same es i f e (subst (λ (n : ℕ). slice_get es n ≡ Some f) one at)
-              here in
-              subst (λ (x : Event). x.serial.this < count) (sym same)
-              (low (ap is_stamp (sym same) ∙ receives))
-        ];
+        last = λ k f after within at. more_passed (λ k (f : Event). j < k → is_stamp f ≡ false
+            → f.serial.this < count) es i e here (λ k f less at after. l.last k f after less at)
+            (λ _. low) k f within at after;
       }

@@ -19,12 +19,6 @@ pub record IsStampCounted (es : List Event) (count : ℕ) : Type 0 where
   pub above : 0 < event.serial.prev
   pub is : event.serial.this ≡ count
 
--- the lowest count of a send or print with another prev than 0, if there is one
-abbrev pub IsLowestOfStamps : List Event → Option ℕ → Type 0
-IsLowestOfStamps es None = (count : ℕ) → ¬ IsStampCounted es count
-IsLowestOfStamps es (Some low) = IsStampCounted es low
-    × ((count : ℕ) → IsStampCounted es count → low ≤ count)
-
 -- a receipt with another prev than 0 has this count
 pub record IsReceiptCounted (receipts : List Receipt) (count : ℕ) : Type 0 where
   pub place : ℕ
@@ -33,16 +27,15 @@ pub record IsReceiptCounted (receipts : List Receipt) (count : ℕ) : Type 0 whe
   pub above : 0 < receipt.event.serial.prev
   pub is : receipt.event.serial.this ≡ count
 
--- the lowest count of a receipt with another prev than 0, if there is one
-abbrev pub IsLowestOfReceipts : List Receipt → Option ℕ → Type 0
-IsLowestOfReceipts receipts None = (count : ℕ) → ¬ IsReceiptCounted receipts count
-IsLowestOfReceipts receipts (Some low) = IsReceiptCounted receipts low
-    × ((count : ℕ) → IsReceiptCounted receipts count → low ≤ count)
+-- the lowest count that is so, if there is one
+abbrev pub IsLowest : (ℕ → Type 0) → Option ℕ → Type 0
+IsLowest Is None = (count : ℕ) → ¬ Is count
+IsLowest Is (Some low) = Is low × ((count : ℕ) → Is count → low ≤ count)
 
 -- the lowest counts of both
 pub record IsLowestIn (piece : Piece) (lowest : Lowest) : Type 0 where
-  pub stamps : IsLowestOfStamps piece.events lowest.stamps
-  pub receipts : IsLowestOfReceipts piece.receipts lowest.receipts
+  pub stamps : IsLowest (IsStampCounted piece.events) lowest.stamps
+  pub receipts : IsLowest (IsReceiptCounted piece.receipts) lowest.receipts
 
 -- a count is known, and below this one
 abbrev pub IsKnownBelow : Option ℕ → ℕ → Type 0

@@ -5,8 +5,8 @@ ghost use Rattle.std.specs.Prelude.{◌↔◌, ℕ, IsTrue, List};
 ghost use Rattle.st_core.specs.declared.types.Pid.{Pid as PidValue};
 ghost use Rattle.lack_pieces.specs.declared.placed_reason.Receipt.{Receipt as ReceiptValue};
 ghost use Rattle.lack_pieces.specs.Firsts.{IsEarliest, IsFirstOfRank, StampsRise};
-ghost use Rattle.lack_pieces.specs.Lowest.{IsLowestIn, IsLowestOfReceipts, IsLowestOfStamps};
-ghost use Rattle.lack_pieces.specs.Lowest.{IsKnownBelow, IsUnfoundedReceipt, IsUnfoundedStamp};
+ghost use Rattle.lack_pieces.specs.Lowest.{IsKnownBelow, IsLowest, IsLowestIn, IsReceiptCounted};
+ghost use Rattle.lack_pieces.specs.Lowest.{IsStampCounted, IsUnfoundedReceipt, IsUnfoundedStamp};
 ghost use Rattle.lack_pieces.specs.Pieces.{Piece};
 ghost use Rattle.lack_pieces.specs.Reasons.{HasStampBelow};
 ghost use Rattle.lack_pieces.specs.Verdicts.{AreInOrder};
@@ -28,7 +28,7 @@ struct Lowest {
 /// The lowest count of a send or print with another prev than 0.
 fn lowest_of_stamps(events: &[Event]) -> Option<u64>
     requires { StampsRise events.now }
-    ensures { IsLowestOfStamps events.now result }
+    ensures { IsLowest (IsStampCounted events.now) result }
 {
     for event in events {
         if is_stamp(event) && event.serial.prev != 0 {
@@ -41,7 +41,7 @@ fn lowest_of_stamps(events: &[Event]) -> Option<u64>
 /// The lowest count of a receipt with another prev than 0.
 fn lowest_of_receipts(receipts: &[Receipt]) -> Option<u64>
     requires { AreInOrder receipts.now }
-    ensures { IsLowestOfReceipts receipts.now result }
+    ensures { IsLowest (IsReceiptCounted receipts.now) result }
 {
     for receipt in receipts {
         if receipt.event.serial.prev != 0 {

@@ -2,13 +2,14 @@
 use Rattle.std.proofs.Common.{◌≡◌, ◌≤◌, ◌<◌, ◌+◌, ℕ, true, false, get_or, slice_get, Some, refl}
 use Rattle.std.proofs.Common.{sym, ◌∙◌, subst, arith}
 use Rattle.std.proofs.lemmas.Bool.{false≢true}
+use Rattle.std.proofs.lemmas.Option.{slice_get_within}
 use Rattle.st_core.specs.declared.types.Event.{Event}
 use Rattle.st_pair.specs.Places.{is_stamp}
 use Rattle.st_pair.proofs.ForCallers.{at_get_or, blank}
 use Rattle.lack_pieces.specs.Firsts.{HoldsOfRank}
 use Rattle.lack_pieces.specs.Pieces.{Piece}
-use Rattle.lack_pieces.proofs.Walks.{first_own, late, late_at, more_passed, none_late, rise_more}
-use Rattle.lack_pieces.proofs.Walks.{within_length}
+use Rattle.lack_pieces.proofs.Walks.{first_own, late, late_at, none_late, rise_more}
+use Rattle.lack_needs.proofs.ForCallers.{more_passed}
 use Rattle.lack_pieces.proofs.own_reasons.find_late.Goals as goal
 use Rattle.lack_pieces.proofs.own_reasons.find_late.Goals.{then-not-is_stamp}
 use Rattle.lack_pieces.proofs.own_reasons.find_late.Goals.{else-not-is_stamp+then-count-highest+in_default}
@@ -37,7 +38,7 @@ loop-i-preserved c =
     let IsHigh : ℕ → Type 0 = λ high. (k : ℕ) (f : Event) → k < i + 1 → slice_get es k ≡ Some f
     → is_stamp f ≡ false → f.serial.this ≤ high in
     let kept : is_stamp e ≡ true → IsHigh c.loop-i.highest = λ stamps.
-    more_passed (λ (f : Event). is_stamp f ≡ false → f.serial.this ≤ c.loop-i.highest) es i e
+    more_passed (λ _ (f : Event). is_stamp f ≡ false → f.serial.this ≤ c.loop-i.highest) es i e
     at c.loop-i.invariant.high (λ receives. absurd (false≢true (sym receives ∙ stamps))) in
     record {
       rise = rise_more false es i e at c.loop-i.invariant.rise (λ stamps j f less there receives.
@@ -55,7 +56,7 @@ loop-i-preserved c =
         | then-not-is_stamp w ↦
             let greatest = w.max-highest.ensures in
             subst IsHigh (sym w.highest-is)
-            (more_passed (λ (f : Event). is_stamp f ≡ false
+            (more_passed (λ _ (f : Event). is_stamp f ≡ false
             → f.serial.this ≤ w.max-highest.result) es i e at
             (λ k f less there receives.
             let low = c.loop-i.invariant.high k f less there receives in
@@ -72,5 +73,5 @@ pub returns : goal.returns
 returns c = λ top receipts other h.
     let es = c.args.events.now in
     let piece : Piece = record { pid = c.args.pid; events = es; receipts = receipts } in
-    let within = within_length es other.index h.event (late top piece other h).1.0.at in
+    let within = slice_get_within es other.index h.event (late top piece other h).1.0.at in
     none_late top piece c.loop-i.i c.loop-i.invariant.rise other h (omega (arith, within))

@@ -1,12 +1,12 @@
 -- A send or print counts no higher than the last one before it, or those so far and it rise.
 use Rattle.std.proofs.Common.{◌+◌, ℕ, true, get_or, refl, sym, ◌∙◌, ap, subst, arith}
 use Rattle.std.proofs.lemmas.Bool.{false≢true}
-use Rattle.std.proofs.lemmas.Option.{none-some, same_Some}
+use Rattle.std.proofs.lemmas.Option.{none-some, same_Some, slice_get_within}
 use Rattle.st_pair.proofs.ForCallers.{at_get_or, blank}
 use Rattle.lack_pieces.specs.Firsts.{HoldsOfRank}
 use Rattle.lack_pieces.specs.Pieces.{Piece}
 use Rattle.lack_pieces.proofs.Walks.{above_last, falls_at, first_own, none_falls, not_rising}
-use Rattle.lack_pieces.proofs.Walks.{rise_more, stamp_here, stamp_kept, within_length, IsLastStamp}
+use Rattle.lack_pieces.proofs.Walks.{rise_more, stamp_here, stamp_kept, IsLastStamp}
 use Rattle.lack_pieces.proofs.own_reasons.find_not_rising.Goals as goal
 use Rattle.lack_pieces.proofs.own_reasons.find_not_rising.Goals.{then-is_stamp}
 use Rattle.lack_pieces.proofs.own_reasons.find_not_rising.Goals.{in-Some+else-event-count}
@@ -63,10 +63,10 @@ pub returns-clause-first : goal.returns-clause-first
 returns-clause-first c = λ top receipts other h.
     let es = c.args.events.now in
     let piece : Piece = record { pid = c.args.pid; events = es; receipts = receipts } in
-    let within = within_length es other.index h.event (not_rising top piece other h).1.0.at in
+    let within = slice_get_within es other.index h.event (not_rising top piece other h).1.0.at in
     none_falls top piece c.loop-i.i c.loop-i.invariant.rise other h (omega (arith, within))
 
 pub returns-clause-rise : goal.returns-clause-rise
 returns-clause-rise c = λ j k f e less at there first second.
-    let within = within_length c.args.events.now k e there in
+    let within = slice_get_within c.args.events.now k e there in
     c.loop-i.invariant.rise j k f e less (omega (arith, within)) at there first second

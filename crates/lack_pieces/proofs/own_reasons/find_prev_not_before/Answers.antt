@@ -1,10 +1,12 @@
 -- The first event whose serial doesn't rise is the first of its kind.
 use Rattle.std.proofs.Common.{◌<◌, get_or, refl, arith}
+use Rattle.std.proofs.lemmas.Option.{slice_get_within}
 use Rattle.st_core.specs.declared.types.Event.{Event}
 use Rattle.st_pair.proofs.ForCallers.{at_get_or, blank}
 use Rattle.lack_pieces.specs.Firsts.{HoldsOfRank}
 use Rattle.lack_pieces.specs.Pieces.{Piece}
-use Rattle.lack_pieces.proofs.Walks.{first_own, more_passed, prev_not_before, within_length}
+use Rattle.lack_pieces.proofs.Walks.{first_own, prev_not_before}
+use Rattle.lack_needs.proofs.ForCallers.{more_passed}
 use Rattle.lack_pieces.proofs.own_reasons.find_prev_not_before.Goals as goal
 
 pub returns-then-event : goal.returns-then-event
@@ -30,7 +32,7 @@ pub loop-i-preserved : goal.loop-i-preserved
 loop-i-preserved c =
     let es = c.args.events.now in
     let i = c.loop-i.i in
-    more_passed (λ (e : Event). e.serial.prev < e.serial.this) es i (get_or es i blank)
+    more_passed (λ _ (e : Event). e.serial.prev < e.serial.this) es i (get_or es i blank)
     (at_get_or es i blank c.loop-i-test.true) c.loop-i.invariant (omega arith)
 
 pub returns : goal.returns
@@ -38,7 +40,7 @@ returns c = λ top receipts other h.
     let piece : Piece =
     record { pid = c.args.pid; events = c.args.events.now; receipts = receipts } in
     let x = prev_not_before top piece other h in
-    let within = within_length c.args.events.now other.index h.event x.0.at in
+    let within = slice_get_within c.args.events.now other.index h.event x.0.at in
     let low = c.loop-i.invariant other.index h.event (omega (arith, within)) x.0.at in
     let high = x.1 in
     omega (arith, low, high)

@@ -1,6 +1,7 @@
 -- A receipt is a mismatch, or it has its send or none.
 use Rattle.std.proofs.Common.{◌+◌, true, false, get_or, length, sym, ◌∙◌, subst}
 use Rattle.std.proofs.lemmas.Bool.{false≢true}
+use Rattle.std.proofs.lemmas.Option.{slice_get_within}
 use Rattle.st_core.specs.declared.types.Event.{Event}
 use Rattle.st_pair.proofs.ForCallers.{at_get_or, blank}
 use Rattle.lack_decide.specs.Answers.{IsSendOf}
@@ -10,7 +11,7 @@ use Rattle.lack_pieces.proofs.Candidates.{first_of_all}
 use Rattle.lack_pieces.proofs.ReceivedCounts.{blank_receipt, mismatch_found, mismatch_holds}
 use Rattle.lack_pieces.proofs.ReceivedCounts.{mismatch_more, mismatch_still, mismatch_widened}
 use Rattle.lack_pieces.proofs.ReceivedCounts.{none_has, one_stamp, passed_next, IsMismatchBelow}
-use Rattle.lack_pieces.proofs.Walks.{at_same, within_length}
+use Rattle.lack_pieces.proofs.Walks.{at_same}
 use Rattle.lack_pieces.proofs.receipts.find_mismatch.Goals as goal
 use Rattle.lack_pieces.proofs.receipts.find_mismatch.Goals.{then-has_count+then-not-is_send_of}
 use Rattle.lack_pieces.proofs.receipts.find_mismatch.Goals.{else-has_count}
@@ -38,7 +39,7 @@ loop-receipt-preserved c =
             let has = subst (HasCount es next receipt.event.serial.this) w.if-has_count.true
             c.has_count.ensures in
             let same = at_same es next event has.0 (at_get_or es next blank
-            (within_length es next has.0 has.1)) has.1 in
+            (slice_get_within es next has.0 has.1)) has.1 in
             subst (IsEarliest (IsMismatchBelow piece (n + 1))) (sym w.least-is)
             (mismatch_more piece n receipt at c.loop-receipt.least c.loop-receipt.invariant.least
             next has.0 w.reason.result w.least_with.result has.1 (is.here has.0 has.1).0 has.2
@@ -52,7 +53,7 @@ loop-receipt-preserved c =
                   let has = subst (HasCount es next receipt.event.serial.this)
                   v.if-has_count.true c.has_count.ensures in
                   let same = at_same es next event has.0 (at_get_or es next blank
-                  (within_length es next has.0 has.1)) has.1 in
+                  (slice_get_within es next has.0 has.1)) has.1 in
                   let one = one_stamp es c.requires.rise next k has.0 f has.1 there
                   (is.here has.0 has.1).0 stamps (has.2 ∙ sym count) in
                   other (subst (λ (x : Event). IsSendOf x receipt.event) (same ∙ one)

@@ -12,7 +12,7 @@ use Rattle.lack_pieces.proofs.receipts.find_repeated.Goals.{then-before-receipt}
 use Rattle.lack_pieces.proofs.receipts.find_repeated.Goals.{else-before-receipt}
 
 pub loop-i-init : goal.loop-i-init
-loop-i-init c = λ other r. let next = r.next in let within = r.within in omega (arith, next, within)
+loop-i-init c = λ other r. let next = r.repeat.next in let within = r.within in omega (arith, next, within)
 
 pub loop-i-preserved : goal.loop-i-preserved
 loop-i-preserved c =

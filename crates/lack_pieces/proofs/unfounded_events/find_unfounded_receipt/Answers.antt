@@ -1,7 +1,7 @@
 -- A receipt is unfounded, or those so far and it are not.
 use Rattle.std.proofs.Common.{◌+◌, true, false, get_or, refl, sym, ◌∙◌, subst, arith}
 use Rattle.std.proofs.lemmas.Bool.{false≢true}
-use Rattle.std.proofs.lemmas.Option.{none-some}
+use Rattle.std.proofs.lemmas.Option.{none-some, slice_get_within}
 use Rattle.st_pair.proofs.ForCallers.{at_get_or}
 use Rattle.lack_pieces.specs.Firsts.{HasCount, IsEarliest}
 use Rattle.lack_pieces.specs.Lowest.{IsUnfoundedReceipt}
@@ -10,7 +10,6 @@ use Rattle.lack_pieces.proofs.Candidates.{first_of_all}
 use Rattle.lack_pieces.proofs.Founding.{unfounded_more, unfounded_still, IsUnfoundedBelow}
 use Rattle.lack_pieces.proofs.ReceivedCounts.{blank_receipt, none_has, passed_next, stamp_none}
 use Rattle.lack_pieces.proofs.ReceivedCounts.{stamp_some}
-use Rattle.lack_pieces.proofs.Walks.{within_length}
 use Rattle.lack_pieces.proofs.unfounded_events.find_unfounded_receipt.Goals as goal
 use Rattle.lack_pieces.proofs.unfounded_events.find_unfounded_receipt.Goals.{then-receipt-eq0+then-not-has_count+then-is_behind_stamp}
 use Rattle.lack_pieces.proofs.unfounded_events.find_unfounded_receipt.Goals.{else-receipt-eq0}
@@ -76,7 +75,7 @@ returns c = λ pid lowest.
       record {
         is = t;
         within =
-            let short = within_length rs t.hidden.0.place _ t.hidden.0.at in omega (arith, short);
+            let short = slice_get_within rs t.hidden.0.place _ t.hidden.0.at in omega (arith, short);
       },
       record { pid = refl; index = refl },
     )) (c.loop-receipt.invariant.least pid lowest)

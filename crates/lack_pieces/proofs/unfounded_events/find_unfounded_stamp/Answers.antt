@@ -1,12 +1,13 @@
 -- A send or print is unfounded, or those so far and it are not.
 use Rattle.std.proofs.Common.{◌+◌, true, false, [], get_or, inl, inr, refl, sym, ◌∙◌, subst, arith}
 use Rattle.std.proofs.lemmas.Bool.{false≢true}
+use Rattle.std.proofs.lemmas.Option.{slice_get_within}
 use Rattle.st_pair.proofs.ForCallers.{at_get_or, blank}
 use Rattle.lack_pieces.specs.Lowest.{IsUnfoundedStamp}
 use Rattle.lack_pieces.specs.Pieces.{Piece}
 use Rattle.lack_pieces.proofs.Founding.{after_receive, founded_more, not_after_receive}
 use Rattle.lack_pieces.proofs.Founding.{received_here, received_kept, IsReceived}
-use Rattle.lack_pieces.proofs.Walks.{first_own, within_length}
+use Rattle.lack_pieces.proofs.Walks.{first_own}
 use Rattle.lack_pieces.proofs.unfounded_events.find_unfounded_stamp.Goals as goal
 use Rattle.lack_pieces.proofs.unfounded_events.find_unfounded_stamp.Goals.{then-not-is_stamp}
 use Rattle.lack_pieces.proofs.unfounded_events.find_unfounded_stamp.Goals.{else-not-is_stamp+else-event-eq0}
@@ -79,5 +80,5 @@ loop-i-preserved c =
 
 pub returns : goal.returns
 returns c = λ receipts is other s.
-    let within = within_length c.args.events.now other.index s.event s.own.0.at in
+    let within = slice_get_within c.args.events.now other.index s.event s.own.0.at in
     c.loop-i.invariant.founded receipts is other s (omega (arith, within))

@@ -1,11 +1,12 @@
 -- The first with another prev is the lowest, since counts rise.
 use Rattle.std.proofs.Common.{◌≡◌, true, get_or, sym, ◌∙◌, arith}
 use Rattle.std.proofs.lemmas.Bool.{false≢true}
+use Rattle.std.proofs.lemmas.Option.{slice_get_within}
 use Rattle.st_core.specs.declared.types.Event.{Event}
 use Rattle.st_pair.specs.Places.{is_stamp}
 use Rattle.st_pair.proofs.ForCallers.{at_get_or, blank}
 use Rattle.lack_pieces.proofs.Founding.{lowest_stamp}
-use Rattle.lack_pieces.proofs.Walks.{more_passed, within_length}
+use Rattle.lack_needs.proofs.ForCallers.{more_passed}
 use Rattle.lack_pieces.proofs.unfounded_events.lowest_of_stamps.Goals as goal
 use Rattle.lack_pieces.proofs.unfounded_events.lowest_of_stamps.Goals.{else-is_stamp-via-then-is_stamp+else-event-ne0}
 use Rattle.lack_pieces.proofs.unfounded_events.lowest_of_stamps.Goals.{else-is_stamp-via-else-is_stamp}
@@ -22,7 +23,7 @@ pub loop-event-preserved : goal.loop-event-preserved
 loop-event-preserved c =
     let es = c.args.events.now in
     let i = c.loop-event.event-index in
-    more_passed (λ (f : Event). is_stamp f ≡ true → f.serial.prev ≡ 0) es i (get_or es i blank)
+    more_passed (λ _ (f : Event). is_stamp f ≡ true → f.serial.prev ≡ 0) es i (get_or es i blank)
     (at_get_or es i blank c.loop-event-test.true) c.loop-event.invariant
     (λ stamps. elim c.else-is_stamp.branch [
       | else-is_stamp-via-then-is_stamp+else-event-ne0 w ↦ w.if-event-ne0.false
@@ -32,7 +33,7 @@ loop-event-preserved c =
 
 pub returns : goal.returns
 returns c = λ count s.
-    let within = within_length c.args.events.now s.place s.event s.at in
+    let within = slice_get_within c.args.events.now s.place s.event s.at in
     let zero_prev = c.loop-event.invariant s.place s.event (omega (arith, within)) s.at s.stamps in
     let positive = s.above in
     omega (arith, zero_prev, positive)
