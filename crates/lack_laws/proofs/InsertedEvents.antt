@@ -3,7 +3,7 @@
 -- process may report it among all of them.
 use Rattle.std.proofs.Common.{[], ◌≡◌, ℕ, zero, suc, ◌+◌, ◌<◌, ◌≤◌, ◌⊎◌, Bool, true, false, cond}
 use Rattle.std.proofs.Common.{List, ◌∷◌, ◌++◌, map, take, drop, length, Some, None, is_some, inl}
-use Rattle.std.proofs.Common.{inr, slice_get, refl, sym, ◌∙◌, ap, subst, arith}
+use Rattle.std.proofs.Common.{inr, ◌-◌, min, slice_get, refl, sym, ◌∙◌, ap, subst, arith}
 use Rattle.std.proofs.lemmas.Bool.{false≢true}
 use Rattle.std.proofs.lemmas.Option.{none-some, same_Some}
 use Rattle.std.specs.List.{AllByRecursion}
@@ -90,32 +90,21 @@ listed_with p i r streams q k e at =
 -- where event m is then: one further if it isn't before place i of the process that has it
 abbrev pub IsMoved : Bool → ℕ → ℕ → ℕ → Type 0
 IsMoved false i m k = k ≡ m
-IsMoved true i m k = ((m < i) × (k ≡ m)) ⊎ ((i ≤ m) × (k ≡ m + 1))
+IsMoved true i m k = k ≡ m + min 1 (suc m - i)
 
 moved_order : (b : Bool) (i m n j k : ℕ) → IsMoved b i m j → IsMoved b i n k → j < k → m < n
 moved_order false i m n j k x y less = omega arith
-moved_order true i m n j k (inl x) (inl y) less = let a = x.1 in let b = y.1 in omega arith
-moved_order true i m n j k (inl x) (inr y) less = let a = x.0 in let b = y.0 in omega arith
-moved_order true i m n j k (inr x) (inl y) less =
-    let a = x.1 in let b = y.1 in let c = x.0 in let d = y.0 in omega arith
-moved_order true i m n j k (inr x) (inr y) less = let a = x.1 in let b = y.1 in omega arith
+moved_order true i m n j k x y less = omega arith
 
 moved_same : (b : Bool) (i m j k : ℕ) → IsMoved b i m j → IsMoved b i m k → j ≡ k
 moved_same false i m j k x y = x ∙ sym y
-moved_same true i m j k (inl x) (inl y) = x.1 ∙ sym y.1
-moved_same true i m j k (inl x) (inr y) = let a = x.0 in let b = y.0 in absurd (omega arith)
-moved_same true i m j k (inr x) (inl y) = let a = x.0 in let b = y.0 in absurd (omega arith)
-moved_same true i m j k (inr x) (inr y) = x.1 ∙ sym y.1
+moved_same true i m j k x y = x ∙ sym y
 
-moved_after : (b : Bool) (i m k : ℕ) → b ≡ true → IsMoved b i m k → i < k → i ≤ m
-moved_after false i m k is x less = absurd (false≢true is)
-moved_after true i m k is (inl x) less = let a = x.0 in let c = x.1 in absurd (omega arith)
-moved_after true i m k is (inr x) less = x.0
+moved_after : (i m k : ℕ) → IsMoved true i m k → i < k → i ≤ m
+moved_after i m k x less = omega arith
 
-moved_before : (b : Bool) (i m k : ℕ) → b ≡ true → IsMoved b i m k → k < i → m < i
-moved_before false i m k is x less = absurd (false≢true is)
-moved_before true i m k is (inl x) less = x.0
-moved_before true i m k is (inr x) less = let a = x.0 in let c = x.1 in absurd (omega arith)
+moved_before : (i m k : ℕ) → IsMoved true i m k → k < i → m < i
+moved_before i m k x less = omega arith
 
 -- event k is this one, and was so at this place
 pub record IsOld (es : List Event) (b : Bool) (i k : ℕ) (e : Event) : Type 0 where
@@ -132,20 +121,17 @@ old_later : (x : Event) (es : List Event) (i k : ℕ) (e : Event) → IsOld es t
 old_later x es i k e old = record {
   index = suc old.index;
   at = old.at;
-  moved = elim old.moved [
-    | inl y ↦ let a = y.0 in let b = y.1 in inl (omega arith, omega arith)
-    | inr y ↦ let a = y.0 in let b = y.1 in inr (omega arith, omega arith)
-  ];
+  moved = let there = old.moved in omega arith;
 }
 
 at_put : (es : List Event) (i : ℕ) (r : Event) (k : ℕ) (e : Event) → i ≤ length es
     → slice_get (take i es ++ r ∷ drop i es) k ≡ Some e → IsNew i r k e ⊎ IsOld es true i k e
 at_put es zero r zero e within at = inl (refl, same_Some r e at)
 at_put es zero r (suc k) e within at =
-    inr (record { index = k; at = at; moved = inr (omega arith, omega arith) })
+    inr (record { index = k; at = at; moved = omega arith })
 at_put [] (suc i) r k e within at = absurd (omega arith)
 at_put (x ∷ es) (suc i) r zero e within at =
-    inr (record { index = 0; at = at; moved = inl (omega arith, refl) })
+    inr (record { index = 0; at = at; moved = omega arith })
 at_put (x ∷ es) (suc i) r (suc k) e within at = elim (at_put es i r k e (omega arith) at) [
   | inl new ↦ inl (ap suc new.0, new.1)
   | inr old ↦ inr (old_later x es i k e old)
@@ -234,16 +220,16 @@ module _ (p : Pid) (i : ℕ) (r : Event) (streams : List Stream)
           | inl new_e ↦ let one = new_d.1.0 in let two = new_e.1.0 in absurd (omega arith)
           | inr old_e ↦
               let here = new_d.1.0 in
-              let behind = moved_after (pid_eq q p) i old_e.index k
-              (ap (λ x. pid_eq x p) new_d.0 ∙ pid_eq-refl p) old_e.moved (omega arith) in
+              let behind = moved_after i old_e.index k (subst (λ b. IsMoved b i old_e.index k)
+              (ap (λ x. pid_eq x p) new_d.0 ∙ pid_eq-refl p) old_e.moved) (omega arith) in
               subst (λ x. R x e) new_d.1.1 (after old_e.index e behind
               (ap (λ x. event_at streams x old_e.index) (sym new_d.0) ∙ old_e.at))
         ]
         | inr old_d ↦ elim (is_placed p i r streams within q k e at_e) [
           | inl new_e ↦
               let here = new_e.1.0 in
-              let ahead = moved_before (pid_eq q p) i old_d.index j
-              (ap (λ x. pid_eq x p) new_e.0 ∙ pid_eq-refl p) old_d.moved (omega arith) in
+              let ahead = moved_before i old_d.index j (subst (λ b. IsMoved b i old_d.index j)
+              (ap (λ x. pid_eq x p) new_e.0 ∙ pid_eq-refl p) old_d.moved) (omega arith) in
               subst (λ x. R d x) new_e.1.1 (before old_d.index d ahead
               (ap (λ x. event_at streams x old_d.index) (sym new_e.0) ∙ old_d.at))
           | inr old_e ↦ old q old_d.index old_e.index d e
