@@ -16,11 +16,9 @@ pub(crate) fn find_prev_not_before(pid: Pid, events: &[Event]) -> Option<PlacedR
 {
     for (i, event) in events.iter().enumerate() {
         if event.serial.this <= event.serial.prev {
-            return Some(PlacedReason {
-                pid,
-                index: i as u64,
-                never: Never::PrevNotBefore,
-            });
+            let never = Never::PrevNotBefore;
+            let index = i as u64;
+            return Some(PlacedReason { pid, index, never });
         }
     }
     None
@@ -37,11 +35,9 @@ pub(crate) fn find_not_rising(pid: Pid, events: &[Event]) -> Option<PlacedReason
         if is_stamp(event) {
             if let Some((index, count)) = last {
                 if event.serial.this <= count {
-                    return Some(PlacedReason {
-                        pid,
-                        index: i as u64,
-                        never: Never::NotRising(index),
-                    });
+                    let never = Never::NotRising(index);
+                    let index = i as u64;
+                    return Some(PlacedReason { pid, index, never });
                 }
             }
             last = Some((i as u64, event.serial.this));
@@ -76,11 +72,9 @@ pub(crate) fn find_late(pid: Pid, events: &[Event]) -> Option<PlacedReason>
             highest = count.max(highest);
         } else if count <= highest {
             if let Some(index) = last_receive(events, i, count) {
-                return Some(PlacedReason {
-                    pid,
-                    index: i as u64,
-                    never: Never::Late(index as u64),
-                });
+                let never = Never::Late(index as u64);
+                let index = i as u64;
+                return Some(PlacedReason { pid, index, never });
             }
         }
     }
@@ -94,11 +88,9 @@ pub(crate) fn find_too_high<const TOP: u64>(pid: Pid, events: &[Event]) -> Optio
 {
     for (i, event) in events.iter().enumerate() {
         if TOP < event.serial.this {
-            return Some(PlacedReason {
-                pid,
-                index: i as u64,
-                never: Never::TooHigh,
-            });
+            let never = Never::TooHigh;
+            let index = i as u64;
+            return Some(PlacedReason { pid, index, never });
         }
     }
     None

@@ -76,11 +76,8 @@ impl Receipt {
     pub(crate) fn reason(self, never: Never) -> PlacedReason
         ensures { result ≡ record { pid = self.pid; index = self.index; never = never } }
     {
-        PlacedReason {
-            pid: self.pid,
-            index: self.index,
-            never,
-        }
+        let Receipt { pid, index, .. } = self;
+        PlacedReason { pid, index, never }
     }
 }
 

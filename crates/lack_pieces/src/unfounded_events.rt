@@ -81,11 +81,9 @@ fn find_unfounded_stamp(pid: Pid, events: &[Event], lowest: Lowest) -> Option<Pl
         if !is_stamp(event) {
             received = true;
         } else if event.serial.prev == 0 && (received || is_behind_stamp(lowest, event)) {
-            return Some(PlacedReason {
-                pid,
-                index: i as u64,
-                never: Never::Unfounded,
-            });
+            let never = Never::Unfounded;
+            let index = i as u64;
+            return Some(PlacedReason { pid, index, never });
         }
     }
     None
