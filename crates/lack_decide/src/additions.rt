@@ -40,11 +40,8 @@ fn is_sent_for(
     let Some(to) = sent.to else {
         return false;
     };
-    is_sent(
-        streams,
-        sent,
-        (to, u64::from(other_end(links, place, index))),
-    )
+    let receive = other_end(links, place, index);
+    is_sent(streams, sent, (to, u64::from(receive)))
 }
 
 /// Whether a send or print with this count for its prev is right after this index.

@@ -53,10 +53,7 @@ fn certify<const TOP: u64>(
 ) -> Result<Option<Certificate>, AllocError>
     ensures { IfOk result (λ some. IfSome some (IsCertificate TOP streams.now most)) }
 {
-    if acts.len() as u64 > most {
-        return Ok(None);
-    }
-    if !has_no_reset(acts.as_slice()) {
+    if acts.len() as u64 > most || !has_no_reset(acts.as_slice()) {
         return Ok(None);
     }
     match check::<TOP>(alloc, streams, acts.as_slice()) {

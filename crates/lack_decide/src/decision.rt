@@ -36,12 +36,8 @@ fn answer_of_refused<const TOP: u64>(
         PairFault::Memory => return Err(CompleteFault::Memory),
         PairFault::PrevNotBefore(pid, index) => (pid, index, Never::PrevNotBefore),
         PairFault::NotRising(pid, index, other) => (pid, index, Never::NotRising(other)),
-        PairFault::Repeated(pid, index, first, place) => {
-            (pid, index, Never::Repeated(first, place))
-        }
-        PairFault::Mismatch(pid, index, sender, place) => {
-            (pid, index, Never::Mismatch(sender, place))
-        }
+        PairFault::Repeated(pid, index, first, at) => (pid, index, Never::Repeated(first, at)),
+        PairFault::Mismatch(pid, index, sender, at) => (pid, index, Never::Mismatch(sender, at)),
     };
     Ok(Answer::Never(pid, index, never))
 }

@@ -125,10 +125,7 @@ fn is_linked(
     let Some(sent) = streams.event(event.from, u64::from(link)) else {
         return false;
     };
-    if !is_received(&sent, event) {
-        return false;
-    }
-    other_end(links, place, link as usize) as usize == index
+    is_received(&sent, event) && other_end(links, place, link as usize) as usize == index
 }
 
 /// Whether the event at this index of the process at this place is no receive, or has its send.
@@ -163,10 +160,7 @@ fn are_fit(
 {
     let mut left = Left::by_none();
     for (i, event) in events.iter().enumerate() {
-        if !left.goes_on(event, top) {
-            return false;
-        }
-        if !has_send(streams, links, place, i, event) {
+        if !left.goes_on(event, top) || !has_send(streams, links, place, i, event) {
             return false;
         }
         left = left.after(event);
@@ -235,16 +229,11 @@ pub(crate) fn judge<const TOP: u64>(
         links,
         unlisted,
     } = candidate;
-    if !are_apart(streams, &unlisted) {
-        return Ok(None);
-    }
-    if !tells_with(alloc, &all, &told, streams, &unlisted)? {
-        return Ok(None);
-    }
-    if !are_all_fit(&all, &links, TOP) {
-        return Ok(None);
-    }
-    if !are_additions_needed(&all, &links, &told) {
+    if !are_apart(streams, &unlisted)
+        || !tells_with(alloc, &all, &told, streams, &unlisted)?
+        || !are_all_fit(&all, &links, TOP)
+        || !are_additions_needed(&all, &links, &told)
+    {
         return Ok(None);
     }
     Ok(Some(completion_of(streams, all, told, unlisted)))

@@ -67,13 +67,8 @@ fn may_leave(before: Option<Event>, prev: u64, count: u64) -> bool
 {
     match before {
         None => false,
-        Some(before) => {
-            if is_stamp(&before) {
-                count < before.serial.this
-            } else {
-                before.serial.this == prev
-            }
-        }
+        Some(before) if is_stamp(&before) => count < before.serial.this,
+        Some(before) => before.serial.this == prev,
     }
 }
 
@@ -98,10 +93,7 @@ fn rules_out_stamp(before: Option<Event>, pid: Pid, prev: u64, count: u64, event
     ensures { result ≡ rules_out_stamp before pid prev count event.now }
 {
     let Event { from, serial, .. } = *event;
-    if from != pid || serial.prev == prev {
-        return false;
-    }
-    if prev >= serial.this || serial.this >= count {
+    if from != pid || serial.prev == prev || prev >= serial.this || serial.this >= count {
         return false;
     }
     !may_leave(before, prev, serial.this)

@@ -17,19 +17,20 @@ use Rattle.lack_decide.proofs.judge.judge.Goals as goal
 pub tells_with-requires-clause-apart : goal.tells_with-requires-clause-apart
 tells_with-requires-clause-apart g c =
     subst (AllByRecursion (λ q. lists c.args.streams.now q ≡ false))
-    (c.deref.ensures.value ∙ sym c.deref-3.ensures.value)
+    (c.deref.ensures.value ∙ sym c.deref-else-not-are_apart-2.ensures.value)
     (c.are_apart.ensures.apart c.if-not-are_apart.false)
 
 pub tells_with-requires-clause-rising : goal.tells_with-requires-clause-rising
 tells_with-requires-clause-rising g c =
-    subst IsRising (c.deref.ensures.value ∙ sym c.deref-3.ensures.value)
+    subst IsRising (c.deref.ensures.value ∙ sym c.deref-else-not-are_apart-2.ensures.value)
     (c.are_apart.ensures.rising c.if-not-are_apart.false)
 
 pub completion_of-requires : goal.completion_of-requires
 completion_of-requires g c =
-    ap (λ ls. told_streams (wholes_with c.args.candidate.streams ls)) (sym c.deref-2.ensures.value)
+    ap (λ ls. told_streams (wholes_with c.args.candidate.streams ls))
+    (sym c.deref-else-not-are_apart.ensures.value)
     ∙ c.in_ok-tells_with.ensures.told c.if-not-branch.false
-    ∙ ap (with_silent c.args.streams.now) c.deref-3.ensures.value
+    ∙ ap (with_silent c.args.streams.now) c.deref-else-not-are_apart-2.ensures.value
 
 pub returns : goal.returns
 returns g c = λ x is.
@@ -52,14 +53,16 @@ returns g c = λ x is.
       is = subst (λ (qs : List Pid). IsCompletionOf g.row.TOP (with_silent given qs) x.wholes)
           (sym others)
           (subst (IsCompletionOf g.row.TOP (with_silent given unlisted)) (sym wholes) (record {
-            told = ap (λ ls. told_streams (wholes_with streams ls)) (sym c.deref-2.ensures.value)
+            told = ap (λ ls. told_streams (wholes_with streams ls))
+                (sym c.deref-else-not-are_apart.ensures.value)
                 ∙ c.in_ok-tells_with.ensures.told c.if-not-branch.false
-                ∙ ap (with_silent given) c.deref-3.ensures.value;
+                ∙ ap (with_silent given) c.deref-else-not-are_apart-2.ensures.value;
             sound = subst IsStreams (sym same) c.tells_with.ensures.streams;
             needless = subst (IsNeedless g.row.TOP) (sym same)
                 (c.are_all_fit.ensures c.if-not-are_all_fit.false);
           }));
       needed = subst AreAdditionsNeeded (sym wholes)
-          (subst (λ ls. AreAdditionsNeeded (wholes_with streams ls)) c.deref-6.ensures.value
+          (subst (λ ls. AreAdditionsNeeded (wholes_with streams ls))
+          c.deref-else-not-are_all_fit-2.ensures.value
           (c.are_additions_needed.ensures c.if-not-are_additions_needed.false));
     }
