@@ -16,10 +16,10 @@ use Rattle.st_order.specs.declared.item.Item.{Item}
 use Rattle.st_order.specs.declared.item.Item.TheVariants as item
 use Rattle.st_order.specs.Items.{height}
 use Rattle.st_order.specs.Order.{key_by}
-use Rattle.st_plan.specs.Moves.{Move, move_by, is_taking, clock}
+use Rattle.st_plan.specs.Moves.{Move, move_by}
 use Rattle.st_plan.specs.Plain.{event_count}
-use Rattle.st_plan.proofs.FreeMoves.{AllAlong, IsInTurn}
-use Rattle.st_plan.proofs.EarlierMoves.{clock_below, IsAt, IsKeyBelow}
+use Rattle.st_plan.proofs.FreeMoves.{IsInTurn}
+use Rattle.st_plan.proofs.EarlierMoves.{IsAt, IsKeyBelow}
 use Rattle.st_plan.proofs.RisingStamps.{height_is, height_more, height_of, rank_of, this_below}
 use Rattle.st_plan.proofs.RisingStamps.{IsTop, Stamps}
 
@@ -166,14 +166,14 @@ top_of streams earlier (item.Reported p (suc k)) e ok at turn below known = λ s
 
 -- CLOCKS
 
-stamps_of : (x : Item) (e : Event) → (let b : Bool = elim x [
+pub stamps_of : (x : Item) (e : Event) → (let b : Bool = elim x [
   | item.Reported p i ↦ not (is_stamp e)
   | item.Hidden p i ↦ false
 ] in b) ≡ false → Stamps x e
 stamps_of (item.Reported p i) e h = not-false (is_stamp e) h
 stamps_of (item.Hidden p i) e h = tt
 
-all_below : (streams : List Stream) (m : Move) (earlier : List Move) → IsAt streams m.item m.event
+pub all_below : (streams : List Stream) (m : Move) (earlier : List Move) → IsAt streams m.item m.event
     → move_by m.item m.event ≡ m → Stamps m.item m.event → IsTop streams m.item m.event
     → AllByRecursion (HasCome streams) earlier → AllByRecursion (IsBelow streams m) earlier
     → AllByRecursion (λ y. y.who ≡ m.who → y.event.serial.this < m.event.serial.this) earlier
@@ -183,24 +183,3 @@ all_below streams m (y ∷ earlier) at is stamps top each below = (
       (ap (λ (z : Move). z.who) each.0.is ∙ who ∙ ap (λ (z : Move). z.who) (sym is)),
   all_below streams m earlier at is stamps top each.1 below.1,
 )
-
--- at each stamp its process's clock is below its count
-pub clocks_below : (streams : List Stream) (earlier ms : List Move) → IsPaired streams
-    → AllAlong (IsNext streams) earlier ms → IsKnown streams earlier
-    → AllAlong (λ before m. is_taking m ≡ false → clock m.who before
-    < m.event.serial.this) earlier ms
-clocks_below streams earlier [] ok all known = tt
-clocks_below streams earlier (m ∷ ms) ok all known =
-    let next = all.0 in
-    let place = at_event streams m.item m.event next.at in
-    let rises = serial_rises streams ok place.0 place.1 m.event place.2 in
-    let top = top_of streams earlier m.item m.event ok next.at next.turn next.below known in
-    let more : IsKnown streams (m ∷ earlier) = record {
-      each = (record { at = next.at; is = next.is; top = top }, known.each);
-      have = λ q k less. have_by m earlier m.item refl next.turn known.have q k less;
-    } in (
-      λ stamps. clock_below m.who m.event.serial.this earlier (omega arith)
-          (all_below streams m earlier next.at next.is (stamps_of m.item m.event stamps) top
-          known.each next.below),
-      clocks_below streams (m ∷ earlier) ms ok all.1 more,
-    )

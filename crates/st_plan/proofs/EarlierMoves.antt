@@ -23,17 +23,12 @@ use Rattle.st_order.specs.declared.item.Item.TheVariants as item
 use Rattle.st_order.specs.Items.{event_of, height, is_hidden, items, items_among, items_at}
 use Rattle.st_order.specs.Items.{items_from}
 use Rattle.st_order.specs.Order.{comes_before, Key, key, key_by, key_cmp, IsOrder, KeysRise}
-use Rattle.st_order.proofs.ForCallers.{all_found, among_all, comes_before_is, drop_front, members}
+use Rattle.st_order.proofs.ForCallers.{all_append, all_found, all_take, among_all, comes_before_is}
+use Rattle.st_order.proofs.ForCallers.{drop_front, members}
 use Rattle.st_order.proofs.ForCallers.{tallest_has, Among, AreFound}
 use Rattle.st_plan.specs.Moves.{Move, clock, earlier_of, move_by, moves}
 
 -- LISTS
-
-pub all_append : {A : Type 0} (P : A → Type 0) (xs ys : List A) → AllByRecursion P xs
-    → AllByRecursion P ys
-    → AllByRecursion P (xs ++ ys)
-all_append P [] ys one two = two
-all_append P (x ∷ xs) ys one two = (one.0, all_append P xs ys one.1 two)
 
 all_reverse : {A : Type 0} (P : A → Type 0) (xs : List A) → AllByRecursion P xs
     → AllByRecursion P (reverse xs)
@@ -176,7 +171,7 @@ step_below m n rest h = elim (cases_order m n) [
       (sym (cmp_greater m n more)) ∙ h))
 ]
 
-pub key_below : (k l : Key) → is_lt (key_cmp k l) ≡ true → IsKeyBelow k l
+key_below : (k l : Key) → is_lt (key_cmp k l) ≡ true → IsKeyBelow k l
 key_below k l h = elim (step_below k.height l.height _ h) [
   | inl less ↦ record {
     height = omega arith;
@@ -201,6 +196,17 @@ key_below k l h = elim (step_below k.height l.height _ h) [
         }
   ]
 ]
+
+pub before_below : (streams : List Stream) (y x : Item) (d e : Event) → event_of streams y ≡ Some d
+    → event_of streams x ≡ Some e → comes_before streams y x ≡ true
+    → IsKeyBelow (key_by streams y d) (key_by streams x e)
+before_below streams y x d e at_y at_x h =
+    let y_key : key streams y ≡ Some (key_by streams y d) =
+    ap (option_map (key_by streams y)) at_y in
+    let x_key : key streams x ≡ Some (key_by streams x e) =
+    ap (option_map (key_by streams x)) at_x in
+    key_below (key_by streams y d) (key_by streams x e)
+    (sym (comes_before_is streams y x (key_by streams y d) (key_by streams x e) y_key x_key) ∙ h)
 
 -- of rising keys each before an item is below its own
 pub all_before : (streams : List Stream) (xs : List Item) (n : ℕ) (x : Item) → KeysRise streams xs
@@ -260,13 +266,7 @@ moves_below streams p i e at (y ∷ ys) there before =
     let d = there.0.0 in
     let at_y = there.0.1 in
     let y_event = there_event streams y d at_y in
-    let y_key : key streams y ≡ Some (key_by streams y d) =
-    ap (option_map (key_by streams y)) y_event in
-    let x_key : key streams x ≡ Some (key_by streams x e) =
-    ap (option_map (key_by streams x)) at.0 in
-    let lower = key_below (key_by streams y d) (key_by streams x e)
-    (sym (comes_before_is streams y x (key_by streams y d) (key_by streams x e) y_key x_key)
-    ∙ before.0) in
+    let lower = before_below streams y x d e y_event at.0 before.0 in
     subst (AreBelow e.from e.serial.this) (sym (one_move streams y d ys y_event)) (
       λ who. subst (λ (f : Event). f.serial.this < e.serial.this) (sym (event_is y d))
           (hidden_above streams y d p i e at_y lower who),
@@ -284,12 +284,6 @@ clock_below q this (y ∷ earlier) some all =
       | false ↦ λ other. rest
     ] refl
 
-all_taken : {A : Type 0} (P : A → Type 0) (n : ℕ) (xs : List A) → AllByRecursion P xs
-    → AllByRecursion P (take n xs)
-all_taken P zero xs all = tt
-all_taken P (suc n) [] all = tt
-all_taken P (suc n) (x ∷ xs) all = (all.0, all_taken P n xs all.1)
-
 -- the clock of a hidden send's process is below its count
 pub hidden_clock : (streams : List Stream) (xs : List Item) (n : ℕ) (p : Pid) (i : ℕ) (e : Event)
     → IsRising (pids_of streams) → IsOrder streams xs → slice_get xs n ≡ Some (item.Hidden p i)
@@ -304,5 +298,5 @@ hidden_clock streams xs n p i e rising order at is some =
     clock_below e.from e.serial.this (earlier_of streams (take n xs)) some
     (all_reverse (λ (m : Move). m.who ≡ e.from → m.event.serial.this < e.serial.this)
     (moves streams (take n xs))
-    (moves_below streams p i e at_e (take n xs) (all_taken (IsThere streams) n xs all)
+    (moves_below streams p i e at_e (take n xs) (all_take (IsThere streams) n xs all)
     (all_before streams xs n (item.Hidden p i) order.rises at)))

@@ -20,7 +20,7 @@ abbrev pub AllAlong : (List Move → Move → Type 0) → List Move → List Mov
 AllAlong P earlier [] = Unit {0}
 AllAlong P earlier (m ∷ ms) = P earlier m × AllAlong P (m ∷ earlier) ms
 
-pub reverse_more : (m : Move) (earlier later : List Move)
+pub reverse_more : {A : Type 0} (m : A) (earlier later : List A)
     → reverse (m ∷ earlier) ++ later ≡ reverse earlier ++ m ∷ later
 reverse_more m earlier later = ap (λ ms. ms ++ later) (reverse-append (m ∷ []) earlier)
     ∙ append_assoc (reverse earlier) (m ∷ []) later

@@ -1,6 +1,6 @@
 -- A full run has such streams: pairing accepts them, each stamp goes on from the events
 -- before it, no send is hidden, and each count is one that a clock has had.
-use Rattle.std.proofs.Common.{◌≡◌, ℕ, ◌+◌, ◌≤◌, ◌==◌, ◌&&◌, Bool, true, false, cond, List, [], take}
+use Rattle.std.proofs.Common.{◌≡◌, ℕ, ◌+◌, ◌≤◌, ◌==◌, ◌&&◌, Bool, true, false, cond, List, take}
 use Rattle.std.proofs.Common.{Some, None, slice_get, option_and_then, refl, sym, ◌∙◌, ap, subst}
 use Rattle.std.proofs.Common.{arith}
 use Rattle.std.specs.List.{All}
@@ -17,7 +17,6 @@ use Rattle.st_core.specs.Laws.{clock_in, GoesOnFrom, IsSound, KeepsSound, NoRese
 use Rattle.st_core.specs.Laws.{ReportsEverything}
 use Rattle.st_core.proofs.ForCallers.{All_at, event_reported, process_holds}
 use Rattle.st_core.proofs.ForCallers.{reported_stamps_lift, run_sound, tell_counts}
-use Rattle.st_pair.specs.declared.answer.Source.{Source}
 use Rattle.st_pair.specs.declared.answer.Source.TheVariants as source
 use Rattle.st_pair.specs.Places.{event_at, is_stamp}
 use Rattle.st_pair.specs.Pairing.{source_of, stamp_of}
@@ -26,6 +25,7 @@ use Rattle.st_pair.proofs.ForCallers.{shown_accepted}
 use Rattle.st_pair.proofs.ForCallers.{shown_events, source_by, source_from, stamp_not_received}
 use Rattle.st_order.specs.Items.{is_hidden}
 use Rattle.st_plan.specs.Full.{IsFull}
+use Rattle.st_plan.proofs.RisingStamps.{hidden_by}
 
 -- a process that has an event is listed, and its events are its reports
 events_shown : (streams : List Stream) (acts : List Act) (os : List Outcome) (p : Pid) (i : ℕ)
@@ -41,10 +41,6 @@ clock_within top s p all = elim (process s p) as (λ o. process s p ≡ o
       | None ↦ λ _. omega arith
       | Some r ↦ λ is. (process_holds (IsSound top) s p r is all).within
     ] refl
-
--- what a source says of the send
-abbrev hidden_by : Source → Bool
-hidden_by s = elim s [ source.Hidden ↦ true | source.Event q j ↦ false ]
 
 own_send : (b : Bool) (g f : ℕ × Event) → cond b (Some g) None ≡ Some f → b ≡ true
 own_send true g f h = refl

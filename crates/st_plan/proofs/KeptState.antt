@@ -162,20 +162,17 @@ own_last m earlier stamps =
     ap (λ b. cond b (cond (is_taking m) this prev) (last m.who earlier)) (pid_eq-refl m.who)
     ∙ ap (λ b. cond b this prev) stamps
 
-pub apart_from : (x p : Pid) → pid_eq x p ≡ false → pid_eq p x ≡ false
-apart_from x p h = pid_eq-swap p x ∙ h
-
 pub other_clock : (m : Move) (earlier : List Move) (x : Pid) → pid_eq x m.who ≡ false
     → clock x (m ∷ earlier) ≡ clock x earlier
 other_clock m earlier x h =
     ap (λ b. cond b (max (clock x earlier) m.event.serial.this) (clock x earlier))
-    (apart_from x m.who h)
+    (pid_eq-swap m.who x ∙ h)
 
 pub other_last : (m : Move) (earlier : List Move) (x : Pid) → pid_eq x m.who ≡ false
     → last x (m ∷ earlier) ≡ last x earlier
 other_last m earlier x h =
     ap (λ b. cond b (cond (is_taking m) m.event.serial.this m.event.serial.prev)
-    (last x earlier)) (apart_from x m.who h)
+    (last x earlier)) (pid_eq-swap m.who x ∙ h)
 
 -- the queue of x after a move that stamps
 pub stamp_queue : (streams : List Stream) (marks : Marks) (m : Move) (earlier : List Move) (x : Pid)

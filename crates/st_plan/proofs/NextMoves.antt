@@ -1,6 +1,6 @@
 -- Each move of an order goes on, by the kind of its item: the acts of a stamp find its clock below
 -- its count, and those of a receive its message.
-use Rattle.std.proofs.Common.{◌≡◌, ℕ, ◌<◌, ◌≤◌, true, false, not, cond, List, [], ◌∷◌, Option, Some}
+use Rattle.std.proofs.Common.{◌≡◌, ℕ, ◌<◌, ◌≤◌, true, false, cond, List, [], ◌∷◌, Option, Some}
 use Rattle.std.proofs.Common.{None, option_map, refl, sym, ◌∙◌, ap, subst}
 use Rattle.std.specs.Option.{option_map_or}
 use Rattle.std.proofs.lemmas.Bool.{false≢true}
@@ -20,117 +20,22 @@ use Rattle.st_order.specs.Items.{is_hidden}
 use Rattle.st_order.proofs.ForCallers.{hidden_receives}
 use Rattle.st_plan.specs.Marks.{Marks}
 use Rattle.st_plan.specs.Moves.{Move, clock, is_taking, move_by, moves}
-use Rattle.st_plan.specs.Reasons.{uncaused}
 use Rattle.st_plan.specs.Build.{flags_of}
 use Rattle.st_plan.proofs.EarlierMoves.{one_move, there_event, IsAt}
 use Rattle.st_plan.proofs.KeptState.{Continues, IsKept}
 use Rattle.st_plan.proofs.Stamps.{printed_event, printing, sending, sent_event, CanStamp}
-use Rattle.st_plan.proofs.Receives.{taking, IsWaiting}
+use Rattle.st_plan.proofs.Receives.{taking}
 use Rattle.st_plan.proofs.FreeMoves.{AllAlong, IsFree}
 use Rattle.st_plan.proofs.BuiltActs.{Serves}
 use Rattle.st_plan.proofs.Sources.{stamp_kind}
 use Rattle.st_plan.proofs.OrderedMoves.{AreThere, IsClockBelow, Waits}
 use Rattle.st_plan.proofs.ProperEvents.{AreProper, Got, IsProper, Printed, Sent}
 
--- BY THE KIND OF THE ITEM
-
-module _ (top : ℕ) (streams : List Stream) (marks : Marks) (earlier : List Move) (p : Pid) (i : ℕ)
-    (e : Event)
-    (s : State) (listed : lists streams p ≡ true) (rises : e.serial.prev < e.serial.this)
-    (within : e.serial.this ≤ top)
-    (kept : IsKept streams marks earlier s) where
-  hidden_serves : e.to ≡ Some p → lists streams e.from ≡ true
-      → uncaused earlier (move_by (item.Hidden p i) e) ≡ false
-      → clock e.from earlier < e.serial.this
-      → Continues top streams marks earlier s (move_by (item.Hidden p i) e)
-  hidden_serves to from free below =
-      let m = move_by (item.Hidden p i) e in
-      let can : CanStamp top streams marks earlier s m = record {
-        kept = kept;
-        listed = from;
-        is = refl;
-        stamps = refl;
-        rises = rises;
-        within = within;
-        below = below;
-        free = free;
-      } in
-      sending top streams marks earlier s m p can listed
-      (λ r. ap (option_map (λ q. act.Send m.who q e.value)) to)
-      (λ q. ap (λ (o : Option Pid). option_map_or (λ x. pid_eq q x) o false) to)
-      refl
-
-  reported : is_taking (move_by (item.Reported p i) e) ≡ false
-      → uncaused earlier (move_by (item.Reported p i) e) ≡ false → clock p earlier < e.serial.this
-      → CanStamp top streams marks earlier s (move_by (item.Reported p i) e)
-  reported stamps free below = record {
-    kept = kept;
-    listed = listed;
-    is = refl;
-    stamps = stamps;
-    rises = rises;
-    within = within;
-    below = below;
-    free = free;
-  }
-
-  print_serves : e.kind ≡ kind.Print → e.from ≡ p → e.to ≡ None
-      → uncaused earlier (move_by (item.Reported p i) e) ≡ false → clock p earlier < e.serial.this
-      → Continues top streams marks earlier s (move_by (item.Reported p i) e)
-  print_serves kd from to free below =
-      let m = move_by (item.Reported p i) e in
-      let kinds = sym kd in
-      let froms = sym from in
-      let tos = sym to in
-      let seen : (flags_of streams marks m).print ≡ marks p i = rw kd refl in
-      let same : printed_event m ≡ e = λ k. record {
-        label = e.label;
-        kind = kinds k;
-        serial = e.serial;
-        from = froms k;
-        to = tos k;
-        value = e.value;
-      } in
-      printing top streams marks earlier s m (reported (rw kd refl) free below) (λ r. rw kd refl)
-      (λ q. rw kd refl)
-      (ap (λ b. let o : Option Event = cond b (Some (printed_event m)) None in o) seen
-      ∙ ap (λ (x : Event). let o : Option Event = cond (marks p i) (Some x) None in o) same)
-
-  send_serves : (q : Pid) → e.kind ≡ kind.Send → e.from ≡ p → e.to ≡ Some q → lists streams q ≡ true
-      → uncaused earlier (move_by (item.Reported p i) e) ≡ false → clock p earlier < e.serial.this
-      → Continues top streams marks earlier s (move_by (item.Reported p i) e)
-  send_serves q kd from to listed_to free below =
-      let m = move_by (item.Reported p i) e in
-      let kinds = sym kd in
-      let froms = sym from in
-      let tos = sym to in
-      let seen : (flags_of streams marks m).send ≡ marks p i = rw kd refl in
-      let same : sent_event m q ≡ e = λ k. record {
-        label = e.label;
-        kind = kinds k;
-        serial = e.serial;
-        from = froms k;
-        to = tos k;
-        value = e.value;
-      } in
-      sending top streams marks earlier s m q (reported (rw kd refl) free below) listed_to
-      (λ r. rw (kd, to) refl) (λ x. rw (kd, to) refl)
-      (ap (λ b. let o : Option Event = cond b (Some (sent_event m q)) None in o) seen
-      ∙ ap (λ (x : Event). let o : Option Event = cond (marks p i) (Some x) None in o) same)
-
-  receive_serves : e.kind ≡ kind.Receive → IsWaiting streams marks earlier
-      (move_by (item.Reported p i) e)
-      → Continues top streams marks earlier s (move_by (item.Reported p i) e)
-  receive_serves kd waits =
-      taking top streams marks earlier s (move_by (item.Reported p i) e) kept listed (rw kd refl)
-      (λ r. rw kd refl)
-      refl waits
-
 hidden_got : (streams : List Stream) (e : Event) → is_hidden streams e ≡ true → is_stamp e ≡ true
     → ⊥
 hidden_got streams e hidden stamps = false≢true (sym (hidden_receives streams e hidden) ∙ stamps)
 
--- ANY ITEM
+-- BY THE KIND OF THE ITEM
 
 -- what is known of an event at its place
 record IsHere (top : ℕ) (streams : List Stream) (p : Pid) (i : ℕ) (e : Event) : Type 0 where
@@ -139,38 +44,98 @@ record IsHere (top : ℕ) (streams : List Stream) (p : Pid) (i : ℕ) (e : Event
   rises : e.serial.prev < e.serial.this
   within : e.serial.this ≤ top
 
-reported_by : (top : ℕ) (streams : List Stream) (marks : Marks) (earlier : List Move) (p : Pid)
-    (i : ℕ) (e : Event)
-    → IsHere top streams p i e → IsProper streams p e
-    → IsFree earlier (move_by (item.Reported p i) e)
-    → IsClockBelow earlier (move_by (item.Reported p i) e)
-    → Waits streams marks earlier (move_by (item.Reported p i) e)
-    → Serves top streams marks earlier (move_by (item.Reported p i) e)
-reported_by top streams marks earlier p i e h
-    (Sent to kd from is_to there) free below waits s kept =
-    send_serves top streams marks earlier p i e s h.listed h.rises h.within kept to kd from is_to
-    there free.caused
-    (below (ap not (stamp_kind e kind.Send kd)))
-reported_by top streams marks earlier p i e h (Got kd is_to from) free below waits s kept =
-    receive_serves top streams marks earlier p i e s h.listed h.rises h.within kept kd
-    (waits p i e refl (record { at = h.at; kind = kd; to = is_to }))
-reported_by top streams marks earlier p i e h (Printed kd from is_to) free below waits s kept =
-    print_serves top streams marks earlier p i e s h.listed h.rises h.within kept kd from is_to
-    free.caused
-    (below (ap not (stamp_kind e kind.Print kd)))
+module _ (top : ℕ) (streams : List Stream) (marks : Marks) (earlier : List Move) (p : Pid) (i : ℕ)
+    (e : Event) (h : IsHere top streams p i e) where
+  hidden_by : is_hidden streams e ≡ true → IsProper streams p e
+      → IsFree earlier (move_by (item.Hidden p i) e) → clock e.from earlier < e.serial.this
+      → Serves top streams marks earlier (move_by (item.Hidden p i) e)
+  hidden_by hidden (Got kd to from) free below s kept =
+      let m = move_by (item.Hidden p i) e in
+      let can : CanStamp top streams marks earlier s m = record {
+        kept = kept;
+        listed = from;
+        is = refl;
+        stamps = refl;
+        rises = h.rises;
+        within = h.within;
+        below = below;
+        free = free.caused;
+      } in
+      sending top streams marks earlier s m p can h.listed
+      (λ r. ap (option_map (λ q. act.Send m.who q e.value)) to)
+      (λ q. ap (λ (o : Option Pid). option_map_or (λ x. pid_eq q x) o false) to)
+      refl
+  hidden_by hidden (Sent to kd from is_to there) free below s kept =
+      absurd (hidden_got streams e hidden (stamp_kind e kind.Send kd))
+  hidden_by hidden (Printed kd from is_to) free below s kept =
+      absurd (hidden_got streams e hidden (stamp_kind e kind.Print kd))
 
-hidden_by : (top : ℕ) (streams : List Stream) (marks : Marks) (earlier : List Move) (p : Pid)
-    (i : ℕ) (e : Event)
-    → IsHere top streams p i e → is_hidden streams e ≡ true → IsProper streams p e
-    → IsFree earlier (move_by (item.Hidden p i) e) → clock e.from earlier < e.serial.this
-    → Serves top streams marks earlier (move_by (item.Hidden p i) e)
-hidden_by top streams marks earlier p i e h hidden (Sent to kd from is_to there) free below s kept =
-    absurd (hidden_got streams e hidden (stamp_kind e kind.Send kd))
-hidden_by top streams marks earlier p i e h hidden (Got kd is_to from) free below s kept =
-    hidden_serves top streams marks earlier p i e s h.listed h.rises h.within kept is_to from
-    free.caused below
-hidden_by top streams marks earlier p i e h hidden (Printed kd from is_to) free below s kept =
-    absurd (hidden_got streams e hidden (stamp_kind e kind.Print kd))
+  abbrev m : Move
+  m = move_by (item.Reported p i) e
+
+  module _ (free : IsFree earlier m) (below : IsClockBelow earlier m) (s : State)
+      (kept : IsKept streams marks earlier s) where
+    reported : is_taking m ≡ false → CanStamp top streams marks earlier s m
+    reported stamps = record {
+      kept = kept;
+      listed = h.listed;
+      is = refl;
+      stamps = stamps;
+      rises = h.rises;
+      within = h.within;
+      below = below stamps;
+      free = free.caused;
+    }
+
+    print_serves : e.kind ≡ kind.Print → e.from ≡ p → e.to ≡ None
+        → Continues top streams marks earlier s m
+    print_serves kd from to =
+        let kinds = sym kd in
+        let froms = sym from in
+        let tos = sym to in
+        let seen : (flags_of streams marks m).print ≡ marks p i = rw kd refl in
+        let same : printed_event m ≡ e = λ k. record {
+          label = e.label;
+          kind = kinds k;
+          serial = e.serial;
+          from = froms k;
+          to = tos k;
+          value = e.value;
+        } in
+        printing top streams marks earlier s m (reported (rw kd refl)) (λ r. rw kd refl)
+        (λ q. rw kd refl)
+        (ap (λ b. let o : Option Event = cond b (Some (printed_event m)) None in o) seen
+        ∙ ap (λ (x : Event). let o : Option Event = cond (marks p i) (Some x) None in o) same)
+
+    send_serves : (q : Pid) → e.kind ≡ kind.Send → e.from ≡ p → e.to ≡ Some q
+        → lists streams q ≡ true → Continues top streams marks earlier s m
+    send_serves q kd from to listed_to =
+        let kinds = sym kd in
+        let froms = sym from in
+        let tos = sym to in
+        let seen : (flags_of streams marks m).send ≡ marks p i = rw kd refl in
+        let same : sent_event m q ≡ e = λ k. record {
+          label = e.label;
+          kind = kinds k;
+          serial = e.serial;
+          from = froms k;
+          to = tos k;
+          value = e.value;
+        } in
+        sending top streams marks earlier s m q (reported (rw kd refl)) listed_to
+        (λ r. rw (kd, to) refl) (λ x. rw (kd, to) refl)
+        (ap (λ b. let o : Option Event = cond b (Some (sent_event m q)) None in o) seen
+        ∙ ap (λ (x : Event). let o : Option Event = cond (marks p i) (Some x) None in o) same)
+
+  reported_by : IsProper streams p e → IsFree earlier m → IsClockBelow earlier m
+      → Waits streams marks earlier m → Serves top streams marks earlier m
+  reported_by (Sent to kd from is_to there) free below waits s kept =
+      send_serves free below s kept to kd from is_to there
+  reported_by (Got kd is_to from) free below waits s kept =
+      taking top streams marks earlier s m kept h.listed (rw kd refl) (λ r. rw kd refl) refl
+      (waits p i e refl (record { at = h.at; kind = kd; to = is_to }))
+  reported_by (Printed kd from is_to) free below waits s kept =
+      print_serves free below s kept kd from is_to
 
 -- the counts of all events are ones that a clock can have
 abbrev pub AreWithin : ℕ → List Stream → Type 0
@@ -193,8 +158,8 @@ module _ (top : ℕ) (streams : List Stream) (marks : Marks) (ok : IsPaired stre
       → IsClockBelow earlier (move_by x e) → Waits streams marks earlier (move_by x e)
       → Serves top streams marks earlier (move_by x e)
   serves_by earlier (item.Reported p i) e at free below waits =
-      reported_by top streams marks earlier p i e (here p i e at)
-      (proper.own p i e at) free below waits
+      reported_by top streams marks earlier p i e (here p i e at) (proper.own p i e at) free below
+      waits
   serves_by earlier (item.Hidden p i) e at free below waits =
       hidden_by top streams marks earlier p i e (here p i e at.0) at.1 (proper.own p i e at.0) free
       (below refl)

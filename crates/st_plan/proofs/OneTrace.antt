@@ -22,13 +22,13 @@ use Rattle.st_core.specs.Run.{Stream, pids_of, run_from}
 use Rattle.st_core.proofs.ForCallers.{mapped}
 use Rattle.st_mail.specs.Mail.{bears_stamp}
 use Rattle.st_order.specs.declared.item.Item.TheVariants as item
+use Rattle.st_order.proofs.ForCallers.{all_append}
 use Rattle.st_plan.specs.declared.plan.Start.{Start}
 use Rattle.st_plan.specs.Marks.{Marks}
 use Rattle.st_plan.specs.Moves.{Move, is_taking}
 use Rattle.st_plan.specs.Build.{act_of, acts_of, build, construction, dress, flags_of, is_dressed}
 use Rattle.st_plan.specs.Build.{opening, quiet, raise, ready, renew, renewed_start, silent_prints}
 use Rattle.st_plan.specs.Build.{start_of, state_after, tracers_after, unstamped_token}
-use Rattle.st_plan.proofs.EarlierMoves.{all_append}
 
 abbrev IsNoReset : Act → Type 0
 IsNoReset a = is_reset a ≡ false

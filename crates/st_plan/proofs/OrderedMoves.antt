@@ -2,7 +2,7 @@
 -- lower key, so that it came: each receive finds its message, and each stamp its process's clock
 -- below its count.
 use Rattle.std.proofs.Common.{◌≡◌, ℕ, zero, suc, ◌<◌, ◌⊎◌, true, false, not, List, [], ◌∷◌, Some}
-use Rattle.std.proofs.Common.{option_map, inl, inr, refl, sym, ◌∙◌, ap, subst, arith}
+use Rattle.std.proofs.Common.{inl, inr, refl, sym, ◌∙◌, ap, subst, arith}
 use Rattle.std.specs.List.{slice_get, AllByRecursion}
 use Rattle.std.proofs.lemmas.Bool.{false≢true}
 use Rattle.std.proofs.lemmas.Option.{same_Some, none-some}
@@ -11,20 +11,20 @@ use Rattle.st_core.specs.declared.types.Event.{Event}
 use Rattle.st_core.specs.Run.{Stream}
 use Rattle.st_core.proofs.ForCallers.{all_at}
 use Rattle.st_pair.specs.Places.{event_at, is_stamp}
-use Rattle.st_pair.proofs.ForCallers.{IsPaired, receive_unstamped}
+use Rattle.st_pair.proofs.ForCallers.{IsPaired, receive_unstamped, serial_rises}
 use Rattle.st_order.specs.declared.item.Item.{Item}
 use Rattle.st_order.specs.declared.item.Item.TheVariants as item
 use Rattle.st_order.specs.Items.{event_of}
-use Rattle.st_order.specs.Order.{key_by, key, comes_before, KeysRise}
-use Rattle.st_order.proofs.ForCallers.{comes_before_is}
+use Rattle.st_order.specs.Order.{key_by, comes_before, KeysRise}
 use Rattle.st_plan.specs.Marks.{Marks}
 use Rattle.st_plan.specs.Moves.{Move, move_by, moves, is_taking, clock}
-use Rattle.st_plan.proofs.EarlierMoves.{event_is, key_below, one_move, there_event, IsAt}
+use Rattle.st_plan.proofs.EarlierMoves.{before_below, clock_below, event_is, one_move, there_event, IsAt}
 use Rattle.st_plan.proofs.EarlierMoves.{IsKeyBelow, IsThere}
 use Rattle.st_plan.proofs.FreeMoves.{AllAlong, IsInTurn}
 use Rattle.st_plan.proofs.Receives.{IsWaiting}
 use Rattle.st_plan.proofs.RisingStamps.{IsTop}
-use Rattle.st_plan.proofs.Clocks.{clocks_below, have_by, top_of, HasCome, IsKnown, IsNext}
+use Rattle.st_plan.proofs.Clocks.{all_below, at_event, have_by, stamps_of, top_of, HasCome, IsKnown}
+use Rattle.st_plan.proofs.Clocks.{IsNext}
 use Rattle.st_plan.proofs.Sources.{receive_waits, source_item, AreTops, HasSource, IsReceive}
 
 -- MOVES OF ITEMS
@@ -41,17 +41,6 @@ moved_at : (streams : List Stream) (x : Item) (e : Event) → IsAt streams x e
     → IsAt streams (move_by x e).item (move_by x e).event
 moved_at streams (item.Reported p i) e h = h
 moved_at streams (item.Hidden p i) e h = h
-
-before_below : (streams : List Stream) (y x : Item) (d e : Event) → event_of streams y ≡ Some d
-    → event_of streams x ≡ Some e → comes_before streams y x ≡ true
-    → IsKeyBelow (key_by streams y d) (key_by streams x e)
-before_below streams y x d e at_y at_x h =
-    let y_key : key streams y ≡ Some (key_by streams y d) =
-    ap (option_map (key_by streams y)) at_y in
-    let x_key : key streams x ≡ Some (key_by streams x e) =
-    ap (option_map (key_by streams x)) at_x in
-    key_below (key_by streams y d) (key_by streams x e)
-    (sym (comes_before_is streams y x (key_by streams y d) (key_by streams x e) y_key x_key) ∙ h)
 
 -- an earlier move that comes before all of these items
 pub record Leads (streams : List Stream) (xs : List Item) (y : Move) : Type 0 where
@@ -118,6 +107,9 @@ next_along streams earlier (x ∷ xs) there leads rise turns =
       next_along streams (m ∷ earlier) xs there.1 leading rise.1 turned.1,
     )
 
+abbrev pub IsClockBelow : List Move → Move → Type 0
+IsClockBelow before m = is_taking m ≡ false → clock m.who before < m.event.serial.this
+
 -- what is known at each move
 abbrev pub Knows : List Stream → List Move → Move → Type 0
 Knows streams before m = IsKnown streams before × HasCome streams m
@@ -138,6 +130,21 @@ known_along streams earlier (m ∷ ms) ok all known =
       have = λ q k less. have_by m earlier m.item refl next.turn known.have q k less;
     } in
     ((known, come), known_along streams (m ∷ earlier) ms ok all.1 more)
+
+-- at each stamp its process's clock is below its count
+clocks_below : (streams : List Stream) (earlier ms : List Move) → IsPaired streams
+    → AllAlong (IsNext streams) earlier ms → AllAlong (Knows streams) earlier ms
+    → AllAlong IsClockBelow earlier ms
+clocks_below streams earlier [] ok all known = tt
+clocks_below streams earlier (m ∷ ms) ok all known =
+    let next = all.0 in
+    let place = at_event streams m.item m.event next.at in
+    let rises = serial_rises streams ok place.0 place.1 m.event place.2 in (
+      λ stamps. clock_below m.who m.event.serial.this earlier (omega arith)
+          (all_below streams m earlier next.at next.is (stamps_of m.item m.event stamps)
+          known.0.1.top known.0.0.each next.below),
+      clocks_below streams (m ∷ earlier) ms ok all.1 known.1,
+    )
 
 -- SOURCES COME FIRST
 
@@ -244,9 +251,6 @@ waits_along streams marks ok tops earlier (x ∷ xs) there leads rise covers kno
 abbrev pub IsWhole : List Stream → List Item → Type 0
 IsWhole streams xs = (z : Item) (d : Event) → IsAt streams z d → (n : ℕ) × (slice_get xs n ≡ Some z)
 
-abbrev pub IsClockBelow : List Move → Move → Type 0
-IsClockBelow before m = is_taking m ≡ false → clock m.who before < m.event.serial.this
-
 -- what an order of all items in turn gives: at each stamp its process's clock is below its count,
 -- and each receive finds its message
 pub record IsOrderly (streams : List Stream) (marks : Marks) (xs : List Item) : Type 0 where
@@ -293,7 +297,7 @@ orderly streams marks ok xs there whole rise turns =
     let place = whole x d at in
     tops_from streams [] xs there known place.0 x d place.1 at in
     record {
-      clocks = clocks_below streams [] (moves streams xs) ok next none;
+      clocks = clocks_below streams [] (moves streams xs) ok next known;
       waits = waits_along streams marks ok tops [] xs there tt rise
           (λ z d at. inr (whole z d at)) known;
     }

@@ -88,12 +88,7 @@ alone_actor p (act.Print q v) h = (sym h, sym h)
 alone_actor p (act.Set q c) h = (sym h, sym h)
 alone_actor p (act.Clear q) h = (sym h, sym h)
 alone_actor p (act.Restore q t) h = (sym h, sym h)
-alone_actor p (act.Send q x v) h = absurd h
-alone_actor p (act.Receive q w) h = absurd h
-alone_actor p (act.PrintAt q n v) h = absurd h
-alone_actor p (act.Look q) h = absurd h
-alone_actor p (act.Reset q) h = absurd h
-alone_actor p (act.Tracer q b) h = absurd h
+alone_actor p a h = absurd h
 
 alone_touches : (p : Pid) (a : Act) (x : Pid) → is_alone p a → pid_eq x p ≡ false
     → touches a x ≡ false
@@ -101,12 +96,7 @@ alone_touches p (act.Print q v) x h apart = ap (pid_eq x) (sym h) ∙ apart
 alone_touches p (act.Set q c) x h apart = ap (pid_eq x) (sym h) ∙ apart
 alone_touches p (act.Clear q) x h apart = ap (pid_eq x) (sym h) ∙ apart
 alone_touches p (act.Restore q t) x h apart = ap (pid_eq x) (sym h) ∙ apart
-alone_touches p (act.Send q y v) x h apart = absurd h
-alone_touches p (act.Receive q w) x h apart = absurd h
-alone_touches p (act.PrintAt q n v) x h apart = absurd h
-alone_touches p (act.Look q) x h apart = absurd h
-alone_touches p (act.Reset q) x h apart = absurd h
-alone_touches p (act.Tracer q b) x h apart = absurd h
+alone_touches p a x h apart = absurd h
 
 alone_reached : (p : Pid) (a : Act) (done : Acted) (r : Process) → is_alone p a
     → reached a done.local.token r ≡ r
@@ -114,12 +104,7 @@ alone_reached p (act.Print q v) done r h = refl
 alone_reached p (act.Set q c) done r h = refl
 alone_reached p (act.Clear q) done r h = refl
 alone_reached p (act.Restore q t) done r h = refl
-alone_reached p (act.Send q x v) done r h = absurd h
-alone_reached p (act.Receive q w) done r h = absurd h
-alone_reached p (act.PrintAt q n v) done r h = absurd h
-alone_reached p (act.Look q) done r h = absurd h
-alone_reached p (act.Reset q) done r h = absurd h
-alone_reached p (act.Tracer q b) done r h = absurd h
+alone_reached p a done r h = absurd h
 
 pub changed_own : (a : Act) (done : Acted) (r : Process) → r.pid ≡ actor a
     → changed a done r ≡ reached a done.local.token

@@ -24,7 +24,8 @@ use Rattle.st_plan.specs.Reasons.{most_skipped, most_skipped_in_all, too_wide, u
 use Rattle.st_plan.specs.Plain.{IsPlain, out_of_turn, event_count}
 use Rattle.st_plan.specs.Full.{IsFull}
 use Rattle.st_plan.proofs.FullRuns.{run_full}
-use Rattle.st_plan.proofs.Turns.{After, at_each, event_move, move_back, next_event}
+use Rattle.st_plan.proofs.FreeMoves.{reverse_more}
+use Rattle.st_plan.proofs.Turns.{After, at_each, event_move, next_event}
 
 -- HEIGHTS
 
@@ -113,7 +114,7 @@ module _ (top : ℕ) (streams : List Stream) (rising : IsRising (pids_of streams
       → skips earlier ≡ 0
   no_skips [] later split = refl
   no_skips (m ∷ earlier) later split =
-      let before = split ∙ move_back m earlier later in
+      let before = split ∙ reverse_more m earlier later in
       let here = (along earlier m later before).skipped in
       let rest = no_skips earlier (m ∷ later) before in
       omega arith

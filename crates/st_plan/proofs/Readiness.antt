@@ -20,6 +20,7 @@ use Rattle.st_core.specs.State.{LocalState}
 use Rattle.st_core.specs.Stamp.{stamped_token}
 use Rattle.st_core.specs.Local.{default_token}
 use Rattle.st_core.specs.Step.{acted}
+use Rattle.st_core.proofs.ForCallers.{and_false}
 use Rattle.st_plan.specs.declared.plan.Start.{Start}
 use Rattle.st_plan.specs.Build.{bool_eq, dress, flags_eq, is_dressed, quiet, raise, ready, renew}
 use Rattle.st_plan.specs.Build.{renewed_start, silent_prints, start_of, unstamped_token}
@@ -68,20 +69,19 @@ pub record Reaches (top : ℕ) (p : Pid) (l : LocalState) (acts : List Act) (clo
   pub lasted : end.last ≡ last
   pub traced : end.traced ≡ l.traced
 
--- one part after another
-both_reach : (top : ℕ) (p : Pid) (l : LocalState) (xs ys : List Act) (c z : ℕ) (n : Label)
-    (f : Flags)
-    (d y : ℕ) (g : Flags) (one : Reaches top p l xs c z n f)
-    → Reaches top p one.end ys d y n g → Reaches top p l (xs ++ ys) d y n g
-both_reach top p l xs ys c z n f d y g one two = record {
+-- one part after another, which leads to counts that are these
+both_reach : {top : ℕ} {p : Pid} {l : LocalState} {xs ys : List Act} {c z : ℕ} {n : Label}
+    {f g : Flags} {d y d2 y2 : ℕ} (one : Reaches top p l xs c z n f)
+    → Reaches top p one.end ys d y n g → d ≡ d2 → y ≡ y2 → Reaches top p l (xs ++ ys) d2 y2 n g
+both_reach {top} {p} {l} {xs} {ys} one two clock last = record {
   end = two.end;
   token = two.token;
   runs = quiet_append top p xs ys l one.end two.end one.runs two.runs;
   is = two.is;
   label = two.label;
   flags = two.flags;
-  clocked = two.clocked;
-  lasted = two.lasted;
+  clocked = two.clocked ∙ clock;
+  lasted = two.lasted ∙ last;
   traced = two.traced ∙ one.traced;
 }
 
@@ -154,10 +154,6 @@ dressed top p l token n f same =
 
 -- SILENT PRINTS
 
-and_false : (b : Bool) → (b && false) ≡ false
-and_false true = refl
-and_false false = refl
-
 printed : (top : ℕ) (p : Pid) (l : LocalState) (t : Token) → l.token ≡ Some t
     → t.flags.print ≡ false → l.clock < top
     → IsQuiet top p l (act.Print p 0) (record l {
@@ -166,8 +162,7 @@ printed : (top : ℕ) (p : Pid) (l : LocalState) (t : Token) → l.token ≡ Som
     })
 printed top p l t is flag below =
     let now : nat_lt l.clock top ≡ true = grind (arith, nat_tests) in
-    let unseen : (l.traced && t.flags.print) ≡ false =
-    ap (λ b. l.traced && b) flag ∙ and_false l.traced in
+    let unseen : (l.traced && t.flags.print) ≡ false = and_false l.traced t.flags.print flag in
     record { reply = reply.Done; alone = refl; acts = λ queue. rw (is, now, unseen) refl }
 
 silent_reaches : (top : ℕ) (p : Pid) (k : ℕ) (l : LocalState) (t : Token) (n : Label)
@@ -230,39 +225,13 @@ raised top p l x n count f same now least within =
           let there = two.clocked in
           let three = dressed top p two.end (Some (unstamped_token p n quiet)) n f
           (alike two.token n quiet p two.end two.is two.label two.flags n f) in
-          let last_parts = both_reach top p one.end (silent_prints p (count - x.clock))
-          (dress p (Some (unstamped_token p n quiet)) n f)
-          (one.end.clock + (count - x.clock)) one.end.last n quiet
-          two.end.clock two.end.last f two three in
-          let all = both_reach top p l (dress p x.token n quiet)
-          (silent_prints p (count - x.clock) ++ dress p (Some (unstamped_token p n quiet)) n f)
-          l.clock l.last n quiet two.end.clock two.end.last f one last_parts in
-          record {
-            end = all.end;
-            token = all.token;
-            runs = all.runs;
-            is = all.is;
-            label = all.label;
-            flags = all.flags;
-            clocked = let c = all.clocked in omega arith;
-            lasted = all.lasted ∙ two.lasted ∙ one.lasted;
-            traced = all.traced;
-          }
+          let clock : two.end.clock ≡ count = omega arith in
+          both_reach one (both_reach two three clock (two.lasted ∙ one.lasted)) refl refl
       | false ↦ λ e.
           let least_too = ltb-false x.clock count e in
-          let one = dressed top p l x.token n f (same n f) in
-          let here = one.clocked in
-          record {
-            end = one.end;
-            token = one.token;
-            runs = one.runs;
-            is = one.is;
-            label = one.label;
-            flags = one.flags;
-            clocked = omega arith;
-            lasted = one.lasted;
-            traced = one.traced;
-          }
+          let clock : l.clock ≡ count = omega arith in
+          subst (λ c. Reaches top p l (dress p x.token n f) c l.last n f) clock
+          (dressed top p l x.token n f (same n f))
     ] refl
 
 -- the clock brought up to a count, if the token may be any
@@ -338,20 +307,10 @@ is_ready top p l n s f rises within below caused =
     (cond b (raise p (start_of l) n (s.this - 1) f)
     (renew p (start_of l) n s.prev ++ raise p again n (s.this - 1) f)) (s.this - 1) s.prev n f) [
       | true ↦ λ e.
-          let same = eqb-true s.prev l.last e in
-          let all = raised top p l (start_of l) n (s.this - 1) f (λ m g. refl) refl (omega arith)
-          (omega arith) in
-          record {
-            end = all.end;
-            token = all.token;
-            runs = all.runs;
-            is = all.is;
-            label = all.label;
-            flags = all.flags;
-            clocked = all.clocked;
-            lasted = all.lasted ∙ sym same;
-            traced = all.traced;
-          }
+          subst (λ k. Reaches top p l (raise p (start_of l) n (s.this - 1) f) (s.this - 1) k n f)
+          (sym (eqb-true s.prev l.last e))
+          (raised top p l (start_of l) n (s.this - 1) f (λ m g. refl) refl (omega arith)
+          (omega arith))
       | false ↦ λ e.
           let least : l.clock ≤ s.prev = elim caused [
             | inl same ↦ absurd (false≢true (sym e ∙ eq-eqb s.prev l.last same))
@@ -362,18 +321,5 @@ is_ready top p l n s f rises within below caused =
           let two = raised top p one.end again n (s.this - 1) f
           (λ m g. alike one.token n quiet p one.end one.is one.label one.flags m g)
           (omega arith) (omega arith) (omega arith) in
-          let all = both_reach top p l (renew p (start_of l) n s.prev)
-          (raise p again n (s.this - 1) f)
-          s.prev s.prev n quiet (s.this - 1) one.end.last f one two in
-          record {
-            end = all.end;
-            token = all.token;
-            runs = all.runs;
-            is = all.is;
-            label = all.label;
-            flags = all.flags;
-            clocked = all.clocked;
-            lasted = all.lasted ∙ one.lasted;
-            traced = all.traced;
-          }
+          both_reach one two refl one.lasted
     ] refl

@@ -21,14 +21,13 @@ use Rattle.st_core.specs.Report.{report, token_event}
 use Rattle.st_core.specs.Step.{acted, receives, changed, outcome_of, step}
 use Rattle.st_core.specs.Run.{Stream}
 use Rattle.st_core.specs.Streams.{lists}
-use Rattle.st_core.proofs.ForCallers.{pid_eq-refl, process_pid, step_done, run_from-one}
+use Rattle.st_core.proofs.ForCallers.{pid_eq-refl, pid_eq-swap, process_pid, step_done, run_from-one}
 use Rattle.st_mail.specs.Mail.{bears_stamp}
 use Rattle.st_plan.specs.Marks.{Marks}
 use Rattle.st_plan.specs.Moves.{Move, is_taking, clock, last, move_by}
 use Rattle.st_plan.specs.Build.{act_of}
 use Rattle.st_plan.proofs.OwnActs.{changed_own}
 use Rattle.st_plan.proofs.KeptState.{queue_of, IsSo, IsKept, is_told, told_event, Continues, found}
-use Rattle.st_plan.proofs.KeptState.{apart_from}
 use Rattle.st_plan.proofs.KeptState.{step_keeps, other_clock, other_last, taken_queue, told_last}
 
 pick_place : (n k : ℕ) (queue : List Message) (x : Message) → slice_get queue k ≡ Some x
@@ -146,7 +145,7 @@ so_beside streams marks earlier m x z takes apart so = record {
   lasted = so.lasted ∙ sym (other_last m earlier x apart);
   traced = so.traced;
   queued = so.queued ∙ sym (taken_queue streams marks m earlier x false takes
-      (apart_from x m.who apart));
+      (pid_eq-swap m.who x ∙ apart));
 }
 
 pub taking : (top : ℕ) (streams : List Stream) (marks : Marks) (earlier : List Move) (s : State)

@@ -40,24 +40,20 @@ use Rattle.st_plan.proofs.MatchedSends.{matched_send, same_place, untaken}
 
 abbrev sent_by : Pid → Option Pid → Kind → Bool
 sent_by q to kind.Send = option_map_or (λ x. pid_eq q x) to false
-sent_by q to kind.Receive = false
-sent_by q to kind.Print = false
+sent_by q to k = false
 
 abbrev sending_kind : Kind → Bool
 sending_kind kind.Send = true
-sending_kind kind.Receive = false
-sending_kind kind.Print = false
+sending_kind k = false
 
 sent_from : (q : Pid) (to : Option Pid) (k : Kind) → sending_kind k ≡ true
     → sent_by q to k ≡ option_map_or (λ x. pid_eq q x) to false
 sent_from q to kind.Send h = refl
-sent_from q to kind.Receive h = absurd (false≢true h)
-sent_from q to kind.Print h = absurd (false≢true h)
+sent_from q to k h = absurd (false≢true h)
 
 is_sending : (q : Pid) (to : Option Pid) (k : Kind) → sent_by q to k ≡ true → k ≡ kind.Send
 is_sending q to kind.Send h = refl
-is_sending q to kind.Receive h = absurd (false≢true h)
-is_sending q to kind.Print h = absurd (false≢true h)
+is_sending q to k h = absurd (false≢true h)
 
 -- A RECEIVE AND ITS SOURCE
 
@@ -68,9 +64,8 @@ pub record IsReceive (streams : List Stream) (p : Pid) (i : ℕ) (e : Event) : T
   pub to : e.to ≡ Some p
 
 abbrev pub stamp_by : Kind → Bool
-stamp_by kind.Send = true
 stamp_by kind.Receive = false
-stamp_by kind.Print = true
+stamp_by k = true
 
 pub stamp_kind : (e : Event) (k : Kind) → e.kind ≡ k → is_stamp e ≡ stamp_by k
 stamp_kind e k h = ap stamp_by h

@@ -13,7 +13,7 @@ use Rattle.st_core.specs.declared.types.Event.{Event}
 use Rattle.st_core.specs.declared.types.Reply.TheVariants as reply
 use Rattle.st_core.specs.Step.{actor, answers, receiver, Acted, acted, reached, changed, outcome_of}
 use Rattle.st_core.specs.Step.{step}
-use Rattle.st_core.specs.Run.{stream, Stream}
+use Rattle.st_core.specs.Run.{Stream}
 use Rattle.st_core.specs.declared.types.Act.{Act}
 use Rattle.st_core.specs.declared.types.Act.TheVariants as act
 use Rattle.st_core.specs.Pid.{pid_eq}
@@ -23,8 +23,7 @@ use Rattle.st_core.specs.Report.{report}
 use Rattle.st_core.specs.Streams.{lists}
 use Rattle.st_core.proofs.ForCallers.{process_pid, step_done, run_from-one}
 use Rattle.st_plan.specs.Marks.{Marks}
-use Rattle.st_plan.specs.Plain.{told_of_move}
-use Rattle.st_plan.specs.Moves.{Move, is_taking, clock, move_by}
+use Rattle.st_plan.specs.Moves.{Move, is_taking, clock, last, move_by}
 use Rattle.st_plan.specs.Reasons.{uncaused}
 use Rattle.st_plan.specs.Build.{ready, flags_of, act_of, state_after, start_of}
 use Rattle.st_plan.proofs.KeptState.{step_keeps, token_of, message_of, sends_to, queue_of, IsSo}
@@ -148,131 +147,105 @@ record IsStampOf (streams : List Stream) (marks : Marks) (m : Move) (a : Act) : 
       ≡ with_message streams marks m z
   reports : report true kind (Some (token_of streams marks m)) to m.event.value ≡ told_event marks m
 
--- the record of another process, with the move's message if it is for it
-so_other : (streams : List Stream) (marks : Marks) (earlier : List Move) (m : Move) (x : Pid)
-    (z : Process) → z.pid ≡ x
-    → pid_eq x m.who ≡ false → is_taking m ≡ false → IsSo streams marks earlier x z
+-- the record of a process with the move's message if it is for it, whose counts are what the moves
+-- say
+with_stamp : (streams : List Stream) (marks : Marks) (earlier : List Move) (m : Move) (x : Pid)
+    (z : Process) → z.pid ≡ x → is_taking m ≡ false
+    → z.local.clock ≡ clock x (m ∷ earlier) → z.local.last ≡ last x (m ∷ earlier)
+    → z.local.traced ≡ true → z.queue ≡ queue_of streams marks x earlier
     → IsSo streams marks (m ∷ earlier) x (with_message streams marks m z)
-so_other streams marks earlier m x z pid apart stamps so =
+with_stamp streams marks earlier m x z pid stamps clocked lasted traced queued =
     let push : Bool → List Message → List Message =
     λ b q. cond b (q ++ message_of streams marks m ∷ []) q in
     record {
-      clocked = so.clocked ∙ sym (other_clock m earlier x apart);
-      lasted = so.lasted ∙ sym (other_last m earlier x apart);
-      traced = so.traced;
+      clocked = clocked;
+      lasted = lasted;
+      traced = traced;
       queued = ap (λ p. push (sends_to p m) z.queue) pid
-          ∙ ap (push (sends_to x m)) so.queued
+          ∙ ap (push (sends_to x m)) queued
           ∙ sym (stamp_queue streams marks m earlier x (sends_to x m) stamps refl);
     }
 
--- the stamping process's own
-so_own : (top : ℕ) (streams : List Stream) (marks : Marks) (earlier : List Move) (s : State)
-    (m : Move)
-    (y : StandsReady top streams marks earlier s m) → y.before.pid ≡ m.who → is_taking m ≡ false
-    → clock m.who earlier < m.event.serial.this
-    → IsSo streams marks (m ∷ earlier) m.who
-    (with_message streams marks m (record y.before { local = final y.before.pid y.end y.token }))
-so_own top streams marks earlier s m y pid stamps below =
-    let push : Bool → List Message → List Message =
-    λ b q. cond b (q ++ message_of streams marks m ∷ []) q in
-    record {
-      clocked = y.clocked ∙ sym (own_clock m earlier below);
-      lasted = y.lasted ∙ sym (own_last m earlier stamps);
-      traced = y.traced;
-      queued = ap (λ p. push (sends_to p m) y.before.queue) pid
-          ∙ ap (push (sends_to m.who m)) y.queued
-          ∙ sym (stamp_queue streams marks m earlier m.who (sends_to m.who m) stamps refl);
-    }
+-- A process that is ready, y, stamps the token of the move: so it reports the move's event, if that
+-- is told, another process gets the move's message, and all are then as the moves say.
+module _ (top : ℕ) (streams : List Stream) (marks : Marks) (earlier : List Move) (s : State)
+    (m : Move) (a : Act) (can : CanStamp top streams marks earlier s m)
+    (st : IsStampOf streams marks m a) where
+  abbrev y : StandsReady top streams marks earlier s m
+  y = stands_ready top streams marks earlier s m can
 
--- the token that the ready process stamps is the move's
-stamped_as : (top : ℕ) (streams : List Stream) (marks : Marks) (earlier : List Move) (s : State)
-    (m : Move) (y : StandsReady top streams marks earlier s m) → y.before.pid ≡ m.who
-    → stamped_token y.before.pid y.end y.token ≡ token_of streams marks m
-stamped_as top streams marks earlier s m y who =
-    ap (λ p. stamped_token p y.end y.token) who ∙ y.stamped
+  who : y.before.pid ≡ m.who
+  who = process_pid s m.who y.before y.is_before
 
--- so it reports the move's event, if that is told
-reports_as : (top : ℕ) (streams : List Stream) (marks : Marks) (earlier : List Move) (s : State)
-    (m : Move) (a : Act) (y : StandsReady top streams marks earlier s m) → y.before.pid ≡ m.who
-    → (st : IsStampOf streams marks m a)
-    → report y.end.traced st.kind (Some (stamped_token y.before.pid y.end y.token)) st.to
-    m.event.value
-    ≡ told_event marks m
-reports_as top streams marks earlier s m a y who st =
-    let stamp = stamped_token y.before.pid y.end y.token in
-    ap (λ b. report b st.kind (Some stamp) st.to m.event.value) y.traced
-    ∙ ap (λ t. report true st.kind (Some t) st.to m.event.value)
-    (stamped_as top streams marks earlier s m y who)
-    ∙ st.reports
+  abbrev stamp : Token
+  stamp = stamped_token y.before.pid y.end y.token
 
--- and another process gets the move's message
-reaches_as : (top : ℕ) (streams : List Stream) (marks : Marks) (earlier : List Move) (s : State)
-    (m : Move) (a : Act) (y : StandsReady top streams marks earlier s m) → y.before.pid ≡ m.who
-    → IsStampOf streams marks m a → (z : Process)
-    → reached a (Some (stamped_token y.before.pid y.end y.token)) z
-    ≡ with_message streams marks m z
-reaches_as top streams marks earlier s m a y who st z =
-    ap (λ t. reached a (Some t) z) (stamped_as top streams marks earlier s m y who) ∙ st.reaches z
+  stamp_is : stamp ≡ token_of streams marks m
+  stamp_is = ap (λ p. stamped_token p y.end y.token) who ∙ y.stamped
 
--- the other processes are as the moves then say
-others_after : (top : ℕ) (streams : List Stream) (marks : Marks) (earlier : List Move) (s : State)
-    (m : Move) (a : Act) (y : StandsReady top streams marks earlier s m) → y.before.pid ≡ m.who
-    → CanStamp top streams marks earlier s m → IsStampOf streams marks m a
-    → (x : Pid) (z : Process) → pid_eq x m.who ≡ false
-    → process (state_after s y.lift.os) x ≡ Some z
-    → IsSo streams marks (m ∷ earlier) x
-    (reached a (Some (stamped_token y.before.pid y.end y.token)) z)
-others_after top streams marks earlier s m a y who can st x z apart is =
-    let before : process s x ≡ Some z = sym (y.lift.others x apart) ∙ is in
-    subst (IsSo streams marks (m ∷ earlier) x)
-    (sym (reaches_as top streams marks earlier s m a y who st z))
-    (so_other streams marks earlier m x z (process_pid s x z before) apart can.stamps
-    (can.kept.each x z before))
+  reports_as : report y.end.traced st.kind (Some stamp) st.to m.event.value ≡ told_event marks m
+  reports_as =
+      ap (λ b. report b st.kind (Some stamp) st.to m.event.value) y.traced
+      ∙ ap (λ t. report true st.kind (Some t) st.to m.event.value) stamp_is
+      ∙ st.reports
 
-stamping : (top : ℕ) (streams : List Stream) (marks : Marks) (earlier : List Move) (s : State)
-    (m : Move) (a : Act)
-    → CanStamp top streams marks earlier s m → IsStampOf streams marks m a
-    → Continues top streams marks earlier s m
-stamping top streams marks earlier s m a can st =
-    let within = can.within in
-    let y = stands_ready top streams marks earlier s m can in
-    let clocked = y.clocked in
-    let first_acts = ready m.who (start_of y.before.local) m.event.label m.event.serial
-    (flags_of streams marks m) in
-    let s1 = state_after s y.lift.os in
-    let r : Process = record y.before { local = y.end } in
-    let who : r.pid ≡ m.who = process_pid s m.who y.before y.is_before in
-    let done = stamps_as st.kind st.to m.event.value r (final r.pid y.end y.token) in
-    let acted_is : acted top r a ≡ Some done = st.acts top r y.token y.is (omega arith) in
-    let other = found (process s1 (receiver a)) (y.there (receiver a) st.listed) in
-    let o = outcome_of s1 a done in
-    let here : process s1 (actor a) ≡ Some r = ap (process s1) st.by ∙ y.lift.here in
-    let stepped : step top s1 a ≡ Some o =
-    step_done top s1 a r other.0 done here other.1 acted_is in
-    let report_is : o.report ≡ told_event marks m =
-    reports_as top streams marks earlier s m a y who st in
-    let own : IsSo streams marks (m ∷ earlier) m.who (changed a done r) =
-    subst (IsSo streams marks (m ∷ earlier) m.who)
-    (sym (changed_own a done r (who ∙ sym st.by)
-    ∙ reaches_as top streams marks earlier s m a y who st (record r { local = done.local })))
-    (so_own top streams marks earlier s m y who can.stamps can.below) in (
-      record {
-        before = y.before;
-        is_before = y.is_before;
-        acts = first_acts ++ a ∷ [];
-        are = rw (st.is y.before, can.stamps) refl;
-        outcomes = y.lift.os ++ o ∷ [];
-        runs = run_append top s first_acts (a ∷ []) y.lift.os (o ∷ []) y.lift.runs
-            (run_from-one top s1 a o stepped);
-        tells = λ p.
-            stream_last first_acts a y.lift.os o p top s y.lift.runs y.lift.silent
-            ∙ ap (λ q. (if pid_eq q p then option_to_list o.report else []) ++ []) st.by
-            ∙ told_last marks m o.report p can.is report_is;
-      },
-      subst (IsKept streams marks (m ∷ earlier)) (sym (state_append s y.lift.os (o ∷ [])))
-          (step_keeps streams marks earlier m s1 a done r y.there y.lift.here st.by own
-          (others_after top streams marks earlier s m a y who can st)),
-    )
+  reaches_as : (z : Process) → reached a (Some stamp) z ≡ with_message streams marks m z
+  reaches_as z = ap (λ t. reached a (Some t) z) stamp_is ∙ st.reaches z
+
+  own_after : IsSo streams marks (m ∷ earlier) m.who
+      (with_message streams marks m (record y.before { local = final y.before.pid y.end y.token }))
+  own_after = with_stamp streams marks earlier m m.who
+      (record y.before { local = final y.before.pid y.end y.token }) who can.stamps
+      (y.clocked ∙ sym (own_clock m earlier can.below))
+      (y.lasted ∙ sym (own_last m earlier can.stamps)) y.traced y.queued
+
+  others_after : (x : Pid) (z : Process) → pid_eq x m.who ≡ false
+      → process (state_after s y.lift.os) x ≡ Some z
+      → IsSo streams marks (m ∷ earlier) x (reached a (Some stamp) z)
+  others_after x z apart is =
+      let before : process s x ≡ Some z = sym (y.lift.others x apart) ∙ is in
+      let so = can.kept.each x z before in
+      subst (IsSo streams marks (m ∷ earlier) x) (sym (reaches_as z))
+      (with_stamp streams marks earlier m x z (process_pid s x z before) can.stamps
+      (so.clocked ∙ sym (other_clock m earlier x apart))
+      (so.lasted ∙ sym (other_last m earlier x apart)) so.traced so.queued)
+
+  stamping : Continues top streams marks earlier s m
+  stamping =
+      let within = can.within in
+      let clocked = y.clocked in
+      let first_acts = ready m.who (start_of y.before.local) m.event.label m.event.serial
+      (flags_of streams marks m) in
+      let s1 = state_after s y.lift.os in
+      let r : Process = record y.before { local = y.end } in
+      let done = stamps_as st.kind st.to m.event.value r (final r.pid y.end y.token) in
+      let acted_is : acted top r a ≡ Some done = st.acts top r y.token y.is (omega arith) in
+      let other = found (process s1 (receiver a)) (y.there (receiver a) st.listed) in
+      let o = outcome_of s1 a done in
+      let here : process s1 (actor a) ≡ Some r = ap (process s1) st.by ∙ y.lift.here in
+      let stepped : step top s1 a ≡ Some o =
+      step_done top s1 a r other.0 done here other.1 acted_is in
+      let own : IsSo streams marks (m ∷ earlier) m.who (changed a done r) =
+      subst (IsSo streams marks (m ∷ earlier) m.who)
+      (sym (changed_own a done r (who ∙ sym st.by)
+      ∙ reaches_as (record r { local = done.local }))) own_after in (
+        record {
+          before = y.before;
+          is_before = y.is_before;
+          acts = first_acts ++ a ∷ [];
+          are = rw (st.is y.before, can.stamps) refl;
+          outcomes = y.lift.os ++ o ∷ [];
+          runs = run_append top s first_acts (a ∷ []) y.lift.os (o ∷ []) y.lift.runs
+              (run_from-one top s1 a o stepped);
+          tells = λ p.
+              stream_last first_acts a y.lift.os o p top s y.lift.runs y.lift.silent
+              ∙ ap (λ q. (if pid_eq q p then option_to_list o.report else []) ++ []) st.by
+              ∙ told_last marks m o.report p can.is reports_as;
+        },
+        subst (IsKept streams marks (m ∷ earlier)) (sym (state_append s y.lift.os (o ∷ [])))
+            (step_keeps streams marks earlier m s1 a done r y.there y.lift.here st.by own
+            others_after),
+      )
 
 -- A SEND AND A PRINT
 
@@ -282,16 +255,8 @@ sent : (p to : Pid) (v : ℕ) (t : Token) (z : Process) (b : Bool) → b ≡ pid
       queue = if b then z.queue ++ record { from = p; value = v; token = Some t }
           ∷ [] else z.queue;
     }
-sent p to v t z true is = ap
-    (λ b. cond b (record z {
-      queue = z.queue ++ record { from = p; value = v; token = Some t }
-          ∷ [];
-    }) z) (sym is)
-sent p to v t z false is = ap
-    (λ b. cond b (record z {
-      queue = z.queue ++ record { from = p; value = v; token = Some t }
-          ∷ [];
-    }) z) (sym is)
+sent p to v t z true is = rw (← is) refl
+sent p to v t z false is = rw (← is) refl
 
 -- what a send of the move reports
 abbrev pub sent_event : Move → Pid → Event
@@ -352,11 +317,6 @@ printing top streams marks earlier s m can is is_to reports =
       by = refl;
       listed = can.listed;
       acts = λ top r t has below. rw (has, lt-ltb r.local.clock top below) refl;
-      reaches = λ z. ap
-          (λ b. record z {
-            queue = if b then z.queue ++ message_of streams marks m
-                ∷ [] else z.queue;
-          })
-          (sym (is_to z.pid));
+      reaches = λ z. rw (is_to z.pid) refl;
       reports = reports;
     })

@@ -3,10 +3,9 @@
 -- leaves.
 use Rattle.std.proofs.Common.{◌≡◌, ℕ, suc, ◌+◌, max, Bool, true, false, not, cond, List, [], ◌∷◌}
 use Rattle.std.proofs.Common.{◌++◌, take, drop, length, filter, reverse, Some, None}
-use Rattle.std.proofs.Common.{slice_get, append_assoc, refl, sym, ◌∙◌, ap, subst, arith}
+use Rattle.std.proofs.Common.{slice_get, refl, sym, ◌∙◌, ap, subst, arith}
 use Rattle.std.specs.List.{AllByRecursion}
 use Rattle.std.proofs.lemmas.Bool.{eq-eqb, false≢true}
-use Rattle.std.proofs.lemmas.List.{reverse-append}
 use Rattle.std.proofs.lemmas.Option.{none-some, same_Some}
 use Rattle.st_core.specs.declared.types.Pid.{Pid}
 use Rattle.st_core.specs.declared.types.Kind.TheVariants as kind
@@ -26,6 +25,7 @@ use Rattle.st_order.proofs.ForCallers.{all_right, drop_front, index_of, keeps_tu
 use Rattle.st_plan.specs.Moves.{Move, clock, last, move_by, moves}
 use Rattle.st_plan.specs.Plain.{event_count, out_of_turn}
 use Rattle.st_plan.proofs.EarlierMoves.{take_more, IsThere, moves_by, one_move, order_there}
+use Rattle.st_plan.proofs.FreeMoves.{reverse_more}
 use Rattle.st_plan.proofs.OrderedMoves.{item_is}
 
 -- MOVES IN TURN
@@ -209,11 +209,6 @@ step events p q j e earlier later before =
 
 -- ALONG THE ORDER
 
-pub move_back : {A : Type 0} (m : A) (earlier later : List A) → reverse (m ∷ earlier) ++ later
-    ≡ reverse earlier ++ m ∷ later
-move_back m earlier later = ap (λ xs. xs ++ later) (reverse-append (m ∷ []) earlier)
-    ∙ append_assoc (reverse earlier) (m ∷ []) later
-
 module _ (streams : List Stream) (rising : IsRising (pids_of streams)) (shown : IsOpen streams)
     (lead : (p : Pid) → StampsLead streams p) (xs : List Item) (order : IsOrder streams xs) where
   own_moves : (p : Pid) → filter (is_move_of p) (moves streams xs)
@@ -239,7 +234,7 @@ module _ (streams : List Stream) (rising : IsRising (pids_of streams)) (shown : 
         left = ap (filter (is_move_of p)) (sym split) ∙ own_moves p;
       }
   after p (m ∷ earlier) later split =
-      let before = split ∙ move_back m earlier later in
+      let before = split ∙ reverse_more m earlier later in
       let own = event_move_there earlier m later before in
       let events = events_of streams p in
       subst (λ x. After events p (x ∷ earlier) later) (sym own.1)
