@@ -101,8 +101,4 @@ acted_mark top r (act.PrintAt p n v) done h = by (has_label n r.local.token) h
         (stamp_mark top r.pid r.local) h
     by false h = at_once (answers r r.local reply.Done) done r.local.traced refl h
 acted_mark top r (act.Set p c) done h = at_once _ done r.local.traced (set_mark r.pid c r.local) h
-acted_mark top r (act.Clear p) done h = at_once _ done r.local.traced refl h
-acted_mark top r (act.Restore p t) done h = at_once _ done r.local.traced refl h
-acted_mark top r (act.Look p) done h = at_once _ done r.local.traced refl h
-acted_mark top r (act.Reset p) done h = at_once _ done r.local.traced refl h
-acted_mark top r (act.Tracer p b) done h = at_once _ done r.local.traced refl h
+acted_mark top r a done h = at_once _ done r.local.traced refl h

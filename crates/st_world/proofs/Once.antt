@@ -83,15 +83,7 @@ one_in s p from this is = by (process s p) refl
 
 no_reset : (a : Act) → ((p : Pid) → a ≡ act.Reset p → ⊥) → is_reset a ≡ false
 no_reset (act.Reset p) other = absurd (other p refl)
-no_reset (act.Send p q v) other = refl
-no_reset (act.Receive p w) other = refl
-no_reset (act.Print p v) other = refl
-no_reset (act.PrintAt p n v) other = refl
-no_reset (act.Set p c) other = refl
-no_reset (act.Clear p) other = refl
-no_reset (act.Restore p t) other = refl
-no_reset (act.Look p) other = refl
-no_reset (act.Tracer p b) other = refl
+no_reset a other = refl
 
 -- and no act but a reset changes that, whether it is refused or not
 pub kept_once : (top : ℕ) (s : State) (a : Act) (r : Result Told StepFault) (new : State)

@@ -37,26 +37,16 @@ use Rattle.st_world.proofs.RowLemmas.{set_queue}
 reached_inner : (a : Act) (t : Option Token) (x : Process) → is_inner a ≡ true → reached a t x ≡ x
 reached_inner (act.Send p q v) t x h = absurd (cc)
 reached_inner (act.Receive p w) t x h = absurd (cc)
-reached_inner (act.Print p v) t x h = refl
-reached_inner (act.PrintAt p n v) t x h = refl
-reached_inner (act.Set p c) t x h = refl
-reached_inner (act.Clear p) t x h = refl
-reached_inner (act.Restore p u) t x h = refl
-reached_inner (act.Look p) t x h = refl
 reached_inner (act.Reset p) t x h = absurd (cc)
 reached_inner (act.Tracer p b) t x h = absurd (cc)
+reached_inner a t x h = refl
 
 pub receiver_inner : (a : Act) → is_inner a ≡ true → receiver a ≡ actor a
 receiver_inner (act.Send p q v) h = absurd (cc)
 receiver_inner (act.Receive p w) h = absurd (cc)
-receiver_inner (act.Print p v) h = refl
-receiver_inner (act.PrintAt p n v) h = refl
-receiver_inner (act.Set p c) h = refl
-receiver_inner (act.Clear p) h = refl
-receiver_inner (act.Restore p u) h = refl
-receiver_inner (act.Look p) h = refl
 receiver_inner (act.Reset p) h = absurd (cc)
 receiver_inner (act.Tracer p b) h = absurd (cc)
+receiver_inner a h = refl
 
 -- the message of a send
 abbrev pub mail : Pid → ℕ → LocalState → Message
