@@ -18,8 +18,8 @@ pub use Rattle.st_plan.proofs.SettledStreams.{goes_on, in_turn_at, caused_at, cl
 pub use Rattle.st_plan.proofs.SettledStreams.{tells_told_events, told_pids, tells_only}
 pub use Rattle.st_plan.proofs.PlainStreams.{only_whole}
 pub use Rattle.st_plan.proofs.Wholes.{completion_is_shown}
--- ---- none of the acts is a reset
-pub use Rattle.st_plan.proofs.OneTrace.{acts_none, append_none, tracers_none}
+-- ---- what holds of all acts before a stamp; none of the acts is a reset
+pub use Rattle.st_plan.proofs.OneTrace.{ready_all, acts_none, append_none, tracers_none}
 -- ---- the acts before a stamp
 pub use Rattle.st_plan.proofs.Readiness.{is_alone, is_ready, IsQuiet, QuietRun}
 -- ---- runs that report everything, and full streams

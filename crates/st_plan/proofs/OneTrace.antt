@@ -3,6 +3,7 @@
 use Rattle.std.proofs.Common.{◌≡◌, ℕ, ◌-◌, ◌==◌, zero, suc, nat_lt, Bool, true, false, List, []}
 use Rattle.std.proofs.Common.{◌∷◌, ◌++◌, Option, Some, None, position, option_map, option_and_then}
 use Rattle.std.proofs.Common.{refl, subst, if◌then◌else◌}
+use Rattle.std.specs.List.{AllByRecursion}
 use Rattle.std.specs.Option.{option_map_or}
 use Rattle.std.proofs.lemmas.Option.{same_Some, option_and_then_some}
 use Rattle.st_core.specs.declared.types.Pid.{Pid}
@@ -36,50 +37,62 @@ IsNoReset a = is_reset a ≡ false
 pub append_none : (xs ys : List Act) → NoReset xs → NoReset ys → NoReset (xs ++ ys)
 append_none xs ys one two = all_append IsNoReset xs ys one two
 
-either : (b : Bool) (xs ys : List Act) → NoReset xs → NoReset ys → NoReset (if b then xs else ys)
-either true xs ys one two = one
-either false xs ys one two = two
+either : (P : Act → Type 0) (b : Bool) (xs ys : List Act) → AllByRecursion P xs
+    → AllByRecursion P ys → AllByRecursion P (if b then xs else ys)
+either P true xs ys one two = one
+either P false xs ys one two = two
 
 -- THE ACTS BEFORE A STAMP
 
-dress_none : (p : Pid) (token : Option Token) (n : Label) (f : Flags) → NoReset (dress p token n f)
-dress_none p token n f =
-    either (is_dressed n f token) [] (act.Restore p (unstamped_token p n f) ∷ []) tt (refl, tt)
+-- a fact of each of the acts that bring p to a stamp
+module _ (P : Act → Type 0) (p : Pid) (restores : (t : Token) → P (act.Restore p t))
+    (prints : P (act.Print p 0)) (clears : P (act.Clear p))
+    (sets : (n : Label) → P (act.Set p (component.Label n))) where
+  dress_all : (token : Option Token) (n : Label) (f : Flags)
+      → AllByRecursion P (dress p token n f)
+  dress_all token n f = either P (is_dressed n f token) []
+      (act.Restore p (unstamped_token p n f) ∷ []) tt (restores (unstamped_token p n f), tt)
 
-silent_none : (p : Pid) (n : ℕ) → NoReset (silent_prints p n)
-silent_none p zero = tt
-silent_none p (suc n) = (refl, silent_none p n)
+  silent_all : (n : ℕ) → AllByRecursion P (silent_prints p n)
+  silent_all zero = tt
+  silent_all (suc n) = (prints, silent_all n)
 
-renew_none : (p : Pid) (x : Start) (n : Label) (prev : ℕ) → NoReset (renew p x n prev)
-renew_none p x n prev =
-    let up = dress p x.token n quiet ++ silent_prints p (prev - x.clock) in
-    append_none (if nat_lt x.clock prev then up else [])
-    (act.Clear p ∷ act.Set p (component.Label n) ∷ [])
-    (either (nat_lt x.clock prev) up []
-    (append_none (dress p x.token n quiet) (silent_prints p (prev - x.clock))
-    (dress_none p x.token n quiet)
-    (silent_none p (prev - x.clock))) tt)
-    (refl, (refl, tt))
+  brought_all : (token : Option Token) (n : Label) (count : ℕ) (rest : List Act)
+      → AllByRecursion P rest
+      → AllByRecursion P (dress p token n quiet ++ (silent_prints p count ++ rest))
+  brought_all token n count rest h =
+      all_append P (dress p token n quiet) (silent_prints p count ++ rest) (dress_all token n quiet)
+      (all_append P (silent_prints p count) rest (silent_all count) h)
 
-raise_none : (p : Pid) (x : Start) (n : Label) (count : ℕ) (f : Flags)
-    → NoReset (raise p x n count f)
-raise_none p x n count f =
-    let on = dress p (Some (unstamped_token p n quiet)) n f in
-    let up = silent_prints p (count - x.clock) ++ on in
-    either (nat_lt x.clock count) (dress p x.token n quiet ++ up) (dress p x.token n f)
-    (append_none (dress p x.token n quiet) up (dress_none p x.token n quiet)
-    (append_none (silent_prints p (count - x.clock)) on (silent_none p (count - x.clock))
-    (dress_none p (Some (unstamped_token p n quiet)) n f)))
-    (dress_none p x.token n f)
+  renew_all : (x : Start) (n : Label) (prev : ℕ) → AllByRecursion P (renew p x n prev)
+  renew_all x n prev =
+      let up = dress p x.token n quiet ++ silent_prints p (prev - x.clock) in
+      all_append P (if nat_lt x.clock prev then up else [])
+      (act.Clear p ∷ act.Set p (component.Label n) ∷ [])
+      (either P (nat_lt x.clock prev) up []
+      (all_append P (dress p x.token n quiet) (silent_prints p (prev - x.clock))
+      (dress_all x.token n quiet) (silent_all (prev - x.clock))) tt)
+      (clears, (sets n, tt))
 
-ready_none : (p : Pid) (x : Start) (n : Label) (s : Serial) (f : Flags) → NoReset (ready p x n s f)
-ready_none p x n s f =
-    let again = renewed_start p x n s.prev in
-    either (s.prev == x.last) (raise p x n (s.this - 1) f)
-    (renew p x n s.prev ++ raise p again n (s.this - 1) f)
-    (raise_none p x n (s.this - 1) f)
-    (append_none (renew p x n s.prev) (raise p again n (s.this - 1) f) (renew_none p x n s.prev)
-    (raise_none p again n (s.this - 1) f))
+  raise_all : (x : Start) (n : Label) (count : ℕ) (f : Flags)
+      → AllByRecursion P (raise p x n count f)
+  raise_all x n count f =
+      let on = dress p (Some (unstamped_token p n quiet)) n f in
+      either P (nat_lt x.clock count)
+      (dress p x.token n quiet ++ (silent_prints p (count - x.clock) ++ on)) (dress p x.token n f)
+      (brought_all x.token n (count - x.clock) on
+      (dress_all (Some (unstamped_token p n quiet)) n f))
+      (dress_all x.token n f)
+
+  pub ready_all : (x : Start) (n : Label) (s : Serial) (f : Flags)
+      → AllByRecursion P (ready p x n s f)
+  ready_all x n s f =
+      let again = renewed_start p x n s.prev in
+      either P (s.prev == x.last) (raise p x n (s.this - 1) f)
+      (renew p x n s.prev ++ raise p again n (s.this - 1) f)
+      (raise_all x n (s.this - 1) f)
+      (all_append P (renew p x n s.prev) (raise p again n (s.this - 1) f) (renew_all x n s.prev)
+      (raise_all again n (s.this - 1) f))
 
 -- AN ITEM'S OWN
 
@@ -124,8 +137,9 @@ acts_none streams marks r m acts h =
     let parts = mapped (λ a. first ++ a ∷ []) (act_of r m) acts h in
     subst NoReset parts.2
     (append_none first (parts.0 ∷ [])
-    (either (is_taking m) [] before tt
-    (ready_none m.who (start_of r.local) m.event.label m.event.serial (flags_of streams marks m)))
+    (either IsNoReset (is_taking m) [] before tt
+    (ready_all IsNoReset m.who (λ t. refl) refl refl (λ n. refl) (start_of r.local) m.event.label
+    m.event.serial (flags_of streams marks m)))
     (act_none r m parts.0 parts.1, tt))
 
 -- ALL
@@ -133,7 +147,7 @@ acts_none streams marks r m acts h =
 pub tracers_none : (seen : Option ℕ) (ps : List Pid) → NoReset (tracers_after seen ps)
 tracers_none seen [] = tt
 tracers_none seen (p ∷ ps) =
-    either (option_map_or (λ n. n == p.node) seen false) (tracers_after seen ps)
+    either IsNoReset (option_map_or (λ n. n == p.node) seen false) (tracers_after seen ps)
     (act.Tracer p true ∷ tracers_after (Some p.node) ps) (tracers_none seen ps)
     (refl, tracers_none (Some p.node) ps)
 

@@ -2,7 +2,7 @@
 -- search for where a test on nodes changes its answer finds the processes of a node.
 use Rattle.std.proofs.Common.{◌≡◌, ℕ, ◌<◌, ◌≤◌, ◌+◌, zero, suc, Bool, true, false, List, [], ◌∷◌}
 use Rattle.std.proofs.Common.{length, get_or, take, cond, position, ltb, leb, refl, sym, ◌∙◌, ap}
-use Rattle.std.proofs.Common.{subst, arith, inl, inr, ◌⊎◌, Option, Some, None, slice_get}
+use Rattle.std.proofs.Common.{subst, arith, inl, inr, ◌⊎◌, Some, None, slice_get}
 use Rattle.std.specs.List.{list_any, position_or_len}
 use Rattle.indexmap.specs.IndexSet.{insert_key}
 use Rattle.std.specs.declared.cmp.Ordering.{Ordering}
