@@ -141,17 +141,11 @@ module _ (high low : ℕ) (r : Process) (below_high : r.local.clock < high)
   acts_alike (act.Send p q v) =
       by_stamp (sends r q v) (λ top. stamp_any top r.pid r.local) (act.Send p q v) refl refl
       (any_alike high low r.pid r.local below_high below_low r.local.token refl)
-  acts_alike (act.Receive p w) = always _ _ refl refl
   acts_alike (act.Print p v) =
       by_stamp (prints r v) (λ top. stamp_any top r.pid r.local) (act.Print p v) refl refl
       (any_alike high low r.pid r.local below_high below_low r.local.token refl)
   acts_alike (act.PrintAt p n v) = at_label p n v r.local.token refl
-  acts_alike (act.Set p c) = always _ _ refl refl
-  acts_alike (act.Clear p) = always _ _ refl refl
-  acts_alike (act.Restore p t) = always _ _ refl refl
-  acts_alike (act.Look p) = always _ _ refl refl
-  acts_alike (act.Reset p) = always _ _ refl refl
-  acts_alike (act.Tracer p b) = always _ _ refl refl
+  acts_alike a = always _ _ refl refl
 
 -- THE BOUND ON CLOCKS
 

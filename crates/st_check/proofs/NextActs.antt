@@ -1,7 +1,7 @@
 -- One more act changes what is kept as the definitions say; the act of a number comes right after
 -- the acts before it.
 use Rattle.std.proofs.Common.{◌≡◌, ℕ, ◌+◌, ◌<◌, ◌⊎◌, false, List, [], ◌∷◌, ◌++◌, length, map, take}
-use Rattle.std.proofs.Common.{get_or, Option, Some, None, is_some, option_and_then, refl, sym, ◌∙◌}
+use Rattle.std.proofs.Common.{get_or, Option, Some, None, is_some, refl, sym, ◌∙◌}
 use Rattle.std.proofs.Common.{ap, subst, arith, inl, inr, length-take-le, if◌then◌else◌}
 use Rattle.std.specs.Option.{ForSome, option_and}
 use Rattle.std.specs.List.{AllByRecursion, slice_get}
@@ -39,11 +39,6 @@ pub length-tags : (top : ℕ) (streams : List Stream) (acts : List Act) (s : Sta
     → length tags ≡ length (pids_of streams)
 length-tags top streams acts s counts tags ps p =
     ap length p.are_tags ∙ length-map (pids_of streams) (tags_of acts p.outcomes)
-
-none_after : {A B : Type 0} (o : Option A)
-    → (let none : Option B = None in option_and_then (λ (_ : A). none) o) ≡ None
-none_after None = refl
-none_after (Some x) = refl
 
 -- an act that isn't refused because memory ran out has no step
 pub fault_stuck : (top : ℕ) (s : State) (a : Act) (f : StepFault) → IsFault top s a f

@@ -18,7 +18,7 @@ use Rattle.st_core.specs.Step.{Outcome, actor}
 use Rattle.st_core.specs.Run.{Stream, pids_of, stream}
 use Rattle.st_core.specs.Streams.{events_of}
 use Rattle.st_core.specs.Pairs.{Follows, AllPaired, pairs}
-use Rattle.st_core.specs.Verdict.{Verdict, Stuck, Differs, Left, Yes, left_over, IsVerdict}
+use Rattle.st_core.specs.Verdict.{Verdict, Left, Yes, left_over, IsVerdict}
 use Rattle.st_core.specs.Laws.{KeepsSound}
 use Rattle.st_core.specs.State.{State}
 use Rattle.st_core.proofs.ForCallers.{run_sound, receives_follow, receives_are_paired}
@@ -119,34 +119,29 @@ module _ (top : ℕ) (streams : List Stream) (acts : List Act) (s : State) (coun
 pub verdict_follows : (top : ℕ) (streams : List Stream) (acts : List Act) (v : Verdict)
     → IsVerdict top streams acts v
     → FollowsAll top streams acts v
-verdict_follows top streams acts (Stuck n) v = tt
-verdict_follows top streams acts (Differs n) v = tt
-verdict_follows top streams acts (Left q) v = tt
 verdict_follows top streams acts (Yes ps) v = λ os runs.
     let same : v.0 ≡ os = same_Some _ _ (sym v.1 ∙ runs) in
     subst (Follows acts os) (sym (v.3 ∙ ap (pairs acts) same))
     (receives_follow top (pids_of streams) acts os runs)
+verdict_follows top streams acts other v = tt
 
 pub verdict_pairs : (top : ℕ) (streams : List Stream) (acts : List Act) (v : Verdict)
     → IsVerdict top streams acts v
     → PairsAll top streams acts v
-verdict_pairs top streams acts (Stuck n) v = tt
-verdict_pairs top streams acts (Differs n) v = tt
-verdict_pairs top streams acts (Left q) v = tt
 verdict_pairs top streams acts (Yes ps) v = λ os runs.
     let same : v.0 ≡ os = same_Some _ _ (sym v.1 ∙ runs) in
     subst (AllPaired os) (sym (v.3 ∙ ap (pairs acts) same))
     (receives_are_paired top (pids_of streams) acts os runs)
+verdict_pairs top streams acts other v = tt
 
 abbrev pub Rises : Event → Type 0
 Rises e = e.serial.prev < e.serial.this
 
 one_rises : (report : Option Event) (b : Bool) → ((e : Event) → report ≡ Some e → Rises e)
     → All Rises (if b then option_to_list report else [])
-one_rises None true rises = All-nil Rises
-one_rises None false rises = All-nil Rises
 one_rises (Some e) true rises = All-cons Rises e [] (rises e refl) (All-nil Rises)
-one_rises (Some e) false rises = All-nil Rises
+one_rises None true rises = All-nil Rises
+one_rises report b rises = All-nil Rises
 
 pub stream_rises : (top : ℕ) (acts : List Act) (os : List Outcome) (p : Pid)
     → All (KeepsSound top) os
@@ -161,10 +156,8 @@ stream_rises top (a ∷ acts) (o ∷ os) p all =
 pub verdict_rises : (top : ℕ) (streams : List Stream) (acts : List Act) (v : Verdict)
     → IsVerdict top streams acts v
     → RisesOnYes streams v
-verdict_rises top streams acts (Stuck n) v = tt
-verdict_rises top streams acts (Differs n) v = tt
-verdict_rises top streams acts (Left q) v = tt
 verdict_rises top streams acts (Yes ps) v =
     λ k d within. subst (All Rises) (v.2 k d within)
     (stream_rises top acts v.0 (get_or streams k d).pid
     (run_sound top (pids_of streams) acts v.0 v.1))
+verdict_rises top streams acts other v = tt

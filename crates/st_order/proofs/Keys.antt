@@ -198,22 +198,18 @@ module _ (streams : List Stream) (once : first (repeated streams) streams ≡ No
 
 one_way_by : (o : Ordering) → is_lt o ≡ true → is_lt (ordering_reverse o) ≡ true → ⊥
 one_way_by Less a b = absurd (cc)
-one_way_by Equal a b = absurd (cc)
-one_way_by Greater a b = absurd (cc)
+one_way_by o a b = absurd (cc)
 
 one_way_of : (a b : Option Key) → test_of is_lt a b ≡ true → test_of is_lt b a ≡ true → ⊥
-one_way_of None b h g = absurd (cc)
-one_way_of (Some k) None h g = absurd (cc)
 one_way_of (Some k) (Some l) h g =
     one_way_by (key_cmp k l) h (ap is_lt (sym (key_total.antisymm l k)) ∙ g)
+one_way_of a b h g = absurd (cc)
 
 chain_of : (a b c : Option Key) → test_of is_lt a b ≡ true → test_of is_lt b c ≡ true
     → test_of is_lt a c ≡ true
-chain_of None b c h g = absurd (cc)
-chain_of (Some k) None c h g = absurd (cc)
-chain_of (Some k) (Some l) None h g = absurd (cc)
 chain_of (Some k) (Some l) (Some m) h g =
     ap is_lt (key_total.trans k l m (is_lt-true (key_cmp k l) h) (is_lt-true (key_cmp l m) g))
+chain_of a b c h g = absurd (cc)
 
 -- of two items one at most comes before the other
 pub one_way : (streams : List Stream) (x y : Item) → comes_before streams x y ≡ true

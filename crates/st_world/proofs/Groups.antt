@@ -18,20 +18,16 @@ use Rattle.st_world.specs.Nodes.{IsListedFrom, IsListed, AreGroups, IsPlaced}
 -- what holds of the new element and of the old ones holds after the write
 set_any : {X : Type 0} (P : X → Type 0) (xs : List X) (k i : ℕ) (y d : X)
     → P y → P (get_or xs i d) → P (get_or (set xs k y) i d)
-set_any P [] k i y d new old = old
 set_any P (x ∷ xs) zero zero y d new old = new
-set_any P (x ∷ xs) zero (suc i) y d new old = old
-set_any P (x ∷ xs) (suc k) zero y d new old = old
 set_any P (x ∷ xs) (suc k) (suc i) y d new old = set_any P xs k i y d new old
+set_any P xs k i y d new old = old
 
 -- a part that the write leaves is as it was
 set_part : {X A : Type 0} (f : X → A) (xs : List X) (k i : ℕ) (y d : X)
     → f y ≡ f (get_or xs k d) → f (get_or (set xs k y) i d) ≡ f (get_or xs i d)
-set_part f [] k i y d same = refl
 set_part f (x ∷ xs) zero zero y d same = same
-set_part f (x ∷ xs) zero (suc i) y d same = refl
-set_part f (x ∷ xs) (suc k) zero y d same = refl
 set_part f (x ∷ xs) (suc k) (suc i) y d same = set_part f xs k i y d same
+set_part f xs k i y d same = refl
 
 -- a part of one element, among that part of each
 pub at_map : {X A : Type 0} (f : X → A) (xs : List X) (i : ℕ) (d : X)

@@ -54,11 +54,10 @@ flagged_put (f ∷ fs) (x ∷ ls) (suc i) l b e =
 pub flagged_at : (fs : List Bool) (ls : List LocalState) (i : ℕ) (l : LocalState) (b : Bool)
     → length fs ≡ length ls → i < length fs → b ≡ get_or fs i b → l ≡ get_or ls i l
     → record l { traced = b } ≡ get_or (flagged fs ls) i (record l { traced = b })
-flagged_at [] ls i l b len h mark e = absurd (omega arith)
-flagged_at (f ∷ fs) [] i l b len h mark e = absurd (omega arith)
 flagged_at (f ∷ fs) (x ∷ ls) zero l b len h mark e = rw (mark, e) refl
 flagged_at (f ∷ fs) (x ∷ ls) (suc i) l b len h mark e =
     flagged_at fs ls i l b (omega arith) (omega arith) mark e
+flagged_at fs ls i l b len h mark e = absurd (omega arith)
 
 -- the mark of a process is its node's
 pub flag_at : (g : Groups) (i : ℕ) (d : Bool) → i < length g.places
@@ -141,11 +140,10 @@ pub flagged_zero : (ts : List Bool) (ks : List ℕ) (n : ℕ) → length ks ≡ 
     → ((k : ℕ) → get_or ts k false ≡ false)
     → flagged (map (λ k. get_or ts k false) ks) (replicate n zero_local) ≡ replicate n zero_local
 flagged_zero ts [] zero e none = refl
-flagged_zero ts [] (suc n) e none = absurd (omega arith)
-flagged_zero ts (k ∷ ks) zero e none = absurd (omega arith)
 flagged_zero ts (k ∷ ks) (suc n) e none =
     let rest = flagged_zero ts ks n (omega arith) none in
     rw (none k, rest) refl
+flagged_zero ts ks n e none = absurd (omega arith)
 
 -- the process with this mark
 abbrev with_mark : Bool → Process → Process
@@ -172,12 +170,6 @@ pub reset_flagged : (me : Pid) (ps : List Pid) (fs : List Bool) (ls ls2 : List L
     → state_of ps (flagged fs ls2) bs2
     ≡ map (reached (act.Reset me) None) (state_of ps (flagged fs ls) bs)
 reset_flagged me [] fs ls ls2 bs bs2 a b c d e is = refl
-reset_flagged me (p ∷ ps) [] ls ls2 bs bs2 a b c d e is = absurd (omega arith)
-reset_flagged me (p ∷ ps) (f ∷ fs) [] ls2 bs bs2 a b c d e is = absurd (omega arith)
-reset_flagged me (p ∷ ps) (f ∷ fs) (l ∷ ls) [] bs bs2 a b c d e is = absurd (omega arith)
-reset_flagged me (p ∷ ps) (f ∷ fs) (l ∷ ls) (l2 ∷ ls2) [] bs2 a b c d e is = absurd (omega arith)
-reset_flagged me (p ∷ ps) (f ∷ fs) (l ∷ ls) (l2 ∷ ls2) (q ∷ bs) [] a b c d e is =
-    absurd (omega arith)
 reset_flagged me (p ∷ ps) (f ∷ fs) (l ∷ ls) (l2 ∷ ls2) (q ∷ bs) (q2 ∷ bs2) a b c d e is =
     let x : Process = process_of p l2 q2 in
     let y : Process = reached (act.Reset me) None (process_of p l q) in
@@ -186,6 +178,7 @@ reset_flagged me (p ∷ ps) (f ∷ fs) (l ∷ ls) (l2 ∷ ls2) (q ∷ bs) (q2 �
     (omega arith) (omega arith)
     (ap (λ (s : State). drop 1 s) is) in
     rw (ap (with_mark f) first ∙ reset_mark me f (process_of p l q), rest) refl
+reset_flagged me ps fs ls ls2 bs bs2 a b c d e is = absurd (omega arith)
 
 -- a tracer change sets the marks of the node
 pub trace_flagged : (me : Pid) (on : Bool) (ps : List Pid) (fs fs2 : List Bool)

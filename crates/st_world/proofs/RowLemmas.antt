@@ -28,10 +28,9 @@ number_in ps q = position_or_len (λ p. pid_eq p q) ps
 pub length-rows : (ps : List Pid) (ls : List LocalState) (bs : List (List Message))
     → length ls ≡ length ps → length bs ≡ length ps → length (state_of ps ls bs) ≡ length ps
 length-rows [] ls bs e f = refl
-length-rows (p ∷ ps) [] bs e f = absurd (omega arith)
-length-rows (p ∷ ps) (l ∷ ls) [] e f = absurd (omega arith)
 length-rows (p ∷ ps) (l ∷ ls) (b ∷ bs) e f =
     ap suc (length-rows ps ls bs (omega arith) (omega arith))
+length-rows ps ls bs e f = absurd (omega arith)
 
 next : (n : ℕ) → suc n ≡ 1 + n
 next n = omega arith
@@ -59,43 +58,35 @@ pub at_rows : (ps : List Pid) (ls : List LocalState) (bs : List (List Message)) 
     → length ls ≡ length ps → length bs ≡ length ps → i < length ps
     → p ≡ get_or ps i p → l ≡ get_or ls i l → b ≡ get_or bs i b
     → slice_get (state_of ps ls bs) i ≡ Some (process_of p l b)
-at_rows [] ls bs i p l b e f h ep el eb = absurd (omega arith)
-at_rows (x ∷ ps) [] bs i p l b e f h ep el eb = absurd (omega arith)
-at_rows (x ∷ ps) (y ∷ ls) [] i p l b e f h ep el eb = absurd (omega arith)
 at_rows (x ∷ ps) (y ∷ ls) (z ∷ bs) zero p l b e f h ep el eb = rw (ep, el, eb) refl
 at_rows (x ∷ ps) (y ∷ ls) (z ∷ bs) (suc i) p l b e f h ep el eb =
     at_rows ps ls bs i p l b (omega arith) (omega arith) (omega arith) ep el eb
+at_rows ps ls bs i p l b e f h ep el eb = absurd (omega arith)
 
 -- a write at one number of the two rows that change is a write there of the process
 pub set_rows : (ps : List Pid) (ls : List LocalState) (bs : List (List Message)) (i : ℕ)
     → (p : Pid) (l : LocalState) (b : List Message)
     → length ls ≡ length ps → length bs ≡ length ps → i < length ps → p ≡ get_or ps i p
     → state_of ps (set ls i l) (set bs i b) ≡ set (state_of ps ls bs) i (process_of p l b)
-set_rows [] ls bs i p l b e f h ep = absurd (omega arith)
-set_rows (x ∷ ps) [] bs i p l b e f h ep = absurd (omega arith)
-set_rows (x ∷ ps) (y ∷ ls) [] i p l b e f h ep = absurd (omega arith)
 set_rows (x ∷ ps) (y ∷ ls) (z ∷ bs) zero p l b e f h ep = rw ep refl
 set_rows (x ∷ ps) (y ∷ ls) (z ∷ bs) (suc i) p l b e f h ep =
     ap (λ s. process_of x y z ∷ s)
     (set_rows ps ls bs i p l b (omega arith) (omega arith) (omega arith) ep)
+set_rows ps ls bs i p l b e f h ep = absurd (omega arith)
 
 apart_rows_from : (ps : List Pid) (ls : List LocalState) (bs : List (List Message)) (p : Pid)
     → AllByRecursion (IsBelow p) ps
     → AllByRecursion (λ (x : Process). pid_eq x.pid p ≡ false) (state_of ps ls bs)
-apart_rows_from [] ls bs p all = tt
-apart_rows_from (x ∷ ps) [] bs p all = tt
-apart_rows_from (x ∷ ps) (y ∷ ls) [] p all = tt
 apart_rows_from (x ∷ ps) (y ∷ ls) (z ∷ bs) p all =
     (below_apart p x all.0, apart_rows_from ps ls bs p all.1)
+apart_rows_from ps ls bs p all = tt
 
 -- pids that rise occur once
 pub apart_rows : (ps : List Pid) (ls : List LocalState) (bs : List (List Message))
     → IsRising ps → AreApart (state_of ps ls bs)
-apart_rows [] ls bs rising = tt
-apart_rows (x ∷ ps) [] bs rising = tt
-apart_rows (x ∷ ps) (y ∷ ls) [] rising = tt
 apart_rows (x ∷ ps) (y ∷ ls) (z ∷ bs) rising =
     (apart_rows_from ps ls bs x rising.0, apart_rows ps ls bs rising.1)
+apart_rows ps ls bs rising = tt
 
 -- the rows of a new world
 pub zero_rows : (ps : List Pid)

@@ -86,12 +86,10 @@ map_fixed f (r ∷ s) same = rw (same 0 r refl, map_fixed f s (λ i x at. same (
 
 row_within : (ps : List Pid) (ls : List LocalState) (bs : List (List Message)) (i : ℕ) (r : Process)
     → slice_get (state_of ps ls bs) i ≡ Some r → i < length ps
-row_within [] ls bs i r at = absurd (cc)
-row_within (p ∷ ps) [] bs i r at = absurd (cc)
-row_within (p ∷ ps) (l ∷ ls) [] i r at = absurd (cc)
 row_within (p ∷ ps) (l ∷ ls) (b ∷ bs) zero r at = omega arith
 row_within (p ∷ ps) (l ∷ ls) (b ∷ bs) (suc i) r at = let rest = row_within ps ls bs i r at in
     omega (arith, rest)
+row_within ps ls bs i r at = absurd (cc)
 
 module _ (ps : List Pid) (ls : List LocalState) (bs : List (List Message))
     (locals_len : length ls ≡ length ps) (queues_len : length bs ≡ length ps) where
