@@ -13,7 +13,8 @@ pub use Rattle.st_plan.proofs.Receives.{pick_at}
 pub use Rattle.st_plan.proofs.KeptState.{IsKept}
 pub use Rattle.st_plan.proofs.Tracers.{opens, IsOpened}
 pub use Rattle.st_plan.proofs.BuiltActs.{stream_append}
--- ---- what holds at each move of settled streams
+-- ---- where a test holds of a move, and what holds at each move of settled streams
+pub use Rattle.st_plan.proofs.FreeMoves.{holds_here, holds_not, reverse_more}
 pub use Rattle.st_plan.proofs.SettledStreams.{goes_on, in_turn_at, caused_at, clock_at}
 pub use Rattle.st_plan.proofs.SettledStreams.{tells_told_events, told_pids, tells_only}
 pub use Rattle.st_plan.proofs.PlainStreams.{only_whole}

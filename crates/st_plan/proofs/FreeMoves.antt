@@ -10,7 +10,7 @@ use Rattle.st_order.specs.declared.item.Item.TheVariants as item
 use Rattle.st_order.specs.Order.{IsOrder}
 use Rattle.st_plan.specs.Moves.{Move, moves}
 use Rattle.st_order.specs.Items.{item_place}
-use Rattle.st_plan.specs.Reasons.{uncaused}
+use Rattle.st_plan.specs.Reasons.{uncaused, HoldsOfMoveAt}
 use Rattle.st_plan.specs.Plain.{out_of_turn, event_count, HoldsNowhere, IsSettled}
 
 -- ALONG THE MOVES
@@ -43,32 +43,40 @@ along_at P ms earlier later m all split =
 -- WHERE A TEST HOLDS NOWHERE
 
 module _ (streams : List Stream) (xs : List Item) (order : IsOrder streams xs)
-    (test : List Move → Move → Bool)
-    (nowhere : HoldsNowhere test streams) where
-  pub holds_not : (earlier later : List Move) (m : Move)
-      → moves streams xs ≡ reverse earlier ++ m ∷ later
-      → test earlier m ≡ false
-  holds_not earlier later m split = elim (test earlier m) as (λ b. test earlier m ≡ b → b ≡ false) [
-    | false ↦ λ no. refl
-    | true ↦ λ yes. absurd (nowhere (item_place m.item).0 (item_place m.item).1 (record {
-      order = xs;
-      earlier = earlier;
-      move = m;
-      later = later;
-      is_order = order;
-      split = split;
-      place = refl;
-      holds = yes;
-    }))
-  ] refl
+    (test : List Move → Move → Bool) where
+  -- a move of which the test holds is at its item's place
+  pub holds_here : (earlier later : List Move) (m : Move)
+      → moves streams xs ≡ reverse earlier ++ m ∷ later → test earlier m ≡ true
+      → HoldsOfMoveAt test streams (item_place m.item).0 (item_place m.item).1
+  holds_here earlier later m split holds = record {
+    order = xs;
+    earlier = earlier;
+    move = m;
+    later = later;
+    is_order = order;
+    split = split;
+    place = refl;
+    holds = holds;
+  }
 
-  pub false_along : (earlier ms : List Move) → moves streams xs ≡ reverse earlier ++ ms
-      → AllAlong (λ before m. test before m ≡ false) earlier ms
-  false_along earlier [] split = tt
-  false_along earlier (m ∷ ms) split = (
-    holds_not earlier ms m split,
-    false_along (m ∷ earlier) ms (split ∙ sym (reverse_more m earlier ms)),
-  )
+  module _ (nowhere : HoldsNowhere test streams) where
+    pub holds_not : (earlier later : List Move) (m : Move)
+        → moves streams xs ≡ reverse earlier ++ m ∷ later
+        → test earlier m ≡ false
+    holds_not earlier later m split =
+        elim (test earlier m) as (λ b. test earlier m ≡ b → b ≡ false) [
+          | false ↦ λ no. refl
+          | true ↦ λ yes. absurd (nowhere (item_place m.item).0 (item_place m.item).1
+              (holds_here earlier later m split yes))
+        ] refl
+
+    pub false_along : (earlier ms : List Move) → moves streams xs ≡ reverse earlier ++ ms
+        → AllAlong (λ before m. test before m ≡ false) earlier ms
+    false_along earlier [] split = tt
+    false_along earlier (m ∷ ms) split = (
+      holds_not earlier ms m split,
+      false_along (m ∷ earlier) ms (split ∙ sym (reverse_more m earlier ms)),
+    )
 
 -- IN TURN
 
