@@ -1,7 +1,7 @@
 -- Acts are tried up to the first that has no step: after acts that ran it is the first of the later
 -- ones, and what comes after it isn't tried. So calls in a row had the outcome of their acts in a
 -- row.
-use Rattle.std.proofs.Common.{◌≡◌, ℕ, Bool, true, false, List, [], ◌∷◌, ◌++◌, Option, Some, None}
+use Rattle.std.proofs.Common.{◌≡◌, ℕ, Bool, false, List, [], ◌∷◌, ◌++◌, Option, Some, None}
 use Rattle.std.proofs.Common.{option_map, option_and_then, Result, Ok, Err, append_assoc, refl, sym}
 use Rattle.std.proofs.Common.{◌∙◌, ap, subst}
 use Rattle.std.proofs.lemmas.List.{append-nil}
@@ -90,8 +90,7 @@ front_stuck top s (x ∷ xs) ys h =
 
 abbrev pub outcomes_in : Turn → Option (List Outcome)
 outcomes_in (Through acts os) = Some os
-outcomes_in (Stopped acts) = None
-outcomes_in (Refused r) = None
+outcomes_in t = None
 
 abbrev pub acts_in : Turn → List Act
 acts_in (Through acts os) = acts
@@ -230,10 +229,6 @@ pub halts_before : {top : ℕ} {T U : Type 0} (one : T → List Outcome → Type
 halts_before {top} one two xs ys old halt.Memory new meets =
     tries_more top old.world xs ys (run_from top old.world xs) (run_from top old.world (xs ++ ys))
     meets
-halts_before {top} one two xs ys old halt.Uncaused new meets =
-    absurd (never_refused top old.world xs (run_from top old.world xs) _ meets)
-halts_before {top} one two xs ys old halt.TooWide new meets =
-    absurd (never_refused top old.world xs (run_from top old.world xs) _ meets)
 halts_before {top} one two xs ys old halt.Stopped new meets =
     let was = stopped_none top old.world xs meets.acts meets.stopped in
     let more = front_stuck top old.world xs ys was.0 in
@@ -242,6 +237,8 @@ halts_before {top} one two xs ys old halt.Stopped new meets =
       stopped = ap (turn_by top old.world (xs ++ ys)) more.none;
       put = meets.put ∙ ap (λ zs. old.acts ++ zs) (sym (more.same ∙ was.1));
     }
+halts_before {top} one two xs ys old h new meets =
+    absurd (never_refused top old.world xs (run_from top old.world xs) _ meets)
 
 -- the outcome of acts after others that were performed
 pub halts_after : {top : ℕ} {T U : Type 0} (one : T → List Outcome → Type 0)
@@ -252,10 +249,6 @@ pub halts_after : {top : ℕ} {T U : Type 0} (one : T → List Outcome → Type 
     → Meets two (acts_turn top old.world (xs ++ a ∷ ys)) old (Err h) new
 halts_after {top} one two xs a ys old mid halt.Memory new made meets =
     tries_in top old.world xs a ys (run_from top old.world (xs ++ a ∷ ys))
-halts_after {top} one two xs a ys old mid halt.Uncaused new made meets =
-    absurd (never_refused top mid.world (a ∷ ys) (run_from top mid.world (a ∷ ys)) _ meets)
-halts_after {top} one two xs a ys old mid halt.TooWide new made meets =
-    absurd (never_refused top mid.world (a ∷ ys) (run_from top mid.world (a ∷ ys)) _ meets)
 halts_after {top} one two xs a ys old mid halt.Stopped new made meets =
     let was = stopped_none top mid.world (a ∷ ys) meets.acts meets.stopped in
     let none = none_after top old.world xs (a ∷ ys) made.outcomes made.runs
@@ -269,6 +262,8 @@ halts_after {top} one two xs a ys old mid halt.Stopped new made meets =
       put = meets.put ∙ ap (λ zs. zs ++ meets.acts) made.put ∙ append_assoc old.acts xs meets.acts
           ∙ ap (λ zs. old.acts ++ zs) tried;
     }
+halts_after {top} one two xs a ys old mid h new made meets =
+    absurd (never_refused top mid.world (a ∷ ys) (run_from top mid.world (a ∷ ys)) _ meets)
 
 pub last_report-push : (r : Option _) (os : List Outcome) (o : Outcome)
     → last_report r (os ++ o ∷ []) ≡ o.report
@@ -318,8 +313,6 @@ pub attempt_runs : (top : ℕ) (s : State) (one two : Bool) (plan : Option (List
     (os : List Outcome) → attempt top s one two plan ≡ Through acts os
     → Attempted top s one two plan acts os
 attempt_runs top s one two None acts os is = absurd (cc)
-attempt_runs top s true two (Some xs) acts os is = absurd (cc)
-attempt_runs top s false true (Some xs) acts os is = absurd (cc)
 attempt_runs top s false false (Some xs) acts os is =
     let parts = through_runs top s xs acts os is in
     record {
@@ -328,6 +321,7 @@ attempt_runs top s false false (Some xs) acts os is =
       are = ap (λ (zs : List Act). Some zs) parts.1;
       runs = ap (run_from top s) (sym parts.1) ∙ parts.0;
     }
+attempt_runs top s one two plan acts os is = absurd (cc)
 
 -- a call whose turn goes through halts only because memory ran out
 pub only_memory : {top : ℕ} {T : Type 0} (says : T → List Outcome → Type 0) (t : Turn)
@@ -336,10 +330,9 @@ pub only_memory : {top : ℕ} {T : Type 0} (says : T → List Outcome → Type 0
     → t ≡ Through acts os
     → Meets says t old (Err h) new → h ≡ halt.Memory
 only_memory says t acts os old halt.Memory new through meets = refl
-only_memory says t acts os old halt.Uncaused new through meets = absurd (cc)
-only_memory says t acts os old halt.TooWide new through meets = absurd (cc)
 only_memory says t acts os old halt.Stopped new through meets = let stopped = meets.stopped in
     absurd (cc)
+only_memory says t acts os old h new through meets = absurd (cc)
 
 -- what a call did from one construction it did from another with the same world and the same acts
 pub from_same : {top : ℕ} {T : Type 0} (says : T → List Outcome → Type 0) (t : Turn)
@@ -354,9 +347,6 @@ from_same says t mid old (Ok x) new world acts meets = record {
   after = meets.after ∙ ap (λ s. state_after s meets.outcomes) world;
   put = meets.put ∙ ap (λ zs. zs ++ meets.acts) acts;
 }
-from_same says t mid old (Err halt.Memory) new world acts meets = meets
-from_same says t mid old (Err halt.Uncaused) new world acts meets = meets
-from_same says t mid old (Err halt.TooWide) new world acts meets = meets
 from_same says t mid old (Err halt.Stopped) new world acts meets =
     record {
       acts = meets.acts;
@@ -364,3 +354,4 @@ from_same says t mid old (Err halt.Stopped) new world acts meets =
       put =
           meets.put ∙ ap (λ zs. zs ++ meets.acts) acts;
     }
+from_same says t mid old r new world acts meets = meets

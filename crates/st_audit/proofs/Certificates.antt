@@ -127,12 +127,7 @@ judged_fits : (top : ℕ) (streams : List Stream) (acts : List Act) (place : Opt
 judged_fits top streams acts place (finding.Fits xs ps) sure is = tt
 judged_fits top streams acts place (finding.Unfit p i (reason.NotReplayed xs v)) sure is =
     sure (verdict_of v) is.2 is.3
-judged_fits top streams acts place (finding.Unfit p i reason.Uncaused) sure is = is
-judged_fits top streams acts place (finding.Unfit p i reason.TooWide) sure is = is
-judged_fits top streams acts place (finding.Unfit p i reason.PrevNotBefore) sure is = is
-judged_fits top streams acts place (finding.Unfit p i (reason.NotRising j)) sure is = is
-judged_fits top streams acts place (finding.Unfit p i (reason.Repeated q j)) sure is = is
-judged_fits top streams acts place (finding.Unfit p i (reason.Mismatch q j)) sure is = is
+judged_fits top streams acts place f sure is = is
 
 plain_fits : (top : ℕ) (streams : List Stream) (xs : List Item) (found : Finding)
     → IsStreams streams

@@ -1,6 +1,6 @@
 -- Acts move clocks and last counts so: an act other than a reset moves those of its actor alone,
 -- and none that comes before a stamp lets the clock fall.
-use Rattle.std.proofs.Common.{◌≡◌, ℕ, ◌+◌, ◌-◌, ◌≤◌, ◌==◌, ◌&&◌, nat_lt, zero, suc, Bool, true}
+use Rattle.std.proofs.Common.{◌≡◌, ℕ, ◌+◌, ◌-◌, ◌≤◌, ◌&&◌, nat_lt, Bool, true}
 use Rattle.std.proofs.Common.{false, cond, List, [], ◌∷◌, ◌++◌, Option, Some, None, refl, sym, ◌∙◌}
 use Rattle.std.proofs.Common.{ap, subst, arith, if◌then◌else◌}
 use Rattle.std.specs.List.{AllByRecursion}
@@ -11,8 +11,6 @@ use Rattle.st_core.specs.declared.types.Event.{Event}
 use Rattle.st_core.specs.declared.types.Kind.{Kind}
 use Rattle.st_core.specs.declared.types.Act.{Act}
 use Rattle.st_core.specs.declared.types.Act.TheVariants as act
-use Rattle.st_core.specs.declared.types.Label.{Label}
-use Rattle.st_core.specs.declared.types.Flags.{Flags}
 use Rattle.st_core.specs.declared.types.Serial.{Serial}
 use Rattle.st_core.specs.declared.types.Component.TheVariants as component
 use Rattle.st_core.specs.Pid.{pid_eq, node_eq}
@@ -24,9 +22,7 @@ use Rattle.st_core.specs.Step.{Acted, Outcome, acted, actor, reached, changed, p
 use Rattle.st_core.specs.Run.{run_from}
 use Rattle.st_core.proofs.ForCallers.{mapped, process_after, process_pid, run_parts, step_parts}
 use Rattle.st_core.proofs.ForCallers.{pid_eq-refl}
-use Rattle.st_plan.specs.declared.plan.Start.{Start}
-use Rattle.st_plan.specs.Build.{dress, is_dressed, quiet, raise, ready, renew, renewed_start}
-use Rattle.st_plan.specs.Build.{silent_prints, state_after, unstamped_token}
+use Rattle.st_plan.specs.Build.{state_after}
 use Rattle.st_plan.proofs.ForCallers.{is_alone}
 
 -- ONE ACT
@@ -61,13 +57,7 @@ reached_same (act.Tracer p b) t r h =
       | true ↦ record { clocked = refl; lasted = refl }
       | false ↦ record { clocked = refl; lasted = refl }
     ]
-reached_same (act.Receive p w) t r h = record { clocked = refl; lasted = refl }
-reached_same (act.Print p v) t r h = record { clocked = refl; lasted = refl }
-reached_same (act.PrintAt p n v) t r h = record { clocked = refl; lasted = refl }
-reached_same (act.Set p c) t r h = record { clocked = refl; lasted = refl }
-reached_same (act.Clear p) t r h = record { clocked = refl; lasted = refl }
-reached_same (act.Restore p n) t r h = record { clocked = refl; lasted = refl }
-reached_same (act.Look p) t r h = record { clocked = refl; lasted = refl }
+reached_same a t r h = record { clocked = refl; lasted = refl }
 
 both_same : (l m n : LocalState) → HaveSame l m → HaveSame m n → HaveSame l n
 both_same l m n one two =
@@ -236,24 +226,14 @@ alone_rises top p (act.Clear q) r done h is =
 alone_rises top p (act.Restore q t) r done h is =
     let ends = ap (λ (x : Acted). x.local.clock) (same_Some _ done is) in
     omega arith
-alone_rises top p (act.Send q x v) r done h is = absurd h
-alone_rises top p (act.Receive q w) r done h is = absurd h
-alone_rises top p (act.PrintAt q n v) r done h is = absurd h
-alone_rises top p (act.Look q) r done h is = absurd h
-alone_rises top p (act.Reset q) r done h is = absurd h
-alone_rises top p (act.Tracer q b) r done h is = absurd h
+alone_rises top p a r done h is = absurd h
 
 alone_is : (p : Pid) (a : Act) → is_alone p a → (actor a ≡ p) × IsNoReset a
 alone_is p (act.Print q v) h = (sym h, tt)
 alone_is p (act.Set q c) h = (sym h, tt)
 alone_is p (act.Clear q) h = (sym h, tt)
 alone_is p (act.Restore q t) h = (sym h, tt)
-alone_is p (act.Send q x v) h = absurd h
-alone_is p (act.Receive q w) h = absurd h
-alone_is p (act.PrintAt q n v) h = absurd h
-alone_is p (act.Look q) h = absurd h
-alone_is p (act.Reset q) h = absurd h
-alone_is p (act.Tracer q b) h = absurd h
+alone_is p a h = absurd h
 
 -- p was there, with a clock that isn't above
 pub record WasBelow (s : State) (p : Pid) (l : LocalState) : Type 0 where
@@ -327,63 +307,3 @@ all_risen top p s (a ∷ acts) os alone h =
     (then_risen p s t.first.after (state_after t.first.after t.others)
     (alone_risen top p s a t.first alone.0 t.is_first)
     (all_risen top p t.first.after acts t.others alone.1 t.is_rest))
-
--- THE ACTS THAT BRING p TO A STAMP ARE ITS OWN
-
-all_both : (p : Pid) (xs ys : List Act) → AllByRecursion (is_alone p) xs
-    → AllByRecursion (is_alone p) ys
-    → AllByRecursion (is_alone p) (xs ++ ys)
-all_both p [] ys one two = two
-all_both p (x ∷ xs) ys one two = (one.0, all_both p xs ys one.1 two)
-
-module _ (p : Pid) where
-  dress_alone : (token : Option Token) (n : Label) (f : Flags)
-      → AllByRecursion (is_alone p) (dress p token n f)
-  dress_alone token n f = elim (is_dressed n f token) as (λ b. AllByRecursion (is_alone p)
-      (cond b [] (act.Restore p (unstamped_token p n f) ∷ []))) [ true ↦ tt | false ↦ (refl, tt) ]
-
-  silent_alone : (n : ℕ) → AllByRecursion (is_alone p) (silent_prints p n)
-  silent_alone zero = tt
-  silent_alone (suc n) = (refl, silent_alone n)
-
-  brought_alone : (token : Option Token) (n : Label) (count : ℕ) (rest : List Act)
-      → AllByRecursion (is_alone p) rest
-      → AllByRecursion (is_alone p) (dress p token n quiet ++ (silent_prints p count ++ rest))
-  brought_alone token n count rest h =
-      all_both p (dress p token n quiet) (silent_prints p count ++ rest) (dress_alone token n quiet)
-      (all_both p (silent_prints p count) rest (silent_alone count) h)
-
-  raise_alone : (x : Start) (n : Label) (count : ℕ) (f : Flags)
-      → AllByRecursion (is_alone p) (raise p x n count f)
-  raise_alone x n count f = elim (nat_lt x.clock count) as (λ b. AllByRecursion (is_alone p)
-      (cond b (dress p x.token n quiet
-      ++ (silent_prints p (count - x.clock) ++ dress p (Some (unstamped_token p n quiet)) n f))
-      (dress p x.token n f))) [
-        | true ↦ brought_alone x.token n (count - x.clock)
-            (dress p (Some (unstamped_token p n quiet)) n f)
-            (dress_alone (Some (unstamped_token p n quiet)) n f)
-        | false ↦ dress_alone x.token n f
-      ]
-
-  renew_alone : (x : Start) (n : Label) (prev : ℕ) → AllByRecursion (is_alone p) (renew p x n prev)
-  renew_alone x n prev =
-      let end = act.Clear p ∷ act.Set p (component.Label n) ∷ [] in
-      elim (nat_lt x.clock prev) as (λ b. AllByRecursion (is_alone p)
-      (cond b (dress p x.token n quiet ++ silent_prints p (prev - x.clock)) [] ++ end)) [
-        | true ↦ all_both p (dress p x.token n quiet ++ silent_prints p (prev - x.clock)) end
-            (all_both p (dress p x.token n quiet) (silent_prints p (prev - x.clock))
-            (dress_alone x.token n quiet)
-            (silent_alone (prev - x.clock))) (refl, (refl, tt))
-        | false ↦ (refl, (refl, tt))
-      ]
-
-  pub ready_alone : (x : Start) (n : Label) (s : Serial) (f : Flags)
-      → AllByRecursion (is_alone p) (ready p x n s f)
-  ready_alone x n s f = elim (s.prev == x.last) as (λ b. AllByRecursion (is_alone p)
-      (cond b (raise p x n (s.this - 1) f)
-      (renew p x n s.prev ++ raise p (renewed_start p x n s.prev) n (s.this - 1) f))) [
-        | true ↦ raise_alone x n (s.this - 1) f
-        | false ↦ all_both p (renew p x n s.prev)
-            (raise p (renewed_start p x n s.prev) n (s.this - 1) f)
-            (renew_alone x n s.prev) (raise_alone (renewed_start p x n s.prev) n (s.this - 1) f)
-      ]

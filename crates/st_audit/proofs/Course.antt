@@ -152,11 +152,9 @@ module _ (top : ℕ) (streams : List Stream) (rising : IsRising (pids_of streams
 
 pub last_at : (o : Option Item) (xs : List Item) (k : ℕ) (d : Item) → length xs ≡ suc k
     → last_or o xs ≡ Some (get_or xs k d)
-last_at o [] k d h = absurd (omega arith)
 last_at o (x ∷ []) zero d h = refl
-last_at o (x ∷ []) (suc k) d h = absurd (omega arith)
-last_at o (x ∷ y ∷ xs) zero d h = absurd (omega arith)
 last_at o (x ∷ y ∷ xs) (suc k) d h = last_at (Some x) (y ∷ xs) k d (omega arith)
+last_at o xs k d h = absurd (omega arith)
 
 pub course_ends : (top : ℕ) (streams : List Stream) (xs : List Item) (n : ℕ) (d : Item) (s : State)
     (acts : List Act)

@@ -22,14 +22,7 @@ module _ (top : ℕ) (streams : List Stream) where
       → unfit_by f ≡ Some found
       → IsAudit top streams found
   refused_audit fault.Memory found why is = absurd (none-some found is)
-  refused_audit (fault.PrevNotBefore p i) found why is =
-      subst (λ o. IsFoundBy top streams o found) (sym why) is
-  refused_audit (fault.NotRising p i j) found why is =
-      subst (λ o. IsFoundBy top streams o found) (sym why) is
-  refused_audit (fault.Repeated p i q j) found why is =
-      subst (λ o. IsFoundBy top streams o found) (sym why) is
-  refused_audit (fault.Mismatch p i q j) found why is =
-      subst (λ o. IsFoundBy top streams o found) (sym why) is
+  refused_audit f found why is = subst (λ o. IsFoundBy top streams o found) (sym why) is
 
   -- and so it is pairing's reason that is found of them
   pub hands_on : (found : Finding) → IsAudit top streams found → HandsOn streams found

@@ -14,15 +14,12 @@ use Rattle.st_audit.specs.Findings.{fault_of, IsFinding}
 -- what is found by pairing's reason is why it refuses the streams
 refused_by : (top : ℕ) (streams : List Stream) (found : Finding) → IsFinding top streams found
     → ForSome (fault_of found) (λ f. refusal streams ≡ Some f)
-refused_by top streams (finding.Unfit p i reason.PrevNotBefore) is f e = is.1 ∙ e
-refused_by top streams (finding.Unfit p i (reason.NotRising j)) is f e = is.1 ∙ e
-refused_by top streams (finding.Unfit p i (reason.Repeated q j)) is f e = is.1 ∙ e
-refused_by top streams (finding.Unfit p i (reason.Mismatch q j)) is f e = is.1 ∙ e
 refused_by top streams (finding.Unfit p i reason.Uncaused) is f e = absurd (none-some f e)
 refused_by top streams (finding.Unfit p i reason.TooWide) is f e = absurd (none-some f e)
 refused_by top streams (finding.Unfit p i (reason.NotReplayed acts v)) is f e =
     absurd (none-some f e)
 refused_by top streams (finding.Fits acts pairs) is f e = absurd (none-some f e)
+refused_by top streams found is f e = is.1 ∙ e
 
 -- so what the reason rules out is ruled out
 pub finding_rules_out : (top : ℕ) (streams : List Stream) (found : Finding)

@@ -69,13 +69,7 @@ module _ (top wide : ℕ) (wider : top ≤ wide) where
             (λ m. stamp_wider r.pid r.local m) h
         | false ↦ λ h. h
       ] h
-  acted_wider r (act.Receive p w) done h = h
-  acted_wider r (act.Set p c) done h = h
-  acted_wider r (act.Clear p) done h = h
-  acted_wider r (act.Restore p t) done h = h
-  acted_wider r (act.Look p) done h = h
-  acted_wider r (act.Reset p) done h = h
-  acted_wider r (act.Tracer p b) done h = h
+  acted_wider r a done h = h
 
   step_wider : (s : State) (a : Act) (o : Outcome) → step top s a ≡ Some o → step wide s a ≡ Some o
   step_wider s a o h =

@@ -1,13 +1,13 @@
 -- The outcome of a stamp, of a report and of an item is that of its move: the state's counts give
 -- the same reasons as the moves do, and a report is the event exactly if it is shown.
-use Rattle.std.proofs.Common.{◌≡◌, ℕ, ◌+◌, ◌-◌, ◌≤◌, ◌==◌, ◌&&◌, ◌||◌, nat_lt, zero, suc, Bool}
+use Rattle.std.proofs.Common.{◌≡◌, ℕ, ◌+◌, ◌-◌, ◌≤◌, ◌==◌, ◌&&◌, ◌||◌, nat_lt, suc, Bool}
 use Rattle.std.proofs.Common.{true, false, not, cond}
 use Rattle.std.proofs.Common.{List, [], ◌∷◌, ◌++◌, take, length, Option, Some, None, option_map}
 use Rattle.std.proofs.Common.{Result, Ok, Err, refl, sym, ◌∙◌, ap, subst, arith}
 use Rattle.std.specs.Option.{option_eq, option_map_or}
 use Rattle.std.specs.Result.{IsErrAnd}
-use Rattle.std.proofs.lemmas.Bool.{eqb-true, eq-eqb}
-use Rattle.std.proofs.lemmas.List.{append-nil, length-reverse}
+use Rattle.std.proofs.lemmas.Bool.{eq-eqb, ne_eqb}
+use Rattle.std.proofs.lemmas.List.{append-nil, length-reverse, length-take}
 use Rattle.std.proofs.lemmas.Option.{none-some, same_Some}
 use Rattle.st_core.specs.declared.types.Pid.{Pid}
 use Rattle.st_core.specs.declared.types.Event.{Event}
@@ -27,7 +27,7 @@ use Rattle.st_order.specs.declared.item.Item.TheVariants as item
 use Rattle.st_order.specs.Items.{event_of}
 use Rattle.st_plan.specs.declared.plan.Start.{Start}
 use Rattle.st_plan.specs.Marks.{all_told, Marks}
-use Rattle.st_plan.specs.Moves.{Move, clock, earlier_of, is_taking, last, move_by, moves, skips}
+use Rattle.st_plan.specs.Moves.{Move, clock, earlier_of, is_taking, move_by, moves, skips}
 use Rattle.st_plan.specs.Plain.{event_count, out_of_turn}
 use Rattle.st_plan.specs.Reasons.{most_skipped, most_skipped_in_all, too_wide, uncaused}
 use Rattle.st_plan.specs.Build.{ready, start_of}
@@ -36,7 +36,7 @@ use Rattle.st_audit.specs.declared.construction.Construction.{Construction}
 use Rattle.st_audit.specs.declared.construction.Halt.{Halt}
 use Rattle.st_audit.specs.declared.construction.Halt.TheVariants as halt
 use Rattle.st_audit.specs.Construction.{acts_from, attempt, compared_turn, is_shown, last_report}
-use Rattle.st_audit.specs.Construction.{turn, Turn, Through, Stopped, Refused}
+use Rattle.st_audit.specs.Construction.{turn, Turn, Through, Stopped}
 use Rattle.st_audit.specs.Progress.{if_told, is_below, is_high, is_marked, is_too_wide, is_uncaused}
 use Rattle.st_audit.specs.Progress.{item_turn, marked_turn, missing_count, move_turn, report_turn}
 use Rattle.st_audit.specs.Progress.{stamp_skip, stamp_turn, test_at, IsSoFar, Meets, SaysNothing}
@@ -93,12 +93,6 @@ stamp_skip_is s p e start is =
 
 -- A REPORT
 
-not_equal : (n i : ℕ) → (n ≡ i → ⊥) → (n == i) ≡ false
-not_equal n i apart = elim (n == i) as (λ b. (n == i) ≡ b → b ≡ false) [
-  | true ↦ λ h. absurd (apart (eqb-true n i h))
-  | false ↦ λ h. refl
-] refl
-
 pub report_same : (r o : Option Event) → option_eq event_eq r o ≡ true → r ≡ o
 report_same None None h = refl
 report_same None (Some e) h = absurd (cc)
@@ -120,12 +114,10 @@ other_report r o other =
     ] refl
 
 tries_marked : (marks : Marks) (m : Move) (t : Turn) → TriesAct t → TriesAct (marked_turn marks m t)
-tries_marked marks m (Through [] os) h = absurd h
 tries_marked marks m (Through (a ∷ acts) os) h = elim (is_marked marks m os) as
     (λ b. TriesAct (cond b (Through (a ∷ acts) os) (Stopped (a ∷ acts)))) [ true ↦ tt | false ↦ tt ]
-tries_marked marks m (Stopped []) h = absurd h
 tries_marked marks m (Stopped (a ∷ acts)) h = tt
-tries_marked marks m (Refused r) h = absurd h
+tries_marked marks m t h = absurd h
 
 -- a turn that goes no way on, marked
 marked_err : {top : ℕ} {T U : Type 0} (one : T → List Outcome → Type 0)
@@ -134,10 +126,9 @@ marked_err : {top : ℕ} {T U : Type 0} (one : T → List Outcome → Type 0)
     (new : Construction top)
     → Meets one t old (Err h) new → Meets two (marked_turn marks m t) old (Err h) new
 marked_err one two marks m t old halt.Memory new meets = tries_marked marks m t meets
-marked_err one two marks m t old halt.Uncaused new meets = ap (marked_turn marks m) meets
-marked_err one two marks m t old halt.TooWide new meets = ap (marked_turn marks m) meets
 marked_err one two marks m t old halt.Stopped new meets =
     record { acts = meets.acts; stopped = ap (marked_turn marks m) meets.stopped; put = meets.put }
+marked_err one two marks m t old h new meets = ap (marked_turn marks m) meets
 
 module _ {top : ℕ} (streams : List Stream) (marks : Marks) (old : Construction top) (n : ℕ)
     (p : Pid) (i : ℕ)
@@ -158,7 +149,7 @@ module _ {top : ℕ} (streams : List Stream) (marks : Marks) (old : Construction
     acts = [];
     stopped =
         ap (λ b. cond (not b) (Stopped []) (cond (is_high marks old.world move) (Stopped []) tried))
-        (not_equal n i apart);
+        (ne_eqb n i apart);
     put = same ∙ sym (append-nil old.acts);
   }
 
@@ -246,19 +237,13 @@ moves_most streams (x ∷ xs) =
       | Some e ↦ omega arith
     ]
 
-take_most : (xs : List Item) (n : ℕ) → length (take n xs) ≤ n
-take_most [] zero = omega arith
-take_most [] (suc n) = omega arith
-take_most (x ∷ xs) zero = omega arith
-take_most (x ∷ xs) (suc n) = let rest = take_most xs n in omega arith
-
 pub told_below : (streams : List Stream) (p : Pid) (xs : List Item) (n : ℕ)
     → event_count p (earlier_of streams (take n xs)) ≤ n
 told_below streams p xs n =
     let one = told_most p (earlier_of streams (take n xs)) in
     let two = length-reverse (moves streams (take n xs)) in
     let three = moves_most streams (take n xs) in
-    let four = take_most xs n in
+    let four = length-take n xs in
     omega arith
 
 module _ {top : ℕ} (streams : List Stream) (marks : Marks) (earlier : List Move)
@@ -270,11 +255,7 @@ module _ {top : ℕ} (streams : List Stream) (marks : Marks) (earlier : List Mov
   same_uncaused r at =
       let was = so.counted m.who r at in
       let prev = m.event.serial.prev in
-      ap (λ o. not (is_taking m)
-      && option_map_or (λ (r : Process). is_uncaused (start_of r.local) m.event.serial) o false) at
-      ∙ ap (λ k. not (is_taking m) && (not (prev == k) && nat_lt prev r.local.clock)) was.lasted
-      ∙ ap (λ k. not (is_taking m) && (not (prev == last m.who earlier) && nat_lt prev k))
-      was.clocked
+      rw (at, was.lasted, was.clocked) refl
 
   same_too_wide : (r : Process) → process c.world m.who ≡ Some r
       → (not (is_taking m) && test_at (λ x. is_too_wide c.skipped (missing_count x m.event.serial))
@@ -328,8 +309,7 @@ report_turn_is streams marks earlier c so p i e =
 marked_hidden : (marks : Marks) (p : Pid) (i : ℕ) (e : Event) (t : Turn)
     → t ≡ marked_turn marks (move_by (item.Hidden p i) e) t
 marked_hidden marks p i e (Through acts os) = refl
-marked_hidden marks p i e (Stopped acts) = refl
-marked_hidden marks p i e (Refused r) = refl
+marked_hidden marks p i e t = refl
 
 -- and so it is for a hidden send
 pub hidden_turn_is : {top : ℕ} (streams : List Stream) (marks : Marks) (earlier : List Move)
@@ -376,5 +356,4 @@ all_told_turn {top} streams c earlier m =
     marked_as : (t : Turn) → marked_turn all_told m t ≡ compared_turn m t
     marked_as (Through acts os) =
         ap (λ b. cond b (Through acts os) (Stopped acts)) (marked_shown m os)
-    marked_as (Stopped acts) = refl
-    marked_as (Refused r) = refl
+    marked_as t = refl

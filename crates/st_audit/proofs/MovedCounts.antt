@@ -12,6 +12,7 @@ use Rattle.st_core.specs.declared.types.Token.{Token}
 use Rattle.st_core.specs.declared.types.Event.{Event}
 use Rattle.st_core.specs.declared.types.Flags.{Flags}
 use Rattle.st_core.specs.declared.types.Serial.{Serial}
+use Rattle.st_core.specs.declared.types.Kind.{Kind}
 use Rattle.st_core.specs.declared.types.Kind.TheVariants as kind
 use Rattle.st_core.specs.declared.types.Message.{Message}
 use Rattle.st_core.specs.declared.types.Act.{Act}
@@ -22,6 +23,7 @@ use Rattle.st_core.specs.State.{LocalState, Process, State, process}
 use Rattle.st_core.specs.Stamp.{stamp_any}
 use Rattle.st_core.specs.Local.{received}
 use Rattle.st_core.specs.Pick.{pick}
+use Rattle.st_core.specs.Report.{report}
 use Rattle.st_core.specs.Step.{Acted, Outcome, acted, actor, prints, receives, sends, step}
 use Rattle.st_core.specs.Run.{run_from}
 use Rattle.st_core.proofs.ForCallers.{mapped}
@@ -30,8 +32,8 @@ use Rattle.st_world.specs.World.{place_in}
 use Rattle.st_plan.specs.Build.{ready, start_of, state_after}
 use Rattle.st_audit.specs.Progress.{is_uncaused}
 use Rattle.st_audit.proofs.Counts.{IsNoReset, IsTold, WasActor, WasSame, actor_same, all_risen}
-use Rattle.st_audit.proofs.Counts.{others_same, ready_alone, stamp_some, stamp_told, was_same}
-use Rattle.st_plan.proofs.ForCallers.{lifted, is_ready, pick_at}
+use Rattle.st_audit.proofs.Counts.{others_same, stamp_some, stamp_told, was_same}
+use Rattle.st_plan.proofs.ForCallers.{is_alone, is_ready, lifted, pick_at, ready_all}
 use Rattle.st_audit.proofs.GreaterClocks.{run_wider}
 
 -- between these states q's counts became those of this serial, and no others moved
@@ -68,38 +70,45 @@ pub record Stamps (top : ℕ) (old : State) (p : Pid) (e : Event) (end : Outcome
 stamp_is : (p : Pid) (a : Act) → IsStampOf p a → (actor a ≡ p) × IsNoReset a
 stamp_is p (act.Send q x v) h = (sym h, tt)
 stamp_is p (act.Print q v) h = (sym h, tt)
-stamp_is p (act.Receive q w) h = absurd h
-stamp_is p (act.PrintAt q n v) h = absurd h
-stamp_is p (act.Set q c) h = absurd h
-stamp_is p (act.Clear q) h = absurd h
-stamp_is p (act.Restore q t) h = absurd h
-stamp_is p (act.Look q) h = absurd h
-stamp_is p (act.Reset q) h = absurd h
-stamp_is p (act.Tracer q b) h = absurd h
+stamp_is p a h = absurd h
+
+-- what the stamp of its process's made of it and told
+record WasStamped (top : ℕ) (r : Process) (done : Acted) : Type 0 where
+  kind : Kind
+  to : Option Pid
+  value : ℕ
+  local : stamp_any top r.pid r.local ≡ Some done.local
+  report : done.report ≡ report r.local.traced kind done.local.token to value
+
+was_stamped : (top : ℕ) (p : Pid) (a : Act) (r : Process) (done : Acted) → IsStampOf p a
+    → acted top r a ≡ Some done → WasStamped top r done
+was_stamped top p (act.Send q x v) r done h is =
+    let parts = mapped (sends r x v) (stamp_any top r.pid r.local) done is in
+    subst (WasStamped top r) parts.2 (record {
+      kind = kind.Send;
+      to = Some x;
+      value = v;
+      local = parts.1;
+      report = refl;
+    })
+was_stamped top p (act.Print q v) r done h is =
+    let parts = mapped (prints r v) (stamp_any top r.pid r.local) done is in
+    subst (WasStamped top r) parts.2 (record {
+      kind = kind.Print;
+      to = None;
+      value = v;
+      local = parts.1;
+      report = refl;
+    })
+was_stamped top p a r done h is = absurd h
 
 -- it was reported
 acted_told : (top : ℕ) (p : Pid) (a : Act) (r : Process) (done : Acted) (e : Event) → IsStampOf p a
     → acted top r a ≡ Some done → done.report ≡ Some e → IsTold r.local done.local e
-acted_told top p (act.Send q x v) r done e h is told =
-    let parts = mapped (sends r x v) (stamp_any top r.pid r.local) done is in
-    let m = parts.0 in
-    let part = stamp_told top r.pid r.local m r.local.traced kind.Send (Some x) v e parts.1
-    (ap (λ (d : Acted). d.report) parts.2 ∙ told) in
-    subst (λ (d : Acted). IsTold r.local d.local e) parts.2 part
-acted_told top p (act.Print q v) r done e h is told =
-    let parts = mapped (prints r v) (stamp_any top r.pid r.local) done is in
-    let m = parts.0 in
-    let part = stamp_told top r.pid r.local m r.local.traced kind.Print None v e parts.1
-    (ap (λ (d : Acted). d.report) parts.2 ∙ told) in
-    subst (λ (d : Acted). IsTold r.local d.local e) parts.2 part
-acted_told top p (act.Receive q w) r done e h is told = absurd h
-acted_told top p (act.PrintAt q n v) r done e h is told = absurd h
-acted_told top p (act.Set q c) r done e h is told = absurd h
-acted_told top p (act.Clear q) r done e h is told = absurd h
-acted_told top p (act.Restore q t) r done e h is told = absurd h
-acted_told top p (act.Look q) r done e h is told = absurd h
-acted_told top p (act.Reset q) r done e h is told = absurd h
-acted_told top p (act.Tracer q b) r done e h is told = absurd h
+acted_told top p a r done e h is told =
+    let w = was_stamped top p a r done h is in
+    stamp_told top r.pid r.local done.local r.local.traced w.kind w.to w.value e w.local
+    (sym w.report ∙ told)
 
 -- the process had a token
 record HasStamped (l m : LocalState) : Type 0 where
@@ -108,32 +117,13 @@ record HasStamped (l m : LocalState) : Type 0 where
 
 acted_some : (top : ℕ) (p : Pid) (a : Act) (r : Process) (done : Acted) (t : Token) → IsStampOf p a
     → acted top r a ≡ Some done → r.local.token ≡ Some t → HasStamped r.local done.local
-acted_some top p (act.Send q x v) r done t h is some =
-    let parts = mapped (sends r x v) (stamp_any top r.pid r.local) done is in
-    let same = stamp_some top r.pid r.local parts.0 t some parts.1 in
-    subst (λ (d : Acted). HasStamped r.local d.local) parts.2
-    (record {
+acted_some top p a r done t h is some =
+    let w = was_stamped top p a r done h is in
+    let same = stamp_some top r.pid r.local done.local t some w.local in
+    record {
       clocked = ap (λ (l : LocalState). l.clock) same;
-      lasted =
-          ap (λ (l : LocalState). l.last) same;
-    })
-acted_some top p (act.Print q v) r done t h is some =
-    let parts = mapped (prints r v) (stamp_any top r.pid r.local) done is in
-    let same = stamp_some top r.pid r.local parts.0 t some parts.1 in
-    subst (λ (d : Acted). HasStamped r.local d.local) parts.2
-    (record {
-      clocked = ap (λ (l : LocalState). l.clock) same;
-      lasted =
-          ap (λ (l : LocalState). l.last) same;
-    })
-acted_some top p (act.Receive q w) r done t h is some = absurd h
-acted_some top p (act.PrintAt q n v) r done t h is some = absurd h
-acted_some top p (act.Set q c) r done t h is some = absurd h
-acted_some top p (act.Clear q) r done t h is some = absurd h
-acted_some top p (act.Restore q n) r done t h is some = absurd h
-acted_some top p (act.Look q) r done t h is some = absurd h
-acted_some top p (act.Reset q) r done t h is some = absurd h
-acted_some top p (act.Tracer q b) r done t h is some = absurd h
+      lasted = ap (λ (l : LocalState). l.last) same;
+    }
 
 -- WHERE THE STAMP IS REPORTED
 
@@ -144,7 +134,8 @@ reported_moves top old p e end x report =
     let acts = ready p (start_of x.before.local) e.label e.serial x.flags in
     let between = state_after old x.outcomes in
     let risen = all_risen top p old acts x.outcomes
-    (ready_alone p (start_of x.before.local) e.label e.serial x.flags)
+    (ready_all (is_alone p) p (λ t. refl) refl refl (λ n. refl) (start_of x.before.local) e.label
+    e.serial x.flags)
     x.runs in
     let by = stamp_is p x.stamp x.stamps in
     let was : (r : Process) → process end.after p ≡ Some r

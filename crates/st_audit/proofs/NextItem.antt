@@ -19,7 +19,7 @@ use Rattle.st_core.specs.Pid.{pid_eq, IsRising}
 use Rattle.st_core.specs.State.{LocalState, Process, State, process}
 use Rattle.st_core.specs.Step.{Outcome}
 use Rattle.st_core.specs.Run.{Stream, pids_of, run_from}
-use Rattle.st_core.proofs.ForCallers.{pid_eq-swap, pid_same, run_parts}
+use Rattle.st_core.proofs.ForCallers.{not_false, pid_eq-swap, pid_same, run_parts}
 use Rattle.st_pair.specs.Pairing.{refusal}
 use Rattle.st_pair.specs.Places.{is_stamp}
 use Rattle.st_pair.proofs.ForCallers.{paired, serial_rises}
@@ -35,7 +35,7 @@ use Rattle.st_plan.specs.Build.{acts_of, flags_of, ready, start_of, state_after}
 use Rattle.st_plan.proofs.ForCallers.{earlier_more, hidden_clock, state_append}
 use Rattle.st_audit.specs.declared.construction.Construction.{Construction}
 use Rattle.st_audit.specs.declared.construction.Halt.{Halt}
-use Rattle.st_audit.specs.Construction.{acts_from, last_report, Turn, Through, Stopped, Refused}
+use Rattle.st_audit.specs.Construction.{acts_from, last_report, Turn, Through, Stopped}
 use Rattle.st_audit.specs.Progress.{if_told, is_below, is_high, is_marked, is_uncaused, item_turn}
 use Rattle.st_audit.specs.Progress.{marked_turn, missing_count, move_skip, AreAllCounted, AreTold}
 use Rattle.st_audit.specs.Progress.{IsCounted, IsSoFar, SaysNothing, Meets, WentThrough}
@@ -55,34 +55,25 @@ counted_next : (earlier : List Move) (m : Move) (old new : State) → AreAllCoun
     → HasMoved m.who m.event.serial (count_of m) old new → AreAllCounted (m ∷ earlier) new
 counted_next earlier m old new counted moved x r h =
     let this = m.event.serial.this in
-    elim (pid_eq m.who x) as (λ b. pid_eq m.who x ≡ b
-    → (r.local.clock ≡ cond b (max (clock x earlier) this) (clock x earlier))
-    × (r.local.last ≡ cond b (count_of m) (last x earlier)) → IsCounted (m ∷ earlier) x r.local) [
-      | true ↦ λ e both. record {
-        clocked = both.0 ∙ ap (λ b. cond b (max (clock x earlier) this) (clock x earlier)) (sym e);
-        lasted = both.1 ∙ ap (λ b. cond b (count_of m) (last x earlier)) (sym e);
-      }
-      | false ↦ λ e both. record {
-        clocked = both.0 ∙ ap (λ b. cond b (max (clock x earlier) this) (clock x earlier)) (sym e);
-        lasted = both.1 ∙ ap (λ b. cond b (count_of m) (last x earlier)) (sym e);
-      }
-    ] refl (elim (pid_eq m.who x) as (λ b. pid_eq m.who x ≡ b
-    → (r.local.clock ≡ cond b (max (clock x earlier) this) (clock x earlier))
-    × (r.local.last ≡ cond b (count_of m) (last x earlier))) [
+    elim (pid_eq m.who x) as (λ b. pid_eq m.who x ≡ b → IsCounted (m ∷ earlier) x r.local) [
       | true ↦ λ e.
           let who = pid_same m.who x e in
           let own : process new m.who ≡ Some r = ap (process new) who ∙ h in
           let z = moved.before r own in
-          let was = counted m.who z (moved.is_before r own) in (
-            moved.clocked r own ∙ ap (λ c. max c this)
-                (was.clocked ∙ ap (λ p. clock p earlier) who),
-            moved.lasted r own,
-          )
+          let was = counted m.who z (moved.is_before r own) in
+          record {
+            clocked = rw e (moved.clocked r own ∙ ap (λ c. max c this)
+                (was.clocked ∙ ap (λ p. clock p earlier) who));
+            lasted = rw e (moved.lasted r own);
+          }
       | false ↦ λ e.
           let was = moved.others x r (pid_eq-swap x m.who ∙ e) h in
           let so = counted x was.before was.is_before in
-          (was.same.clocked ∙ so.clocked, was.same.lasted ∙ so.lasted)
-    ] refl)
+          record {
+            clocked = rw e (was.same.clocked ∙ so.clocked);
+            lasted = rw e (was.same.lasted ∙ so.lasted);
+          }
+    ] refl
 
 -- the counts of its process are those that its moves say
 pub caused_as : (earlier : List Move) (m : Move) (l : LocalState) → IsCounted earlier m.who l
@@ -120,8 +111,7 @@ marked_runs marks m (Through xs ps) acts os is =
       | true ↦ λ e is. (is, ap (is_marked marks m) (sym (same_Some ps os (ap outcomes_in is))) ∙ e)
       | false ↦ λ e is. absurd (cc)
     ] refl is
-marked_runs marks m (Stopped xs) acts os is = absurd (cc)
-marked_runs marks m (Refused r) acts os is = absurd (cc)
+marked_runs marks m t acts os is = absurd (cc)
 
 -- no reason held of it, and its acts ran and reported what they had to
 record ItemRuns {top : ℕ} (streams : List Stream) (marks : Marks) (c : Construction top)
@@ -198,10 +188,6 @@ module _ (top : ℕ) (s : State) (p : Pid) (e : Event) (rises : e.serial.prev < 
   low_moved below =
       subst (HasMoved p e.serial e.serial.prev s) leads
       (hidden_moves top s p e end.end stamps rises below)
-
-not_false : (b : Bool) → not b ≡ false → b ≡ true
-not_false true h = refl
-not_false false h = absurd (cc)
 
 module _ {top : ℕ} (streams : List Stream) (marks : Marks) (c : Construction top)
     (earlier : List Move)

@@ -28,9 +28,7 @@ told_of (verdicts.Yes ps) = told.Yes ps
 
 told_again : (v : Verdict) → told_of (verdict_of v) ≡ v
 told_again (told.Stuck n) = refl
-told_again (told.Differs n) = refl
-told_again (told.Left p) = refl
-told_again (told.Yes ps) = refl
+told_again v = refl
 
 abbrev pairs_in : verdicts.Verdict → List (ℕ × ℕ)
 pairs_in (verdicts.Yes ps) = ps
@@ -62,34 +60,9 @@ module _ (top : ℕ) (streams : List Stream) where
       ∙ told_again w in
       ap (λ at. unfit at xs v) places ∙ ap (λ zs. unfit (q, j) zs v) (a.0 ∙ sym b.0)
       ∙ ap (unfit (q, j) ys) verdicts
-  judged_once acts end (finding.Fits xs ps) (finding.Unfit q j reason.PrevNotBefore) a b = absurd b
-  judged_once acts end (finding.Fits xs ps) (finding.Unfit q j (reason.NotRising k)) a b = absurd b
-  judged_once acts end (finding.Fits xs ps) (finding.Unfit q j (reason.Repeated r k)) a b = absurd b
-  judged_once acts end (finding.Fits xs ps) (finding.Unfit q j (reason.Mismatch r k)) a b = absurd b
-  judged_once acts end (finding.Fits xs ps) (finding.Unfit q j reason.Uncaused) a b = absurd b
-  judged_once acts end (finding.Fits xs ps) (finding.Unfit q j reason.TooWide) a b = absurd b
-  judged_once acts end (finding.Unfit p i (reason.NotReplayed xs v))
-      (finding.Unfit q j reason.PrevNotBefore) a b =
-      absurd b
-  judged_once acts end (finding.Unfit p i (reason.NotReplayed xs v))
-      (finding.Unfit q j (reason.NotRising k)) a b =
-      absurd b
-  judged_once acts end (finding.Unfit p i (reason.NotReplayed xs v))
-      (finding.Unfit q j (reason.Repeated r k)) a b =
-      absurd b
-  judged_once acts end (finding.Unfit p i (reason.NotReplayed xs v))
-      (finding.Unfit q j (reason.Mismatch r k)) a b =
-      absurd b
-  judged_once acts end (finding.Unfit p i (reason.NotReplayed xs v))
-      (finding.Unfit q j reason.Uncaused) a b = absurd b
-  judged_once acts end (finding.Unfit p i (reason.NotReplayed xs v))
-      (finding.Unfit q j reason.TooWide) a b = absurd b
-  judged_once acts end (finding.Unfit p i reason.PrevNotBefore) other a b = absurd a
-  judged_once acts end (finding.Unfit p i (reason.NotRising k)) other a b = absurd a
-  judged_once acts end (finding.Unfit p i (reason.Repeated r k)) other a b = absurd a
-  judged_once acts end (finding.Unfit p i (reason.Mismatch r k)) other a b = absurd a
-  judged_once acts end (finding.Unfit p i reason.Uncaused) other a b = absurd a
-  judged_once acts end (finding.Unfit p i reason.TooWide) other a b = absurd a
+  judged_once acts end (finding.Fits xs ps) other a b = absurd b
+  judged_once acts end (finding.Unfit p i (reason.NotReplayed xs v)) other a b = absurd b
+  judged_once acts end one other a b = absurd a
 
   found_once : (end : End) (one other : Finding) → IsFoundAt top streams end one
       → IsFoundAt top streams end other

@@ -1,6 +1,6 @@
 -- In plain streams no reason holds of an item, its acts run, and the last of them reports its event
 -- exactly if it is told: so the item goes through.
-use Rattle.std.proofs.Common.{◌≡◌, ℕ, ◌+◌, ◌<◌, ◌&&◌, nat_lt, suc, Bool, true, false, not, cond}
+use Rattle.std.proofs.Common.{◌≡◌, ℕ, ◌+◌, ◌<◌, ◌&&◌, nat_lt, suc, true, false, not, cond}
 use Rattle.std.proofs.Common.{List, [], ◌∷◌, ◌++◌, reverse, take, drop, Option, Some, None, Err}
 use Rattle.std.proofs.Common.{option_and_then, option_to_list, length, slice_get, get_or, refl, sym}
 use Rattle.std.proofs.Common.{◌∙◌, ap, arith}
@@ -19,20 +19,20 @@ use Rattle.st_core.specs.State.{Process, State}
 use Rattle.st_core.specs.Step.{actor, Outcome}
 use Rattle.st_core.specs.Run.{Stream, run_from, stream}
 use Rattle.st_core.specs.Streams.{IsStreams}
-use Rattle.st_core.proofs.ForCallers.{pid_eq-refl}
+use Rattle.st_core.proofs.ForCallers.{and_false, pid_eq-refl}
 use Rattle.st_pair.specs.Pairing.{refusal}
 use Rattle.st_pair.specs.Places.{is_stamp}
 use Rattle.st_pair.proofs.ForCallers.{paired, serial_rises}
 use Rattle.st_order.specs.declared.item.Item.{Item}
 use Rattle.st_order.specs.declared.item.Item.TheVariants as item
-use Rattle.st_order.specs.Items.{event_of, item_place}
+use Rattle.st_order.specs.Items.{event_of}
 use Rattle.st_order.specs.Order.{IsOrder}
 use Rattle.st_plan.specs.Build.{acts_of, flags_of, ready, start_of, state_after, GoesOn}
 use Rattle.st_plan.specs.Marks.{Marks}
 use Rattle.st_plan.specs.Moves.{Move, clock, earlier_of, is_taking, move_by, moves}
 use Rattle.st_plan.specs.Plain.{IsPlain}
 use Rattle.st_plan.specs.Reasons.{too_wide, uncaused}
-use Rattle.st_plan.proofs.ForCallers.{caused_at, stream_append, IsKept}
+use Rattle.st_plan.proofs.ForCallers.{caused_at, holds_not, stream_append, IsKept}
 use Rattle.st_audit.specs.declared.construction.Construction.{Construction}
 use Rattle.st_audit.specs.declared.construction.Halt.{Halt}
 use Rattle.st_audit.specs.declared.construction.Halt.TheVariants as halt
@@ -115,10 +115,6 @@ module _ (top : ℕ) (streams : List Stream) (marks : Marks) (s : State) (past :
       (record { clocked = so.clocked; lasted = so.lasted }) (ap not stamps) h) e.kind refl in
       same_report (last_report None g.outcomes) (if_told (marks p i) e) shows
 
-  nor_that : (b : Bool) → (b && false) ≡ false
-  nor_that true = refl
-  nor_that false = refl
-
   -- the clock before a stamp is below its count
   item_low : (x : Item) (e : Event) (g : GoesOn top streams marks s (move_by x e))
       → (is_taking (move_by x e) ≡ false
@@ -136,8 +132,8 @@ module _ (top : ℕ) (streams : List Stream) (marks : Marks) (s : State) (past :
             ap (λ o. option_map_or (λ (r : Process). nat_lt r.local.clock e.serial.this) o true)
             g.is_before
             ∙ lt-ltb g.before.local.clock e.serial.this (omega arith) in
-            ap (λ b. not (marks p i) && not b) low ∙ nor_that (not (marks p i))
-        | false ↦ λ takes. nor_that (not (marks p i))
+            ap (λ b. not (marks p i) && not b) low ∙ and_false (not (marks p i)) false refl
+        | false ↦ λ takes. and_false (not (marks p i)) false refl
       ] refl
 
 -- ITEM BY ITEM
@@ -167,20 +163,7 @@ module _ (top : ℕ) (streams : List Stream) (marks : Marks) (sound : IsStreams 
         caused = caused_at top streams marks sound plain.settled xs order past later move split
 
         narrow : too_wide past move ≡ false
-        narrow = elim (too_wide past move) as (λ b. too_wide past move ≡ b → b ≡ false) [
-          | true ↦ λ h. absurd (plain.narrow (item_place move.item).0 (item_place move.item).1
-              (record {
-                order = xs;
-                earlier = past;
-                move = move;
-                later = later;
-                is_order = order;
-                split = split;
-                place = refl;
-                holds = h;
-              }))
-          | false ↦ λ h. refl
-        ] refl
+        narrow = holds_not streams xs order too_wide plain.narrow past later move split
 
         pub goes_marked : is_marked marks move item_goes.goes.outcomes ≡ true
         goes_marked =

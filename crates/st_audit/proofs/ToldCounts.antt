@@ -51,11 +51,9 @@ place_below streams place p at =
 
 set_other : (xs : List ℕ) (i k : ℕ) (x : ℕ) → k ≢ i
     → slice_get (slice_set xs i x) k ≡ slice_get xs k
-set_other [] i k x apart = refl
 set_other (y ∷ xs) zero zero x apart = absurd (apart refl)
-set_other (y ∷ xs) zero (suc k) x apart = refl
-set_other (y ∷ xs) (suc i) zero x apart = refl
 set_other (y ∷ xs) (suc i) (suc k) x apart = set_other xs i k x (λ same. apart (ap suc same))
+set_other xs i k x apart = refl
 
 set_same : (xs : List ℕ) (i : ℕ) (x : ℕ) → i < length xs → slice_get (slice_set xs i x) i ≡ Some x
 set_same [] i x within = absurd (omega arith)

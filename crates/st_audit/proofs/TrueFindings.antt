@@ -2,9 +2,8 @@
 -- event is, and the
 -- construction stops for a reason of its own only if this holds of the item's move.
 use Rattle.std.proofs.Common.{◌≡◌, ℕ, ◌++◌, Bool, true, false, cond, List, [], ◌∷◌, length, reverse}
-use Rattle.std.proofs.Common.{get_or, Option, Some, None, IsSome, option_map, append_assoc, refl}
+use Rattle.std.proofs.Common.{get_or, Option, Some, None, IsSome, option_map, refl}
 use Rattle.std.proofs.Common.{sym, ◌∙◌, ap, subst, arith}
-use Rattle.std.proofs.lemmas.Grind.{reverse_onto}
 use Rattle.std.proofs.lemmas.Option.{same_Some, none-some}
 use Rattle.st_core.specs.declared.types.Pid.{Pid}
 use Rattle.st_core.specs.declared.types.Event.{Event}
@@ -31,7 +30,7 @@ use Rattle.st_plan.specs.Marks.{all_told, Marks}
 use Rattle.st_plan.specs.Moves.{Move, move_by, moves}
 use Rattle.st_plan.specs.Plain.{out_of_turn}
 use Rattle.st_plan.specs.Reasons.{too_wide, uncaused, HoldsOfMoveAt}
-use Rattle.st_plan.proofs.ForCallers.{moves_by}
+use Rattle.st_plan.proofs.ForCallers.{holds_here, reverse_more, moves_by}
 use Rattle.st_audit.specs.declared.finding.Reason.{Reason}
 use Rattle.st_audit.specs.declared.finding.Reason.TheVariants as reason
 use Rattle.st_audit.specs.declared.finding.Finding.{Finding}
@@ -145,41 +144,15 @@ abbrev EndsWell : List Stream → End → Type 0
 EndsWell streams (Judged acts end) = (at : Pid × ℕ) → end ≡ Some at → IsThereAt streams at
 EndsWell streams (Unfounded at r) = IsThereAt streams at × HoldsFor streams at r
 
-reverse_more : (m : Move) (earlier later : List Move)
-    → reverse earlier ++ m ∷ later ≡ reverse (m ∷ earlier) ++ later
-reverse_more m earlier later =
-    sym (ap (λ ms. ms ++ later) (reverse_onto earlier m []) ∙ append_assoc (reverse earlier)
-    (m ∷ []) later)
-
 module _ (top : ℕ) (streams : List Stream) (xs : List Item) (order : IsOrder streams xs) where
   refused_for : (earlier : List Move) (m : Move) (ms : List Move) (r : Reason)
       → moves streams xs ≡ reverse earlier ++ m ∷ ms → Against earlier m (Refused r)
       → HoldsFor streams (item_place m.item) r
-  refused_for earlier m ms reason.Uncaused split h = record {
-    order = xs;
-    earlier = earlier;
-    move = m;
-    later = ms;
-    is_order = order;
-    split = split;
-    place = refl;
-    holds = h;
-  }
-  refused_for earlier m ms reason.TooWide split h = record {
-    order = xs;
-    earlier = earlier;
-    move = m;
-    later = ms;
-    is_order = order;
-    split = split;
-    place = refl;
-    holds = h;
-  }
-  refused_for earlier m ms reason.PrevNotBefore split h = absurd h
-  refused_for earlier m ms (reason.NotRising j) split h = absurd h
-  refused_for earlier m ms (reason.Repeated q j) split h = absurd h
-  refused_for earlier m ms (reason.Mismatch q j) split h = absurd h
-  refused_for earlier m ms (reason.NotReplayed acts v) split h = absurd h
+  refused_for earlier m ms reason.Uncaused split h =
+      holds_here streams xs order uncaused earlier ms m split h
+  refused_for earlier m ms reason.TooWide split h =
+      holds_here streams xs order too_wide earlier ms m split h
+  refused_for earlier m ms r split h = absurd h
 
   module _ (end : Option (Pid × ℕ)) (ends : (at : Pid × ℕ) → end ≡ Some at → IsThereAt streams at)
     where
@@ -192,7 +165,7 @@ module _ (top : ℕ) (streams : List Stream) (xs : List Item) (order : IsOrder s
           (λ t. Against earlier m t
           → EndsWell streams (went_on top streams end s earlier acts m ms t)) [
             | Through more os ↦ λ h. course_well (state_after s os) (m ∷ earlier) (acts ++ more) ms
-                (split ∙ reverse_more m earlier ms) there.1
+                (split ∙ sym (reverse_more m earlier ms)) there.1
             | Stopped more ↦ λ h. λ at is.
                 subst (IsThereAt streams) (same_Some (item_place m.item) at is) there.0
             | Refused r ↦ λ h. (there.0, refused_for earlier m ms r split h)
@@ -211,11 +184,7 @@ module _ (top : ℕ) (streams : List Stream) (accepted : refusal streams ≡ Non
       → IsReason top streams p i r
   own_reason p i reason.Uncaused h = (accepted, h)
   own_reason p i reason.TooWide h = (accepted, h)
-  own_reason p i reason.PrevNotBefore h = absurd h
-  own_reason p i (reason.NotRising j) h = absurd h
-  own_reason p i (reason.Repeated q j) h = absurd h
-  own_reason p i (reason.Mismatch q j) h = absurd h
-  own_reason p i (reason.NotReplayed acts v) h = absurd h
+  own_reason p i r h = absurd h
 
   found_holds : (end : End) (found : Finding) → EndsWell streams end
       → IsFoundAt top streams end found
@@ -226,22 +195,14 @@ module _ (top : ℕ) (streams : List Stream) (accepted : refusal streams ≡ Non
       let verdict = subst (λ ys. verdicts.IsVerdict top streams ys (verdict_of v)) (sym is.0)
       is.2 in
       (well (p, i) is.1, (accepted, verdict, is.3))
-  found_holds (Judged acts end) (finding.Unfit p i reason.Uncaused) well is = absurd is
-  found_holds (Judged acts end) (finding.Unfit p i reason.TooWide) well is = absurd is
-  found_holds (Judged acts end) (finding.Unfit p i reason.PrevNotBefore) well is = absurd is
-  found_holds (Judged acts end) (finding.Unfit p i (reason.NotRising j)) well is = absurd is
-  found_holds (Judged acts end) (finding.Unfit p i (reason.Repeated q j)) well is = absurd is
-  found_holds (Judged acts end) (finding.Unfit p i (reason.Mismatch q j)) well is = absurd is
   found_holds (Unfounded at r) found well is =
       subst (IsFinding top streams) (sym is) (well.0, own_reason at.0 at.1 r well.1)
+  found_holds (Judged acts end) found well is = absurd is
 
 pair_fault : (streams : List Stream) (f : PairFault) → refusal streams ≡ Some f
     → IsPairFault streams f
 pair_fault streams fault.Memory why = tt
-pair_fault streams (fault.PrevNotBefore p i) why = why
-pair_fault streams (fault.NotRising p i j) why = why
-pair_fault streams (fault.Repeated p i q j) why = why
-pair_fault streams (fault.Mismatch p i q j) why = why
+pair_fault streams f why = why
 
 pub findings_hold : (top : ℕ) (streams : List Stream) (found : Finding) → IsStreams streams
     → IsAudit top streams found → IsFinding top streams found

@@ -1,6 +1,6 @@
 -- If a tracer was put, no count moved, and it is the next one.
 use Rattle.std.proofs.Common.{◌≡◌, ℕ, ◌+◌, ◌∷◌, [], List, true, not, Option, Some, ◌==◌, drop}
-use Rattle.std.proofs.Common.{get_or, length, arith, sym, ◌∙◌, ap, subst}
+use Rattle.std.proofs.Common.{get_or, arith, sym, ◌∙◌, ap, subst}
 use Rattle.std.specs.Option.{option_eq}
 use Rattle.st_core.specs.declared.types.Pid.{Pid}
 use Rattle.st_core.specs.Run.{Stream}
