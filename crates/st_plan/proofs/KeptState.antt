@@ -150,29 +150,19 @@ pub own_clock : (m : Move) (earlier : List Move) → clock m.who earlier < m.eve
 own_clock m earlier below =
     let greater : max (clock m.who earlier) m.event.serial.this ≡ m.event.serial.this =
     omega arith in
-    ap (λ b. cond b (max (clock m.who earlier) m.event.serial.this) (clock m.who earlier))
-    (pid_eq-refl m.who)
-    ∙ greater
+    rw (pid_eq-refl m.who) greater
 
 pub own_last : (m : Move) (earlier : List Move) → is_taking m ≡ false
     → last m.who (m ∷ earlier) ≡ m.event.serial.prev
-own_last m earlier stamps =
-    let this = m.event.serial.this in
-    let prev = m.event.serial.prev in
-    ap (λ b. cond b (cond (is_taking m) this prev) (last m.who earlier)) (pid_eq-refl m.who)
-    ∙ ap (λ b. cond b this prev) stamps
+own_last m earlier stamps = rw (pid_eq-refl m.who, stamps) refl
 
 pub other_clock : (m : Move) (earlier : List Move) (x : Pid) → pid_eq x m.who ≡ false
     → clock x (m ∷ earlier) ≡ clock x earlier
-other_clock m earlier x h =
-    ap (λ b. cond b (max (clock x earlier) m.event.serial.this) (clock x earlier))
-    (pid_eq-swap m.who x ∙ h)
+other_clock m earlier x h = rw (pid_eq-swap m.who x ∙ h) refl
 
 pub other_last : (m : Move) (earlier : List Move) (x : Pid) → pid_eq x m.who ≡ false
     → last x (m ∷ earlier) ≡ last x earlier
-other_last m earlier x h =
-    ap (λ b. cond b (cond (is_taking m) m.event.serial.this m.event.serial.prev)
-    (last x earlier)) (pid_eq-swap m.who x ∙ h)
+other_last m earlier x h = rw (pid_eq-swap m.who x ∙ h) refl
 
 -- the queue of x after a move that stamps
 pub stamp_queue : (streams : List Stream) (marks : Marks) (m : Move) (earlier : List Move) (x : Pid)
@@ -181,11 +171,7 @@ pub stamp_queue : (streams : List Stream) (marks : Marks) (m : Move) (earlier : 
     → queue_of streams marks x (m ∷ earlier)
     ≡ cond b (queue_of streams marks x earlier ++ message_of streams marks m ∷ [])
     (queue_of streams marks x earlier)
-stamp_queue streams marks m earlier x b stamps sends =
-    let old = queue_of streams marks x earlier in
-    let took = cond (pid_eq m.who x) (without m.event.from m.event.serial.this old) old in
-    ap (λ t. cond t took (cond (sends_to x m) (old ++ message_of streams marks m ∷ []) old)) stamps
-    ∙ ap (λ t. cond t (old ++ message_of streams marks m ∷ []) old) sends
+stamp_queue streams marks m earlier x b stamps sends = rw (stamps, sends) refl
 
 -- and after one that takes
 pub taken_queue : (streams : List Stream) (marks : Marks) (m : Move) (earlier : List Move) (x : Pid)
@@ -194,12 +180,7 @@ pub taken_queue : (streams : List Stream) (marks : Marks) (m : Move) (earlier : 
     → queue_of streams marks x (m ∷ earlier)
     ≡ cond b (without m.event.from m.event.serial.this (queue_of streams marks x earlier))
     (queue_of streams marks x earlier)
-taken_queue streams marks m earlier x b takes who =
-    let old = queue_of streams marks x earlier in
-    let took = without m.event.from m.event.serial.this old in
-    ap (λ t. cond t (cond (pid_eq m.who x) took old)
-    (cond (sends_to x m) (old ++ message_of streams marks m ∷ []) old)) takes
-    ∙ ap (λ t. cond t took old) who
+taken_queue streams marks m earlier x b takes who = rw (takes, who) refl
 
 -- A STEP
 

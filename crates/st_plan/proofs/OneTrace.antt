@@ -103,23 +103,14 @@ made_none f o a none h = let parts = mapped f o a h in subst IsNoReset parts.2 (
 act_none : (r : Process) (m : Move) (a : Act) → act_of r m ≡ Some a → is_reset a ≡ false
 act_none r m a h =
     let place = position (λ x. bears_stamp m.event.from m.event.serial.this x.token) r.queue in
-    elim m.item as (λ x. (let o : Option Act = elim x [
-      | item.Hidden p i ↦ option_map (λ to. act.Send m.who to m.event.value) m.event.to
-      | item.Reported p i ↦
-          elim m.event.kind [
-            | kind.Send ↦ option_map (λ to. act.Send m.who to m.event.value) m.event.to
-            | kind.Receive ↦ option_map (λ k. act.Receive m.who (want.Place k)) place
-            | kind.Print ↦ Some (act.Print m.who m.event.value)
-          ]
-    ] in o) ≡ Some a → is_reset a ≡ false) [
+    elim m.item as (λ x. act_of r (record m { item = x }) ≡ Some a → is_reset a ≡ false) [
       | item.Hidden p i ↦ λ h. made_none (λ to. act.Send m.who to m.event.value) m.event.to a
           (λ x. refl) h
       | item.Reported p i ↦
-          elim m.event.kind as (λ k. (let o : Option Act = elim k [
-            | kind.Send ↦ option_map (λ to. act.Send m.who to m.event.value) m.event.to
-            | kind.Receive ↦ option_map (λ k. act.Receive m.who (want.Place k)) place
-            | kind.Print ↦ Some (act.Print m.who m.event.value)
-          ] in o) ≡ Some a → is_reset a ≡ false) [
+          elim m.event.kind as (λ k. act_of r (record m {
+            item = item.Reported p i;
+            event = record m.event { kind = k };
+          }) ≡ Some a → is_reset a ≡ false) [
             | kind.Send ↦ λ h. made_none (λ to. act.Send m.who to m.event.value) m.event.to a
                 (λ x. refl) h
             | kind.Receive ↦ λ h. made_none (λ k. act.Receive m.who (want.Place k)) place a

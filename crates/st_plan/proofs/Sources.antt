@@ -9,7 +9,6 @@ use Rattle.std.specs.Option.{option_map_or}
 use Rattle.std.proofs.lemmas.Bool.{eqb-true, false≢true, not-false, and_parts}
 use Rattle.std.proofs.lemmas.Option.{same_Some, cond_some}
 use Rattle.st_core.specs.declared.types.Pid.{Pid}
-use Rattle.st_core.specs.declared.types.Flags.{Flags}
 use Rattle.st_core.specs.declared.types.Kind.{Kind}
 use Rattle.st_core.specs.declared.types.Kind.TheVariants as kind
 use Rattle.st_core.specs.declared.types.Event.{Event}
@@ -27,7 +26,6 @@ use Rattle.st_order.specs.Order.{key_by}
 use Rattle.st_order.proofs.ForCallers.{hidden_receives, tallest_has}
 use Rattle.st_plan.specs.Marks.{Marks}
 use Rattle.st_plan.specs.Moves.{Move, move_by}
-use Rattle.st_plan.specs.Build.{quiet}
 use Rattle.st_plan.proofs.Receives.{IsWaiting}
 use Rattle.st_plan.proofs.EarlierMoves.{IsAt, IsKeyBelow}
 use Rattle.st_plan.proofs.RisingStamps.{height_is, height_more, height_of, hidden_by, rank_of}
@@ -199,14 +197,7 @@ fits_by streams marks ok p i e r (item.Reported q j) d at sent =
     let prevs = agreed.prev in
     let labels = agreed.label in
     let values = agreed.value in (
-      ap (λ (k : Kind). let f : Flags = elim k [
-        | kind.Send ↦
-            let seen = option_map_or (λ at. marks at.0 at.1) (receiver_at streams q j) false in
-            record { send = marks q j; receive = seen; print = false }
-        | kind.Receive ↦ quiet
-        | kind.Print ↦ record { send = false; receive = false; print = marks q j }
-      ] in f.receive) kind_is
-          ∙ ap (λ (o : Option (Pid × ℕ)). option_map_or (λ at. marks at.0 at.1) o false) receiver,
+      rw (kind_is, receiver) refl,
       λ k. record {
         label = labels k;
         kind = kinds k;

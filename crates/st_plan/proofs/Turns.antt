@@ -127,19 +127,12 @@ front p n (e ∷ es) m ms h = record {
 }
 
 pub leaves : (e : Event) → cond (not (is_stamp e)) e.serial.this e.serial.prev ≡ prev_after (e ∷ [])
-leaves e = elim e.kind as (λ k. cond (not (let b : Bool = elim k [
-  | kind.Send ↦ true
-  | kind.Receive ↦ false
-  | kind.Print ↦ true
-] in b)) e.serial.this e.serial.prev ≡ (let n : ℕ = elim k [
-  | kind.Send ↦ e.serial.prev
-  | kind.Receive ↦ e.serial.this
-  | kind.Print ↦ e.serial.prev
-] in n)) [
-  | kind.Send ↦ refl
-  | kind.Receive ↦ refl
-  | kind.Print ↦ refl
-]
+leaves e = elim e.kind as (λ k. let d : Event = record e { kind = k } in
+    cond (not (is_stamp d)) e.serial.this e.serial.prev ≡ prev_after (d ∷ [])) [
+      | kind.Send ↦ refl
+      | kind.Receive ↦ refl
+      | kind.Print ↦ refl
+    ]
 
 -- p's own next move
 pub own_step : (events : List Event) (p : Pid) (n c l j : ℕ) (e : Event) (later : List Move)
