@@ -30,28 +30,26 @@ taken_at : (p : Pid) (place : Option ℕ) (acts : List Act) → taking p place �
 taken_at p None acts h = absurd (none-some acts h)
 taken_at p (Some k) acts h = (k, refl, same_Some (act.Receive p (want.Place k) ∷ []) acts h)
 
+-- what brings p to the stamp of its event, and this act
+abbrev pub ended : List Stream → Marks → Pid → ℕ → Event → Process → Act → List Act
+ended streams marks p i e r a =
+    ready p (start_of r.local) e.label e.serial
+    (flags_of streams marks (move_by (item.Reported p i) e)) ++ a ∷ []
+
 module _ (streams : List Stream) (marks : Marks) (p : Pid) (i : ℕ) (e : Event) (r : Process)
     (acts : List Act)
     (are : acts_of streams marks r (move_by (item.Reported p i) e) ≡ Some acts) where
   pub print_acts : e.kind ≡ kind.Print
-      → ready p (start_of r.local) e.label e.serial
-      (flags_of streams marks (move_by (item.Reported p i) e))
-      ++ act.Print p e.value ∷ [] ≡ acts
+      → ended streams marks p i e r (act.Print p e.value) ≡ acts
   print_acts is =
-      let plan = ready p (start_of r.local) e.label e.serial
-      (flags_of streams marks (move_by (item.Reported p i) e))
-      ++ act.Print p e.value ∷ [] in
+      let plan = ended streams marks p i e r (act.Print p e.value) in
       let made : acts_of streams marks r (move_by (item.Reported p i) e) ≡ Some plan = rw is refl in
       same_Some plan acts (sym made ∙ are)
 
   pub send_acts : (to : Pid) → e.kind ≡ kind.Send → e.to ≡ Some to
-      → ready p (start_of r.local) e.label e.serial
-      (flags_of streams marks (move_by (item.Reported p i) e))
-      ++ act.Send p to e.value ∷ [] ≡ acts
+      → ended streams marks p i e r (act.Send p to e.value) ≡ acts
   send_acts to is is_to =
-      let plan = ready p (start_of r.local) e.label e.serial
-      (flags_of streams marks (move_by (item.Reported p i) e))
-      ++ act.Send p to e.value ∷ [] in
+      let plan = ended streams marks p i e r (act.Send p to e.value) in
       let made : acts_of streams marks r (move_by (item.Reported p i) e) ≡ Some plan =
       rw (is, is_to) refl in
       same_Some plan acts (sym made ∙ are)

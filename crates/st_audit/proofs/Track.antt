@@ -1,11 +1,11 @@
 -- In settled streams the construction goes on from item to item: its acts run, its world is as the
 -- moves say, and its acts tell what the moves tell. So at the end they show the told events.
-use Rattle.std.proofs.Common.{◌≡◌, ℕ, ◌+◌, ◌<◌, ◌≤◌, suc, false, not, List, [], ◌∷◌, ◌++◌, take}
+use Rattle.std.proofs.Common.{add-one, ◌≡◌, ℕ, ◌+◌, ◌<◌, ◌≤◌, suc, false, not, List, [], ◌∷◌, ◌++◌, take}
 use Rattle.std.proofs.Common.{drop, length, get_or}
 use Rattle.std.proofs.Common.{Some, None, Err, append_assoc, slice_get, refl, sym, ◌∙◌, ap, subst}
 use Rattle.std.proofs.lemmas.Bool.{eq-eqb}
-use Rattle.std.proofs.lemmas.List.{append-nil, take_all, take_more}
-use Rattle.std.proofs.lemmas.Option.{same_Some, get_or_from_slice_get, slice_get_within}
+use Rattle.std.proofs.lemmas.List.{append-nil, take_all}
+use Rattle.std.proofs.lemmas.Option.{same_Some}
 use Rattle.st_core.specs.declared.types.Pid.{Pid}
 use Rattle.st_core.specs.declared.types.Event.{Event}
 use Rattle.st_core.specs.declared.types.Act.{Act}
@@ -25,7 +25,7 @@ use Rattle.st_plan.specs.Marks.{all_told, told_parts, Marks}
 use Rattle.st_plan.specs.Moves.{Move, clock, earlier_of, is_taking, move_by, moves}
 use Rattle.st_plan.specs.Build.{state_after, tracers_after, GoesOn}
 use Rattle.st_plan.specs.Plain.{out_of_turn, event_count, told_of_moves, told_of_move, IsSettled}
-use Rattle.st_plan.proofs.ForCallers.{clock_at, earlier_more, goes_on, in_turn_at, moves_append}
+use Rattle.st_plan.proofs.ForCallers.{take_more, clock_at, earlier_more, goes_on, in_turn_at, moves_append}
 use Rattle.st_plan.proofs.ForCallers.{one_move, opens, order_there, run_append, state_append}
 use Rattle.st_plan.proofs.ForCallers.{stream_append, stream_silent, acts_none, append_none}
 use Rattle.st_plan.proofs.ForCallers.{tells_only, tells_told_events, told_pids, tracers_none}
@@ -41,15 +41,11 @@ use Rattle.st_audit.proofs.ItemPlaces.{event_there, split_at}
 
 -- THE VERDICT
 
-not_yes : (v : verdicts.Verdict) (ps : List (ℕ × ℕ)) → v ≡ verdicts.Yes ps → IsNo v → ⊥
-not_yes v ps is refused = subst IsNo is refused
-
 -- acts that show the streams have no other verdict than yes
 pub shown_is_yes : (top : ℕ) (streams : List Stream) (acts : List Act) (v : verdicts.Verdict)
     → Shows top streams acts → verdicts.IsVerdict top streams acts v → IsNo v → ⊥
 shown_is_yes top streams acts v shows is refused =
-    let ps = pairs acts shows.0 in
-    not_yes v ps (one_verdict top streams acts v (verdicts.Yes ps) is
+    subst IsNo (one_verdict top streams acts v (verdicts.Yes (pairs acts shows.0)) is
     (shows.0, shows.1, shows.2, refl)) refused
 
 -- ON THE WAY
@@ -139,12 +135,6 @@ told_append marks p (m ∷ ms) ns =
     ∙ sym (append_assoc (told_of_move marks p m) (told_of_moves marks p ms)
     (told_of_moves marks p ns))
 
-take_one : (xs : List Item) (n : ℕ) (x : Item) → slice_get xs n ≡ Some x
-    → take (n + 1) xs ≡ take n xs ++ x ∷ []
-take_one xs n x at =
-    take_more xs n x (slice_get_within xs n x at)
-    ∙ ap (λ y. take n xs ++ y ∷ []) (get_or_from_slice_get xs n x x at)
-
 in_turn_by : (earlier : List Move) (x : Item) (e : Event)
     → ((p : Pid) (i : ℕ) → (move_by x e).item ≡ item.Reported p i → event_count p earlier ≡ i)
     → out_of_turn earlier (move_by x e) ≡ false
@@ -215,8 +205,9 @@ module _ (top : ℕ) (streams : List Stream) (marks : Marks) (sound : IsStreams 
         let state : new ≡ state_after zero both =
         after ∙ ap (λ t. state_after t g.outcomes) track.after
         ∙ sym (state_append zero os g.outcomes) in
+        let taken : take (n + 1) xs ≡ take n xs ++ x ∷ [] = rw add-one (take_more xs n x at) in
         let more : moves streams (take (n + 1) xs) ≡ before ++ move ∷ [] =
-        ap (moves streams) (take_one xs n x at) ∙ moves_append streams (take n xs) (x ∷ [])
+        ap (moves streams) taken ∙ moves_append streams (take n xs) (x ∷ [])
         ∙ ap (λ ms. before ++ ms) (one_move streams x e [] there) in
         record {
           outcomes = both;
