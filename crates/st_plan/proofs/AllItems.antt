@@ -45,9 +45,7 @@ among_at all p k e =
 hidden_at : (all : List Stream) (p : Pid) (k : ℕ) (e : Event) → is_hidden all e ≡ true
     → IsIn (items_at all p k e) (item.Hidden p k)
 hidden_at all p k e h =
-    let reported = item.Reported p k ∷ [] in
-    subst (λ b. IsIn (cond b (item.Hidden p k ∷ reported) reported) (item.Hidden p k)) (sym h)
-    (inl refl)
+    rw h (inl refl)
 
 among_from : (all : List Stream) (p : Pid) (k : ℕ) (es : List Event) (j : ℕ) (e : Event)
     (z : ℕ → Item)

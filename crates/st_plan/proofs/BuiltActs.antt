@@ -1,6 +1,6 @@
 -- The acts of all moves in a row: each move's go on from what those before left, so that they run
 -- and report what is told of the moves.
-use Rattle.std.proofs.Common.{◌≡◌, ℕ, List, [], ◌∷◌, ◌++◌, Some, None, option_map, option_and_then}
+use Rattle.std.proofs.Common.{◌≡◌, ℕ, List, [], ◌∷◌, ◌++◌, Some, None}
 use Rattle.std.proofs.Common.{option_to_list}
 use Rattle.std.proofs.Common.{append_assoc, get_or, All, refl, sym, ◌∙◌, ap, subst, if◌then◌else◌}
 use Rattle.std.proofs.lemmas.Option.{same_Some}
@@ -84,9 +84,7 @@ construction_shows top streams marks shown m ms serve pids told =
     let runs : run_from top start (first ++ b.acts) ≡ Some (o.os ++ b.os) =
     run_append top start first b.acts o.os b.os o.runs b.runs in (
       first ++ b.acts,
-      ap (option_and_then (λ os. option_map (λ rest. first ++ rest)
-          (build top streams marks (state_after start os) (m ∷ ms)))) o.runs
-          ∙ ap (option_map (λ rest. first ++ rest)) b.are,
+      rw (o.runs, b.are) refl,
       (
         o.os ++ b.os,
         subst (λ ps. run_from top (zero_state ps) (first ++ b.acts)

@@ -13,7 +13,7 @@ use Rattle.st_core.specs.Run.{Stream}
 use Rattle.st_core.proofs.ForCallers.{pid_same, not_true}
 use Rattle.st_pair.specs.declared.answer.PairFault.TheVariants as fault
 use Rattle.st_pair.specs.Places.{event_at, is_stamp}
-use Rattle.st_pair.specs.Pairing.{stamp_of, receive_of, agrees, mismatch}
+use Rattle.st_pair.specs.Pairing.{stamp_of, agrees, mismatch}
 use Rattle.st_pair.proofs.ForCallers.{agreed, cond_none, event_none, IsAgreed, IsPaired, once_place}
 use Rattle.st_pair.proofs.ForCallers.{stamp_once}
 use Rattle.st_order.specs.declared.item.Item.{Item}
@@ -34,9 +34,7 @@ same_place streams ok p i e a b d at_e receive_e at_d receive_d from count =
     let one = once_place streams ok p i e at_e receive_e in
     let two = once_place streams ok a b d at_d receive_d in
     let same : (let x : Pid × ℕ = (a, b) in x) ≡ (let y : Pid × ℕ = (p, i) in y) =
-    same_Some _ _ (sym two ∙ ap (λ q. receive_of streams q d.serial.this) from
-    ∙ ap (receive_of streams e.from) count
-    ∙ one) in
+    same_Some _ _ (sym two ∙ rw (from, count) one) in
     (ap (λ (x : Pid × ℕ). x.0) same, ap (λ (x : Pid × ℕ). x.1) same)
 
 -- NO MOVE TOOK IT

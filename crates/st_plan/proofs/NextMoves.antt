@@ -1,14 +1,12 @@
 -- Each move of an order goes on, by the kind of its item: the acts of a stamp find its clock below
 -- its count, and those of a receive its message.
 use Rattle.std.proofs.Common.{◌≡◌, ℕ, ◌<◌, ◌≤◌, true, false, cond, List, [], ◌∷◌, Option, Some}
-use Rattle.std.proofs.Common.{None, option_map, refl, sym, ◌∙◌, ap, subst}
-use Rattle.std.specs.Option.{option_map_or}
+use Rattle.std.proofs.Common.{None, refl, sym, ◌∙◌, ap, subst}
 use Rattle.std.proofs.lemmas.Bool.{false≢true}
 use Rattle.st_core.specs.declared.types.Pid.{Pid}
 use Rattle.st_core.specs.declared.types.Kind.TheVariants as kind
 use Rattle.st_core.specs.declared.types.Event.{Event}
 use Rattle.st_core.specs.declared.types.Act.TheVariants as act
-use Rattle.st_core.specs.Pid.{pid_eq}
 use Rattle.st_core.specs.State.{State}
 use Rattle.st_core.specs.Run.{Stream}
 use Rattle.st_core.specs.Streams.{lists}
@@ -62,9 +60,7 @@ module _ (top : ℕ) (streams : List Stream) (marks : Marks) (earlier : List Mov
         free = free.caused;
       } in
       sending top streams marks earlier s m p can h.listed
-      (λ r. ap (option_map (λ q. act.Send m.who q e.value)) to)
-      (λ q. ap (λ (o : Option Pid). option_map_or (λ x. pid_eq q x) o false) to)
-      refl
+      (λ r. rw to refl) (λ q. rw to refl) refl
   hidden_by hidden (Sent to kd from is_to there) free below s kept =
       absurd (hidden_got streams e hidden (stamp_kind e kind.Send kd))
   hidden_by hidden (Printed kd from is_to) free below s kept =

@@ -109,12 +109,7 @@ alone_reached p a done r h = absurd h
 pub changed_own : (a : Act) (done : Acted) (r : Process) → r.pid ≡ actor a
     → changed a done r ≡ reached a done.local.token
     (record r { local = done.local; queue = done.queue })
-changed_own a done r is =
-    ap (λ b. reached a done.local.token (cond b (record r {
-      local = done.local;
-      queue = done.queue;
-    }) r))
-    (ap (λ p. pid_eq p (actor a)) is ∙ pid_eq-refl (actor a))
+changed_own a done r is = rw (is, pid_eq-refl (actor a)) refl
 
 unchanged : (a : Act) (done : Acted) (x : Pid) (found : Option Process)
     → ((r : Process) → found ≡ Some r → r.pid ≡ x)

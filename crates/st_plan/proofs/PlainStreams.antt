@@ -1,6 +1,6 @@
 -- If all events are told, the told ones are all: so the acts that are built of plain streams show
 -- these.
-use Rattle.std.proofs.Common.{◌≡◌, ℕ, ◌+◌, true, List, [], ◌∷◌, Some, refl, ◌∙◌, ap, subst}
+use Rattle.std.proofs.Common.{◌≡◌, ℕ, ◌+◌, true, List, [], ◌∷◌, Some, refl, ap, subst}
 use Rattle.st_core.specs.declared.types.Event.{Event}
 use Rattle.st_core.specs.declared.types.Act.{Act}
 use Rattle.st_core.specs.Run.{Shows, Stream}
@@ -19,9 +19,7 @@ told_whole i (e ∷ es) = ap (λ ds. e ∷ ds) (told_whole (i + 1) es)
 pub only_whole : (streams : List Stream) → told_parts all_told streams ≡ streams
 only_whole [] = refl
 only_whole (x ∷ streams) =
-    ap (λ (es : List Event). record { pid = x.pid; events = es } ∷ told_parts all_told streams)
-    (told_whole 0 x.events)
-    ∙ ap (λ ss. x ∷ ss) (only_whole streams)
+    rw (told_whole 0 x.events, only_whole streams) refl
 
 pub plain_is_shown : (top : ℕ) (streams : List Stream) → IsStreams streams → IsPlain top streams
     → (acts : List Act) × (construction top streams all_told (moves streams (order streams))

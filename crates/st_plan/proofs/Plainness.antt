@@ -96,8 +96,7 @@ narrow_by : (taking : Bool) (here before : ℕ) → here ≡ 0 → before ≡ 0
     ≡ false
 narrow_by true here before none nothing = refl
 narrow_by false here before none nothing =
-    ap (λ n. nat_lt most_skipped n || nat_lt most_skipped_in_all (n + before)) none
-    ∙ ap (λ n. nat_lt most_skipped_in_all (0 + n)) nothing
+    rw (none, nothing) refl
 
 module _ (top : ℕ) (streams : List Stream) (rising : IsRising (pids_of streams))
     (full : IsFull top streams)

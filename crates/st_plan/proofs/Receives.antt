@@ -35,15 +35,10 @@ pick_place : (n k : ℕ) (queue : List Message) (x : Message) → slice_get queu
 pick_place n k [] x at = absurd (none-some x at)
 pick_place n zero (y ∷ queue) x at =
     let here : n + 0 ≡ n = omega arith in
-    ap (λ b. cond b (Some (n, y)) (pick_from (n + 1) (want.Place (n + 0)) queue))
-    (eq-eqb n (n + 0) (sym here))
-    ∙ ap (λ k. Some (k, y)) (sym here) ∙ ap (λ z. Some (n + 0, z)) (same_Some y x at)
+    rw (here, eq-eqb n n refl, same_Some y x at) refl
 pick_place n (suc k) (y ∷ queue) x at =
     let sum : n + 1 + k ≡ n + suc k = omega arith in
-    ap (λ b. cond b (Some (n, y)) (pick_from (n + 1) (want.Place (n + suc k)) queue))
-    (ne_eqb n (n + suc k) (λ h. omega arith))
-    ∙ ap (λ j. pick_from (n + 1) (want.Place j) queue) (sym sum) ∙ pick_place (n + 1) k queue x at
-    ∙ ap (λ j. Some (j, x)) sum
+    rw (ne_eqb n (n + suc k) (λ h. omega arith), ← sum) (pick_place (n + 1) k queue x at)
 
 -- a receive from a place takes the message there
 pub pick_at : (k : ℕ) (queue : List Message) (x : Message) → slice_get queue k ≡ Some x
@@ -95,12 +90,8 @@ taken_event : (streams : List Stream) (marks : Marks) (earlier : List Move) (r :
     → report r.local.traced kind.Receive w.message.token (Some r.pid) w.message.value
     ≡ told_event marks m
 taken_event streams marks earlier r m so who w =
-    ap (λ t. report r.local.traced kind.Receive t (Some r.pid) w.message.value) w.has
-    ∙ ap (λ b. report b kind.Receive (Some w.token) (Some r.pid) w.message.value) so.traced
-    ∙ ap (λ p. report true kind.Receive (Some w.token) (Some p) w.message.value) who
-    ∙ ap (λ b. cond b (Some (got_of m.who w.message.value w.token)) None) w.seen
-    ∙ ap (λ (e : Event). let o : Option Event = cond (is_told marks m)
-    (Some e) None in o) w.gives
+    rw (w.has, so.traced, who, w.seen)
+    (ap (λ (e : Event). let o : Option Event = cond (is_told marks m) (Some e) None in o) w.gives)
 
 -- a process that received a token, and has no message at this place any more
 abbrev after_taking : Process → ℕ → Option Token → Process
@@ -117,14 +108,11 @@ so_taken streams marks earlier r m so takes w =
     let before = clock m.who earlier in
     let waiting = queue_of streams marks m.who earlier in
     let this : w.token.serial.this ≡ count = ap (λ (e : Event). e.serial.this) w.gives in
-    let own_clock : clock m.who (m ∷ earlier) ≡ max before count =
-    ap (λ b. cond b (max before count) before) (pid_eq-refl m.who) in
-    let own_last : last m.who (m ∷ earlier) ≡ count =
-    ap (λ b. cond b (cond (is_taking m) count m.event.serial.prev) (last m.who earlier))
-    (pid_eq-refl m.who)
-    ∙ ap (λ b. cond b count m.event.serial.prev) takes in
+    let own = pid_eq-refl m.who in
+    let own_clock : clock m.who (m ∷ earlier) ≡ max before count = rw own refl in
+    let own_last : last m.who (m ∷ earlier) ≡ count = rw (own, takes) refl in
     let own_queue : queue_of streams marks m.who (m ∷ earlier) ≡ remove waiting k =
-    taken_queue streams marks m earlier m.who true takes (pid_eq-refl m.who)
+    taken_queue streams marks m earlier m.who true takes own
     ∙ ap (λ p. elim p [ None ↦ waiting | Some j ↦ remove waiting j ]) w.is in
     subst (λ t. IsSo streams marks (m ∷ earlier) m.who (after_taking r k t)) (sym w.has)
     (record {

@@ -1,9 +1,9 @@
 -- A receive's message is of its source, a hidden send or its sender's stamp with its count, which
 -- has a lower key: it is a send, and at most as high. And each send that came with its sender and
 -- count gives its event.
-use Rattle.std.proofs.Common.{◌≡◌, ℕ, suc, ◌+◌, ◌==◌, ◌&&◌, max, Bool, true, false, not, cond, List}
+use Rattle.std.proofs.Common.{◌≡◌, ℕ, suc, ◌+◌, ◌==◌, ◌&&◌, max, Bool, true, false, not, List}
 use Rattle.std.proofs.Common.{Option, Some, None}
-use Rattle.std.proofs.Common.{option_and_then, refl, sym, ◌∙◌, ap, subst, arith, if◌then◌else◌}
+use Rattle.std.proofs.Common.{refl, sym, ◌∙◌, ap, subst, arith, if◌then◌else◌}
 use Rattle.std.specs.List.{slice_get, AllByRecursion}
 use Rattle.std.specs.Option.{option_map_or}
 use Rattle.std.proofs.lemmas.Bool.{eqb-true, false≢true, not-false, and_parts}
@@ -17,7 +17,7 @@ use Rattle.st_core.specs.Run.{Stream}
 use Rattle.st_core.specs.Streams.{events_of}
 use Rattle.st_core.proofs.ForCallers.{pid_eq-refl, all_at}
 use Rattle.st_pair.specs.Places.{event_at, is_stamp}
-use Rattle.st_pair.specs.Pairing.{stamp_of, receive_of, is_send, source_of, receiver_at}
+use Rattle.st_pair.specs.Pairing.{stamp_of, receive_of, receiver_at}
 use Rattle.st_pair.proofs.ForCallers.{given_from, once_place, own_rule, IsPaired, receive_unstamped}
 use Rattle.st_order.specs.declared.item.Item.{Item}
 use Rattle.st_order.specs.declared.item.Item.TheVariants as item
@@ -28,8 +28,8 @@ use Rattle.st_plan.specs.Marks.{Marks}
 use Rattle.st_plan.specs.Moves.{Move, move_by}
 use Rattle.st_plan.proofs.Receives.{IsWaiting}
 use Rattle.st_plan.proofs.EarlierMoves.{IsAt, IsKeyBelow}
-use Rattle.st_plan.proofs.RisingStamps.{height_is, height_more, height_of, hidden_by, rank_of}
-use Rattle.st_plan.proofs.RisingStamps.{source_by, IsTop}
+use Rattle.st_plan.proofs.RisingStamps.{height_is, height_more, height_of, rank_of}
+use Rattle.st_plan.proofs.RisingStamps.{IsTop}
 use Rattle.st_plan.proofs.Clocks.{HasCome, IsBelow}
 use Rattle.st_plan.proofs.WaitingMessages.{is_waiting, Fits, IsSendTo}
 use Rattle.st_plan.proofs.MatchedSends.{matched_send, same_place, untaken}
@@ -97,11 +97,10 @@ hidden_is : (streams : List Stream) (e : Event) → is_stamp e ≡ false
     → stamp_of streams e.from e.serial.this ≡ None
     → is_hidden streams e ≡ true
 hidden_is streams e receive none =
-    ap (λ b. if b then false else hidden_by (source_of streams e)) receive
-    ∙ ap (λ (o : Option (ℕ × Event)). hidden_by (source_by e.from o)) none
+    rw (receive, none) refl
 
 to_is : (p : Pid) (to : Option Pid) → to ≡ Some p → option_map_or (λ x. pid_eq p x) to false ≡ true
-to_is p to h = ap (λ (o : Option Pid). option_map_or (λ x. pid_eq p x) o false) h ∙ pid_eq-refl p
+to_is p to h = rw (h, pid_eq-refl p) refl
 
 -- each stamp that is there is above all events of its process before it
 abbrev pub AreTops : List Stream → Type 0
@@ -185,13 +184,9 @@ fits_by streams marks ok p i e r (item.Reported q j) d at sent =
     let agreed = matched_send streams ok p i e q j d r.at receive at stamp who count in
     let kind_is = is_sending p d.to d.kind sent.sends in
     let first : receive_of streams q d.serial.this ≡ Some (p, i) =
-    ap (λ r. receive_of streams r d.serial.this) who
-    ∙ ap (receive_of streams e.from) count
-    ∙ once_place streams ok p i e r.at receive in
+    rw (who, count) (once_place streams ok p i e r.at receive) in
     let receiver : receiver_at streams q j ≡ Some (p, i) =
-    ap (option_and_then (λ (f : Event). if is_send f then receive_of streams q f.serial.this else
-    None)) at
-    ∙ ap (λ b. cond b (receive_of streams q d.serial.this) None) agreed.sends ∙ first in
+    rw (at, agreed.sends) first in
     let kinds = sym r.kind in
     let tos = sym r.to in
     let prevs = agreed.prev in

@@ -1,6 +1,6 @@
 -- The tracers come first: a tracer for each node marks all its processes, reports nothing and
 -- leaves all else at zero, so that after them the state is what no moves say.
-use Rattle.std.proofs.Common.{◌≡◌, ℕ, ◌==◌, ◌&&◌, zero, suc, Bool, true, false, cond, List, [], ◌∷◌}
+use Rattle.std.proofs.Common.{◌≡◌, ℕ, ◌==◌, zero, suc, Bool, true, false, cond, List, [], ◌∷◌}
 use Rattle.std.proofs.Common.{Option, Some, None}
 use Rattle.std.proofs.Common.{is_some, option_map, option_and_then, refl, sym, ◌∙◌, ap, subst}
 use Rattle.std.specs.List.{slice_get}
@@ -80,12 +80,7 @@ tracer_keeps p before r h =
     elim (node_eq r.pid p) as (λ b. node_eq r.pid p ≡ b
     → (after_tracer p before r).local.traced ≡ true) [
       | true ↦ λ e. tracer_node p before r e
-      | false ↦ λ e.
-          let apart : pid_eq r.pid p ≡ false = ap (λ b. b && (r.pid.number == p.number)) e in
-          ap (λ b. (marked (node_eq (owned b before r).pid p)
-          (owned b before r)).local.traced) apart
-          ∙ ap (λ b. (marked b r).local.traced) e
-          ∙ h
+      | false ↦ λ e. let apart : pid_eq r.pid p ≡ false = rw e refl in rw (apart, e) h
     ] refl
 
 -- ALL TRACERS
@@ -201,8 +196,7 @@ zero_there : (pids : List Pid) (k : ℕ) (x : Pid) → slice_get pids k ≡ Some
     → is_some (process (zero_state pids) x) ≡ true
 zero_there [] k x h = absurd (none-some x h)
 zero_there (p ∷ pids) zero x h =
-    ap (λ b. is_some (cond b (Some (zeroes p)) (process (zero_state pids) x)))
-    (ap (λ q. pid_eq q x) (same_Some p x h) ∙ pid_eq-refl x)
+    rw (same_Some p x h, pid_eq-refl x) refl
 zero_there (p ∷ pids) (suc k) x h =
     elim (pid_eq p x) as (λ b. is_some (cond b (Some (zeroes p)) (process (zero_state pids) x))
     ≡ true) [

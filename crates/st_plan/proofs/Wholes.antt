@@ -1,14 +1,12 @@
 -- The marks of whole streams, whose pids rise, are those of their events, place by place; so what
 -- is told of their streams by places is their told events.
-use Rattle.std.proofs.Common.{◌≡◌, ℕ, suc, ◌+◌, Bool, false, cond, List, [], ◌∷◌, map, slice_get}
-use Rattle.std.proofs.Common.{Option, find, Some, None, refl, ◌∙◌, ap, subst, arith}
+use Rattle.std.proofs.Common.{◌≡◌, ℕ, suc, ◌+◌, Bool, List, [], ◌∷◌, map, slice_get}
+use Rattle.std.proofs.Common.{Some, refl, ◌∙◌, ap, subst, arith}
 use Rattle.std.specs.List.{AllByRecursion}
-use Rattle.std.specs.Option.{option_map_or}
-use Rattle.st_core.specs.declared.types.Event.{Event}
 use Rattle.st_core.specs.declared.types.Act.{Act}
 use Rattle.st_core.specs.Laws.{NoReset}
-use Rattle.st_core.specs.Pid.{pid_eq, IsBelow, IsRising}
-use Rattle.st_core.specs.Run.{Shows, Stream, pids_of}
+use Rattle.st_core.specs.Pid.{IsBelow, IsRising}
+use Rattle.st_core.specs.Run.{Shows, pids_of}
 use Rattle.st_core.specs.Streams.{IsStreams}
 use Rattle.st_core.proofs.ForCallers.{pid_eq-refl, IsBelow-apart}
 use Rattle.st_order.specs.Order.{order}
@@ -31,8 +29,7 @@ told_marked told i (m ∷ ms) all =
     let rest = told_marked told (i + 1) ms (λ k x at.
     let next : i + 1 + k ≡ i + suc k = omega arith in
     ap told next ∙ all (suc k) x at) in
-    let later = told_events_from told (i + 1) (map (λ (x : Marked). x.event) ms) in
-    ap (λ b. cond b (m.event ∷ later) later) first ∙ ap (λ es. cond m.told (m.event ∷ es) es) rest
+    rw (first, rest) refl
 
 -- ALL
 
@@ -42,22 +39,12 @@ AreMarked all some = AllByRecursion (λ (w : Whole). (k : ℕ) (m : Marked)
     → slice_get w.marked k ≡ Some m
     → marks_of all w.pid k ≡ m.told) some
 
-abbrev pub mark_in : Option Whole → ℕ → Bool
-mark_in o i = elim o [
-  | None ↦ false
-  | Some w ↦ option_map_or (λ (m : Marked). m.told)
-      (slice_get w.marked i) false
-]
-
 marked_later : (x : Whole) (all some : List Whole)
     → AllByRecursion (IsBelow x.pid) (pids_of (all_streams some))
     → AreMarked all some → AreMarked (x ∷ all) some
 marked_later x all [] above marked = tt
 marked_later x all (w ∷ some) above marked = (
-  λ k m at.
-      let rest = find (λ (v : Whole). pid_eq v.pid w.pid) all in
-      ap (λ b. mark_in (cond b (Some x) rest) k) (IsBelow-apart x.pid w.pid above.0)
-      ∙ marked.0 k m at,
+  λ k m at. rw (marks_of, IsBelow-apart x.pid w.pid above.0) (marked.0 k m at),
   marked_later x all some above.1 marked.1,
 )
 
@@ -65,10 +52,7 @@ are_marked : (wholes : List Whole) → IsRising (pids_of (all_streams wholes))
     → AreMarked wholes wholes
 are_marked [] rising = tt
 are_marked (w ∷ wholes) rising = (
-  λ k m at.
-      let rest = find (λ (v : Whole). pid_eq v.pid w.pid) wholes in
-      ap (λ b. mark_in (cond b (Some w) rest) k) (pid_eq-refl w.pid)
-      ∙ ap (λ (o : Option Marked). option_map_or (λ (x : Marked). x.told) o false) at,
+  λ k m at. rw (marks_of, pid_eq-refl w.pid, at) refl,
   marked_later w wholes wholes rising.0 (are_marked wholes rising.1),
 )
 
@@ -79,10 +63,7 @@ told_some all (w ∷ some) marked =
     let one = told_marked (marks_of all w.pid) 0 w.marked (λ k m at.
     let same : 0 + k ≡ k = omega arith in
     ap (marks_of all w.pid) same ∙ marked.0 k m at) in
-    ap (λ (es : List Event). record { pid = w.pid; events = es }
-    ∷ told_parts (marks_of all) (all_streams some)) one
-    ∙ ap (λ (ss : List Stream). record { pid = w.pid; events = told_events w.marked } ∷ ss)
-    (told_some all some marked.1)
+    rw (one, told_some all some marked.1) refl
 
 -- told by places as by marks
 pub told_of_whole : (wholes : List Whole) → IsRising (pids_of (all_streams wholes))
