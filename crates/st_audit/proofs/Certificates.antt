@@ -1,9 +1,9 @@
 -- The finding that plain streams determine is a certificate: no reason holds of an item, its acts
 -- run and its event is the last of what they report, so the construction goes through, and its acts
 -- show the streams.
-use Rattle.std.proofs.Common.{◌≡◌, ◌⊎◌, ℕ, ◌+◌, ◌-◌, ◌<◌, ◌≤◌, zero, suc, cond, List, [], ◌∷◌, ◌++◌}
+use Rattle.std.proofs.Common.{◌≡◌, ◌⊎◌, ℕ, ◌+◌, ◌-◌, ◌<◌, ◌≤◌, zero, suc, List, [], ◌∷◌, ◌++◌}
 use Rattle.std.proofs.Common.{take, length, get_or, Option, Some, None, slice_get, refl, sym, ◌∙◌}
-use Rattle.std.proofs.Common.{ap, subst, arith}
+use Rattle.std.proofs.Common.{subst, arith}
 use Rattle.std.proofs.lemmas.Option.{same_Some, slice_get-get_or}
 use Rattle.st_core.specs.declared.types.Pid.{Pid}
 use Rattle.st_core.specs.declared.types.Event.{Event}
@@ -22,14 +22,13 @@ use Rattle.st_plan.specs.Build.{state_after, tracers_after}
 use Rattle.st_plan.specs.Marks.{all_told}
 use Rattle.st_plan.specs.Moves.{Move, earlier_of, move_by}
 use Rattle.st_plan.specs.Plain.{IsPlain}
-use Rattle.st_plan.specs.Reasons.{too_wide, uncaused}
 use Rattle.st_plan.specs.Full.{IsFullyShown}
 use Rattle.st_plan.proofs.ForCallers.{only_whole, opens}
 use Rattle.st_audit.specs.declared.finding.Finding.{Finding}
 use Rattle.st_audit.specs.declared.finding.Finding.TheVariants as finding
 use Rattle.st_audit.specs.declared.finding.Reason.TheVariants as reason
-use Rattle.st_audit.specs.Construction.{acts_from, attempt, compared_turn, end_of, turn}
-use Rattle.st_audit.specs.Construction.{Judged, Through, Stopped, IsAudit, IsFoundAt, IsFoundBy}
+use Rattle.st_audit.specs.Construction.{end_of, turn}
+use Rattle.st_audit.specs.Construction.{Judged, Through, IsAudit, IsFoundAt, IsFoundBy}
 use Rattle.st_audit.specs.Findings.{HasCertificate, IsNo}
 use Rattle.st_audit.proofs.Course.{begins_course, course_ends, course_item, course_next, IsOnCourse}
 use Rattle.st_audit.proofs.Fullness.{certain_plain}
@@ -56,14 +55,12 @@ module _ (top : ℕ) (streams : List Stream) (sound : IsStreams streams) (plain 
     through =
         let m = move_by x to.event in
         let g = to.goes in
-        ap (λ b. cond b (Stopped [])
-        (compared_turn m (attempt top s (uncaused past m) (too_wide past m)
-        (acts_from streams all_told s m)))) to.in_turn
-        ∙ ap (compared_turn m) (goes_tried top streams all_told sound plain xs order n x at s acts
-        track)
-        ∙ ap (λ b. cond b (Through g.acts g.outcomes) (Stopped g.acts))
-        (sym (marked_shown m g.outcomes)
-        ∙ goes_marked top streams all_told sound plain xs order n x at s acts track)
+        rw (
+          to.in_turn,
+          goes_tried top streams all_told sound plain xs order n x at s acts track,
+          sym (marked_shown m g.outcomes)
+              ∙ goes_marked top streams all_told sound plain xs order n x at s acts track,
+        ) refl
 
     -- of the event that the course has there
     through_at : (e : Event) → event_of streams x ≡ Some e

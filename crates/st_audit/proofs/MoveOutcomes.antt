@@ -284,12 +284,7 @@ module _ {top : ℕ} (streams : List Stream) (marks : Marks) (earlier : List Mov
       → move_turn streams marks c m ≡ by_moves) [
         | None ↦ λ at. nowhere at
         | Some r ↦ λ at.
-            ap (λ b. attempt top c.world b (not (is_taking m)
-            && test_at (λ x. is_too_wide c.skipped (missing_count x m.event.serial)) c.world m.who)
-            (acts_from streams marks c.world m)) (same_uncaused r at)
-            ∙ ap (λ b. attempt top c.world (uncaused earlier m) b
-            (acts_from streams marks c.world m))
-            (same_too_wide r at)
+            rw (same_uncaused r at, same_too_wide r at) refl
       ] refl where
         nowhere : process c.world m.who ≡ None → move_turn streams marks c m ≡ by_moves
         nowhere at = rw at refl

@@ -36,9 +36,9 @@ use Rattle.st_plan.proofs.ForCallers.{caused_at, holds_not, stream_append, IsKep
 use Rattle.st_audit.specs.declared.construction.Construction.{Construction}
 use Rattle.st_audit.specs.declared.construction.Halt.{Halt}
 use Rattle.st_audit.specs.declared.construction.Halt.TheVariants as halt
-use Rattle.st_audit.specs.Construction.{acts_from, attempt, last_report, turn_by, Through, Stopped}
+use Rattle.st_audit.specs.Construction.{acts_from, attempt, last_report, turn_by, Through}
 use Rattle.st_audit.specs.Progress.{if_told, is_below, is_high, is_marked, is_uncaused, item_turn}
-use Rattle.st_audit.specs.Progress.{marked_turn, Meets, SaysNothing, WentThrough}
+use Rattle.st_audit.specs.Progress.{Meets, SaysNothing, WentThrough}
 use Rattle.st_audit.proofs.Attempts.{acts_in, attempt_acts, last_report-push, only_memory}
 use Rattle.st_audit.proofs.Attempts.{outcomes_in}
 use Rattle.st_audit.proofs.ItemPlaces.{split_at}
@@ -196,17 +196,14 @@ module _ (top : ℕ) (streams : List Stream) (marks : Marks) (sound : IsStreams 
       item_through =
           let earlier = earlier_of streams (take n xs) in
           let g = goes.goes in
-          let turn = attempt top old.world (uncaused earlier whole) (too_wide earlier whole)
-          (acts_from streams marks old.world whole) in
           let low = item_low top streams marks old.world earlier track.kept x goes.event g
           goes.below in
-          ap (λ b. cond b (Stopped [])
-          (cond (is_high marks old.world whole) (Stopped []) (marked_turn marks whole turn)))
-          goes.in_turn
-          ∙ ap (λ b. cond b (Stopped []) (marked_turn marks whole turn)) low
-          ∙ ap (marked_turn marks whole) (goes_tried old.world old.acts track)
-          ∙ ap (λ b. cond b (Through g.acts g.outcomes) (Stopped g.acts))
-          (goes_marked old.world old.acts track)
+          rw (
+            goes.in_turn,
+            low,
+            goes_tried old.world old.acts track,
+            goes_marked old.world old.acts track,
+          ) refl
 
       goes_memory : (h : Halt) (new : Construction top)
           → Meets {T = Unit {0}} SaysNothing
