@@ -1,6 +1,6 @@
 -- No clock is above the number of acts so far, so a stamp has a value while there are at most TOP
 -- acts, and nobody is missing.
-use Rattle.std.proofs.Common.{◌≡◌, ℕ, ◌+◌, ◌<◌, ◌≤◌, true, false, cond, nat_lt, List, [], ◌∷◌}
+use Rattle.std.proofs.Common.{◌≡◌, ℕ, ◌+◌, ◌<◌, ◌≤◌, true, false, cond, List, [], ◌∷◌}
 use Rattle.std.proofs.Common.{length, map, get_or, Option, Some, None, is_some, option_map}
 use Rattle.std.proofs.Common.{option_and_then, All, refl, sym, ◌∙◌, ap, subst, arith, if◌then◌else◌}
 use Rattle.std.specs.Prelude.{IsSome}
@@ -23,6 +23,7 @@ use Rattle.st_core.specs.Step.{outcome_of, step}
 use Rattle.st_core.specs.Run.{run_from}
 use Rattle.st_core.specs.Laws.{IsStamped, IsSound}
 use Rattle.st_core.proofs.ForCallers.{step_sound, zero_sound, process_holds, leaves_others}
+use Rattle.st_core.proofs.ForCallers.{step_done}
 use Rattle.st_core.proofs.ForCallers.{zero_pids, both_of}
 use Rattle.st_check.specs.Laws.{acts_among, FewActsRun}
 
@@ -59,13 +60,7 @@ record StampsAlike (stamps : ℕ → Option LocalState) (high low : ℕ) : Type 
 has_stamp : (top : ℕ) (p : Pid) (l : LocalState) (t : Token) → l.token ≡ Some t → l.clock < top
     → stamp top p l ≡ Some (record l { token = Some (stamped_token p l t); clock = l.clock + 1 })
 has_stamp top p l t has below =
-    ap (λ (o : Option Token). option_and_then
-    (λ t. if nat_lt l.clock top then Some
-    (record l { token = Some (stamped_token p l t); clock = l.clock + 1 })
-    else None) o) has
-    ∙ ap (λ b. cond b (Some (record l { token = Some (stamped_token p l t); clock = l.clock + 1 }))
-    None)
-    (lt-ltb l.clock top below)
+    rw (has, lt-ltb l.clock top below) refl
 
 module _ (high low : ℕ) (p : Pid) (l : LocalState) (below_high : l.clock < high)
     (below_low : l.clock < low) where
@@ -82,8 +77,8 @@ module _ (high low : ℕ) (p : Pid) (l : LocalState) (below_high : l.clock < hig
       → StampsAlike (λ top. stamp_any top p l) high low
   any_alike None none = record {
     stamped = l;
-    at_high = ap (λ (o : Option Token). if is_some o then stamp high p l else Some l) none;
-    at_low = ap (λ (o : Option Token). if is_some o then stamp low p l else Some l) none;
+    at_high = rw none refl;
+    at_low = rw none refl;
   }
   any_alike (Some t) some =
       let both = stamps_alike t some in
@@ -113,11 +108,7 @@ module _ (high low : ℕ) (r : Process) (below_high : r.local.clock < high)
   unlabelled : (p : Pid) (n : Label) (v : ℕ) → has_label n r.local.token ≡ false
       → ActsAlike high low r (act.PrintAt p n v)
   unlabelled p n v other = always (act.PrintAt p n v) (answers r r.local reply.Done)
-      (ap (λ b. cond b (option_map (prints r v) (stamp high r.pid r.local))
-      (Some (answers r r.local reply.Done)))
-      other)
-      (ap (λ b. cond b (option_map (prints r v) (stamp low r.pid r.local))
-      (Some (answers r r.local reply.Done))) other)
+      (rw other refl) (rw other refl)
 
   at_label : (p : Pid) (n : Label) (v : ℕ) (token : Option Token) → r.local.token ≡ token
       → ActsAlike high low r (act.PrintAt p n v)
@@ -127,12 +118,7 @@ module _ (high low : ℕ) (r : Process) (below_high : r.local.clock < high)
       → ActsAlike high low r (act.PrintAt p n v)) [
         | true ↦ λ same.
             by_stamp (prints r v) (λ top. stamp top r.pid r.local) (act.PrintAt p n v)
-            (ap (λ b. cond b (option_map (prints r v) (stamp high r.pid r.local))
-            (Some (answers r r.local reply.Done)))
-            same)
-            (ap (λ b. cond b (option_map (prints r v) (stamp low r.pid r.local))
-            (Some (answers r r.local reply.Done)))
-            same)
+            (rw same refl) (rw same refl)
             (stamps_alike high low r.pid r.local below_high below_low t some)
         | false ↦ λ other. unlabelled p n v other
       ] refl
@@ -174,18 +160,6 @@ record StepsAlike (high low : ℕ) (s : State) (a : Act) : Type 0 where
   at_high : step high s a ≡ Some outcome
   at_low : step low s a ≡ Some outcome
 
-is_step : (top : ℕ) (s : State) (a : Act) (r q : Process) (done : Acted)
-    → process s (actor a) ≡ Some r
-    → process s (receiver a) ≡ Some q → acted top r a ≡ Some done
-    → step top s a ≡ Some (outcome_of s a done)
-is_step top s a r q done is_actor is_receiver is_done =
-    ap (λ (o : Option Process). option_and_then
-    (λ x. option_and_then (λ _. option_map (outcome_of s a) (acted top x a))
-    (process s (receiver a))) o) is_actor
-    ∙ ap (λ (o : Option Process). option_and_then (λ _. option_map (outcome_of s a) (acted top r a))
-    o) is_receiver
-    ∙ ap (option_map (outcome_of s a)) is_done
-
 steps_alike : (high low : ℕ) (s : State) (a : Act) → All (λ r. r.local.clock < high) s
     → All (λ r. r.local.clock < low) s → acts_among (map (λ (r : Process). r.pid) s) a ≡ true
     → StepsAlike high low s a
@@ -201,9 +175,9 @@ steps_alike high low s a below_high below_low among =
     a in
     record {
       outcome = outcome_of s a both.done;
-      at_high = is_step high s a r receiver_there.found both.done actor_there.is receiver_there.is
+      at_high = step_done high s a r receiver_there.found both.done actor_there.is receiver_there.is
           both.at_high;
-      at_low = is_step low s a r receiver_there.found both.done actor_there.is receiver_there.is
+      at_low = step_done low s a r receiver_there.found both.done actor_there.is receiver_there.is
           both.at_low;
     }
 

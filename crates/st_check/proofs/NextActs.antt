@@ -24,7 +24,7 @@ use Rattle.st_check.specs.Progress.{tags_of, reported_count, counts_with, pair_t
 use Rattle.st_check.specs.Progress.{IsEven, IsPassed, IsPassedBy, IsStop}
 use Rattle.st_check.specs.declared.comparison.Comparison.{Comparison}
 use Rattle.st_check.proofs.OneMoreAct.{pair_of}
-use Rattle.st_check.proofs.PassedActs.{unlisted_stuck, stuck_more, passed_more, differs_more}
+use Rattle.st_check.proofs.PassedActs.{unlisted_stuck, run_more, passed_more, differs_more}
 
 -- as many counts as streams
 pub length-counts : (top : ℕ) (streams : List Stream) (acts : List Act) (s : State)
@@ -71,8 +71,8 @@ module _ (top : ℕ) (streams : List Stream) (acts : List Act) (n : ℕ) (d : Ac
       ≡ None
   stuck_at h =
       subst (λ xs. run top (pids_of streams) xs ≡ None) more
-      (stuck_more top streams (take n acts) s c.counts.items c.tags.lists c.pairs (get_or acts n d)
-      p h)
+      (run_more top streams (take n acts) s c.counts.items c.tags.lists c.pairs (get_or acts n d)
+      None p h)
 
   stop_at : (f : StepFault) → (f ≡ fault.Memory) ⊎ (step top s (get_or acts n d) ≡ None)
       → IsStop top streams (take (n + 1) acts) (stop_of f)

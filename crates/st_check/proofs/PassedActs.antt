@@ -1,7 +1,7 @@
 -- All that is kept is told by the run so far, and one more act changes it at its own process alone.
-use Rattle.std.proofs.Common.{◌≡◌, ℕ, ◌+◌, ◌<◌, Bool, true, false, cond, List, [], ◌∷◌, ◌++◌}
+use Rattle.std.proofs.Common.{◌≡◌, ℕ, ◌+◌, ◌<◌, Bool, true, false, List, [], ◌∷◌, ◌++◌}
 use Rattle.std.proofs.Common.{length, map, get_or, set, replicate, Option, Some, None, IsSome}
-use Rattle.std.proofs.Common.{is_some, option_map, option_and_then, option_to_list, refl, sym, ◌∙◌}
+use Rattle.std.proofs.Common.{is_some, option_map, option_to_list, refl, sym, ◌∙◌}
 use Rattle.std.proofs.Common.{ap, subst, arith, append-nil, length-append, if◌then◌else◌}
 use mathlib.Core.List.{IsPrefix}
 use Rattle.std.specs.Option.{ForSome}
@@ -13,7 +13,7 @@ use Rattle.st_core.specs.declared.types.Event.{Event}
 use Rattle.st_core.specs.declared.types.Act.{Act}
 use Rattle.st_core.specs.Pid.{pid_eq, IsRising}
 use Rattle.st_core.specs.State.{Process, State, process, zero_state}
-use Rattle.st_core.specs.Step.{Outcome, actor, receiver, acted, outcome_of, step}
+use Rattle.st_core.specs.Step.{Outcome, actor, step}
 use Rattle.st_core.specs.Run.{Stream, pids_of, run, run_from, stream}
 use Rattle.st_core.specs.Streams.{events_of}
 use Rattle.st_core.specs.Pairs.{tags_after, pairs}
@@ -65,8 +65,7 @@ unlisted_process : (s : State) (p : Pid)
     → AllByRecursion (λ q. pid_eq q p ≡ false) (map (λ (r : Process). r.pid) s)
     → process s p ≡ None
 unlisted_process [] p apart = refl
-unlisted_process (r ∷ s) p apart = ap (λ b. cond b (Some r) (process s p)) apart.0
-    ∙ unlisted_process s p apart.1
+unlisted_process (r ∷ s) p apart = rw apart.0 (unlisted_process s p apart.1)
 
 -- an act of a process that isn't listed has no step
 pub unlisted_stuck : (top : ℕ) (streams : List Stream) (acts : List Act) (s : State)
@@ -82,30 +81,18 @@ unlisted_stuck top streams acts s counts tags ps a p apart =
     let missing : process s (actor a) ≡ None =
     unlisted_process s (actor a)
     (subst (AllByRecursion (λ q. pid_eq q (actor a) ≡ false)) (sym pids) apart) in
-    ap (option_and_then (λ r. option_and_then (λ (_ : Process). option_map (outcome_of s a) (acted top r a))
-    (process s (receiver a)))) missing
-
--- NO STEP
-
--- if the act has no step, the acts with it have no run
-pub stuck_more : (top : ℕ) (streams : List Stream) (acts : List Act) (s : State) (counts : List ℕ)
-    (tags : List (List ℕ)) (ps : List (ℕ × ℕ)) (a : Act)
-    → IsPassed top streams acts s counts tags ps
-    → step top s a ≡ None → run top (pids_of streams) (acts ++ a ∷ []) ≡ None
-stuck_more top streams acts s counts tags ps a p h =
-    run-append top (zero_state (pids_of streams)) acts a p.outcomes p.passing.runs
-    ∙ ap (option_map (λ o. p.outcomes ++ o ∷ [])) (ap (λ x. step top x a) (sym p.is_state) ∙ h)
+    rw missing refl
 
 -- A STEP
 
-run_more : (top : ℕ) (streams : List Stream) (acts : List Act) (s : State) (counts : List ℕ)
-    (tags : List (List ℕ))
-    (ps : List (ℕ × ℕ)) (a : Act) (o : Outcome) (p : IsPassed top streams acts s counts tags ps)
-    → step top s a ≡ Some o → run top (pids_of streams) (acts ++ a ∷ [])
-    ≡ Some (p.outcomes ++ o ∷ [])
-run_more top streams acts s counts tags ps a o p h =
+-- the run of the acts with one more, by its step
+pub run_more : (top : ℕ) (streams : List Stream) (acts : List Act) (s : State) (counts : List ℕ)
+    (tags : List (List ℕ)) (ps : List (ℕ × ℕ)) (a : Act) (first : Option Outcome)
+    (p : IsPassed top streams acts s counts tags ps) → step top s a ≡ first
+    → run top (pids_of streams) (acts ++ a ∷ []) ≡ option_map (λ o. p.outcomes ++ o ∷ []) first
+run_more top streams acts s counts tags ps a first p h =
     run-append top (zero_state (pids_of streams)) acts a p.outcomes p.passing.runs
-    ∙ ap (option_map (λ x. p.outcomes ++ x ∷ [])) (ap (λ x. step top x a) (sym p.is_state) ∙ h)
+    ∙ ap (option_map (λ o. p.outcomes ++ o ∷ [])) (ap (λ x. step top x a) (sym p.is_state) ∙ h)
 
 module _ (acts : List Act) (a : Act) (os : List Outcome) (o : Outcome)
     (even : length os ≡ length acts) where
@@ -113,9 +100,7 @@ module _ (acts : List Act) (a : Act) (os : List Outcome) (o : Outcome)
   pub stream_other : (q : Pid) → pid_eq (actor a) q ≡ false
       → stream (acts ++ a ∷ []) (os ++ o ∷ []) q ≡ stream acts os q
   stream_other q apart =
-      stream-append acts a os o q even
-      ∙ ap (λ b. stream acts os q ++ (if b then option_to_list o.report else [])) apart
-      ∙ append-nil (stream acts os q)
+      stream-append acts a os o q even ∙ rw apart (append-nil (stream acts os q))
 
   no_event : (b : Bool) → (if b then option_to_list {X = Event} None else []) ≡ []
   no_event true = refl
@@ -126,18 +111,13 @@ module _ (acts : List Act) (a : Act) (os : List Outcome) (o : Outcome)
       → stream (acts ++ a ∷ []) (os ++ o ∷ []) q ≡ stream acts os q
   stream_silent q silent =
       stream-append acts a os o q even
-      ∙ ap (λ r. stream acts os q ++ (if pid_eq (actor a) q then option_to_list r else [])) silent
-      ∙ ap (λ es. stream acts os q ++ es) (no_event (pid_eq (actor a) q))
-      ∙ append-nil (stream acts os q)
+      ∙ rw (silent, no_event (pid_eq (actor a) q)) (append-nil (stream acts os q))
 
   -- the actor's grows by what it reports
   pub stream_own : (e : Event) → o.report ≡ Some e
       → stream (acts ++ a ∷ []) (os ++ o ∷ []) (actor a) ≡ stream acts os (actor a) ++ e ∷ []
   stream_own e is =
-      stream-append acts a os o (actor a) even
-      ∙ ap (λ b. stream acts os (actor a) ++ (if b then option_to_list o.report else []))
-      (pid_eq-same (actor a))
-      ∙ ap (λ r. stream acts os (actor a) ++ option_to_list r) is
+      stream-append acts a os o (actor a) even ∙ rw (pid_eq-same (actor a), is) refl
 
   counts_more : (pids : List Pid) (i : ℕ) → IsRising pids → slice_get pids i ≡ Some (actor a)
       → (report : Option Event) → o.report ≡ report
@@ -198,7 +178,7 @@ passed_more top streams acts s counts tags ps a o i n later rising at number p h
     record {
       outcomes = os ++ o ∷ [];
       passing = record {
-        runs = run_more top streams acts s counts tags ps a o p h;
+        runs = run_more top streams acts s counts tags ps a (Some o) p h;
         fronts = λ k d within.
             let x = get_or streams k d in
             front_kept acts a os o even x o.report refl (λ e is same.
@@ -232,7 +212,7 @@ pub differs_more : (top : ℕ) (streams : List Stream) (acts : List Act) (s : St
 differs_more top streams acts s counts tags ps a o i e rising at p h is other =
     let os = p.outcomes in
     let even = length-run top (zero_state (pids_of streams)) acts os p.passing.runs in
-    let whole = run_more top streams acts s counts tags ps a o p h in
+    let whole = run_more top streams acts s counts tags ps a (Some o) p h in
     let count : get_or counts i 0 ≡ reported_count acts os (actor a) =
     ap (λ xs. get_or xs i 0) p.are_counts
     ∙ entry_at (reported_count acts os) (pids_of streams) i (actor a) 0 at in

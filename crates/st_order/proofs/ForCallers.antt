@@ -9,7 +9,7 @@ pub use Rattle.st_order.proofs.DistinctItems.{index_of}
 pub use Rattle.st_order.proofs.OneOrder.{one_order, Among, among_all, members}
 pub use Rattle.st_order.proofs.Insertion.{an_order}
 -- ---- the events of a process in turn
-pub use Rattle.st_order.proofs.Turns.{keeps_turn, tallest_has}
+pub use Rattle.st_order.proofs.Turns.{keeps_turn, tallest_grows, tallest_has}
 pub use Rattle.st_order.proofs.RowKeys.{greatest_more}
 pub use Rattle.st_order.proofs.Lists.{all_append, all_right, all_take}
 -- ---- the events of a listed process

@@ -6,7 +6,7 @@ use Rattle.std.proofs.Common.{refl, sym, ◌∙◌, ap, arith}
 use Rattle.std.specs.List.{AllByRecursion, cons_option, filter_map, list_any}
 use Rattle.std.specs.List.Sorted.{IsSortedByKey, IsStableByKey, IsNonDecreasingBy, ties}
 use Rattle.std.specs.Ordering.{nat_cmp, is_lt}
-use Rattle.std.proofs.lemmas.Bool.{eqb-true, eq-eqb}
+use Rattle.std.proofs.lemmas.Bool.{eq-eqb, eqb-true, ne_eqb}
 use Rattle.std.proofs.lemmas.Bool.Decides.{nat_tests}
 use Rattle.std.proofs.lemmas.List.Sorted.{IsNonDecreasingBy-from_sort}
 use Rattle.st_core.specs.declared.types.Label.{Label}
@@ -132,22 +132,13 @@ none_passes p (x ∷ xs) none = elim (p x) as
       | false ↦ λ h. none_passes p xs h
     ] none
 
-unlike : (m n : ℕ) → (m ≡ n → ⊥) → (m == n) ≡ false
-unlike m n differ = elim (m == n) as (λ b. (m == n) ≡ b → b ≡ false) [
-  | true ↦ λ is. absurd (differ (eqb-true m n is))
-  | false ↦ λ is. refl
-] refl
-
-alike : (m n : ℕ) → m ≡ n → (m == n) ≡ true
-alike m n same = eq-eqb m n same
-
 above_all : (n : ℕ) (gs : List Group) (label : Label) → label.0 ≡ n
     → AllByRecursion (λ h. n < h.0.0) gs
     → list_any (is_of label) gs ≡ false
 above_all n [] label same above = refl
 above_all n (g ∷ gs) label same above =
     let head : is_of label g ≡ false =
-    unlike g.0.0 label.0 (λ is. let low = above.0 in absurd (omega arith)) in
+    ne_eqb g.0.0 label.0 (λ is. let low = above.0 in absurd (omega arith)) in
     ap (λ (b : Bool). b || list_any (is_of label) gs) head ∙ above_all n gs label same above.1
 
 -- the group has exactly the items of its label
@@ -160,11 +151,8 @@ held_later : (x : LabelledItem) (xs : List LabelledItem) (gs : List Group)
 held_later x xs [] above all = tt
 held_later x xs (g ∷ gs) above all =
     let other : is_with g.0 x ≡ false =
-    unlike x.label.0 g.0.0 (λ is. let low = above.0 in absurd (omega arith)) in (
-      all.0
-          ∙ sym
-          (ap (λ (b : Bool). items_in
-          (cond b (x ∷ filter (is_with g.0) xs) (filter (is_with g.0) xs))) other),
+    ne_eqb x.label.0 g.0.0 (λ is. let low = above.0 in absurd (omega arith)) in (
+      rw other all.0,
       held_later x xs gs above.1 all.1,
     )
 
@@ -172,12 +160,7 @@ held_later x xs (g ∷ gs) above all =
 alone : (x : LabelledItem) (xs : List LabelledItem) → list_any (is_with x.label) xs ≡ false
     → (x.item ∷ []) ≡ items_in (filter (is_with x.label) (x ∷ xs))
 alone x xs none =
-    ap (λ (ys : List LabelledItem). x.item ∷ items_in ys)
-    (sym (none_passes (is_with x.label) xs none))
-    ∙ sym
-    (ap (λ (b : Bool). items_in
-    (cond b (x ∷ filter (is_with x.label) xs) (filter (is_with x.label) xs)))
-    (alike x.label.0 x.label.0 refl))
+    rw (eq-eqb x.label.0 x.label.0 refl, none_passes (is_with x.label) xs none) refl
 
 put_holds : (x : LabelledItem) (xs : List LabelledItem) (gs : List Group) → LabelsRise gs
     → AllByRecursion (λ g. number_of x ≤ g.0.0) gs
@@ -189,10 +172,8 @@ put_holds x xs (g ∷ gs) up low any all = elim (g.0.0 == x.label.0) as (λ b. (
     (cond b ((g.0, x.item ∷ g.1) ∷ gs) ((x.label, x.item ∷ []) ∷ g ∷ gs))) [
       | true ↦ λ is.
           let same = eqb-true g.0.0 x.label.0 is in
-          let its : is_with g.0 x ≡ true = alike x.label.0 g.0.0 (sym same) in (
-            ap (λ (ys : List Item). x.item ∷ ys) all.0
-                ∙ sym (ap (λ (b : Bool). items_in
-                (cond b (x ∷ filter (is_with g.0) xs) (filter (is_with g.0) xs))) its),
+          let its : is_with g.0 x ≡ true = eq-eqb x.label.0 g.0.0 (sym same) in (
+            rw its (ap (λ (ys : List Item). x.item ∷ ys) all.0),
             held_later x xs gs (all_mapped (λ h. g.0.0 < h.0.0) (λ h. number_of x < h.0.0) gs
                 (λ h higher. omega (arith, same)) up.0) all.1,
           )
@@ -287,10 +268,11 @@ module _ (streams : List Stream) (label : Label) where
       ≡ filter (item_has_label streams label) xs
   labelled_filter [] = refl
   labelled_filter (x ∷ xs) =
-      ap (λ (l : List LabelledItem). items_in (filter (is_with label) l)) (mapped_by x xs)
-      ∙ filtered_by x (label_of streams x) (filter_map (with_label streams) xs)
-      ∙ ap (λ (ys : List Item). cond (item_has_label streams label x) (x ∷ ys) ys)
-      (labelled_filter xs)
+      rw (
+        mapped_by x xs,
+        filtered_by x (label_of streams x) (filter_map (with_label streams) xs),
+        labelled_filter xs,
+      ) refl
 
   labelled_any : (xs : List Item)
       → list_any (is_with label) (filter_map (with_label streams) xs)

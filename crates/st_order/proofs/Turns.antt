@@ -68,12 +68,11 @@ under_less k l u =
 abbrev pub tallest : List Event → ℕ → ℕ
 tallest es n = greatest (map (λ e. e.serial.this) (take n es))
 
-tallest_grows : (es : List Event) (m n : ℕ) → m ≤ n → tallest es m ≤ tallest es n
+pub tallest_grows : (es : List Event) (m n : ℕ) → m ≤ n → tallest es m ≤ tallest es n
 tallest_grows es zero n less = omega arith
-tallest_grows es (suc m) zero less = absurd (omega arith)
-tallest_grows [] (suc m) (suc n) less = omega arith
 tallest_grows (e ∷ es) (suc m) (suc n) less = let rest = tallest_grows es m n (omega arith) in
     omega arith
+tallest_grows es m n less = omega arith
 
 pub tallest_has : (es : List Event) (n j : ℕ) (e : Event) → slice_get es j ≡ Some e → j < n
     → e.serial.this ≤ tallest es n
