@@ -1,7 +1,7 @@
 -- A stamp that is above all events of its process before it is above each item of its process with
 -- a lower key: a reported one has a lower index, and a hidden one another count.
-use Rattle.std.proofs.Common.{◌≡◌, ℕ, zero, suc, ◌+◌, ◌<◌, ◌≤◌, ◌==◌, ◌&&◌, max, Bool, true, false}
-use Rattle.std.proofs.Common.{cond, List, [], ◌∷◌, map, take, Option, Some, None, inl, inr, refl}
+use Rattle.std.proofs.Common.{◌≡◌, ℕ, suc, ◌+◌, ◌<◌, ◌≤◌, ◌==◌, ◌&&◌, max, Bool, true, false}
+use Rattle.std.proofs.Common.{cond, List, map, take, Option, Some, None, inl, inr, refl}
 use Rattle.std.proofs.Common.{sym, ◌∙◌, ap, arith, if◌then◌else◌}
 use Rattle.std.proofs.lemmas.Bool.{eq-eqb, and_from, false≢true, cases_order, cases_lt}
 use Rattle.std.proofs.lemmas.Option.{none-some}
@@ -18,7 +18,7 @@ use Rattle.st_order.specs.declared.item.Item.{Item}
 use Rattle.st_order.specs.declared.item.Item.TheVariants as item
 use Rattle.st_order.specs.Items.{greatest, height, is_hidden}
 use Rattle.st_order.specs.Order.{key_by}
-use Rattle.st_order.proofs.ForCallers.{greatest_more, tallest_has}
+use Rattle.st_order.proofs.ForCallers.{greatest_more, tallest_grows, tallest_has}
 use Rattle.st_plan.specs.Moves.{move_by}
 use Rattle.st_plan.proofs.EarlierMoves.{hidden_above, IsAt, IsKeyBelow}
 
@@ -42,15 +42,6 @@ Stamps (item.Hidden p i) e = Unit {0}
 abbrev pub IsTop : List Stream → Item → Event → Type 0
 IsTop streams (item.Reported p i) e = is_stamp e ≡ true → height_of streams p i < e.serial.this
 IsTop streams (item.Hidden p i) e = Unit {0}
-
-heights_rise : (es : List Event) (m n : ℕ) → m ≤ n
-    → greatest (map (λ (x : Event). x.serial.this) (take m es))
-    ≤ greatest (map (λ (x : Event). x.serial.this) (take n es))
-heights_rise es zero n le = omega arith
-heights_rise es (suc m) zero le = absurd (omega arith)
-heights_rise [] (suc m) (suc n) le = omega arith
-heights_rise (e ∷ es) (suc m) (suc n) le =
-    let rest = heights_rise es m n (omega arith) in omega arith
 
 pub height_is : (streams : List Stream) (p : Pid) (i : ℕ)
     → height streams p i ≡ height_of streams p (suc i)
@@ -109,7 +100,7 @@ this_below streams (item.Reported q j) (item.Reported p i) d e at_d at_e stamps 
       | inl less ↦ less
       | inr least ↦
           let rise : height_of streams q (suc i) ≤ height_of streams q (suc j) =
-          heights_rise (events_of streams q) (suc i) (suc j) (omega arith) in
+          tallest_grows (events_of streams q) (suc i) (suc j) (omega arith) in
           let same : height_of streams q (suc i) ≡ height_of streams p (suc i) =
           ap (λ r. height_of streams r (suc i)) who in
           let mine = height_is streams p i in
