@@ -1,80 +1,39 @@
 -- A full list has each process of its node. In another the process goes to the next slot, which is
 -- of no other node.
-use Rattle.std.proofs.Common.{◌<◌, length, refl}
+use Rattle.std.proofs.Common.{refl}
 use Rattle.st_world.specs.declared.node.Node.{Node}
-use Rattle.st_world.specs.Nodes.{Groups}
 use Rattle.st_world.proofs.Groups.{one_more, tracers_kept, groups_put, listed_put, listed_kept}
 use Rattle.st_world.proofs.Groups.{listed_full}
 use Rattle.st_world.proofs.nodes.Nodes.touch.Goals as goal
 
 pub invariant_of-self : goal.invariant_of-self
 invariant_of-self c =
-    let g : Groups =
-    record {
-      places = c.self.inside.places.items;
-      nodes = c.self.inside.nodes.items;
-      slots = c.self.inside.slots.items;
-    } in
-    let h : c.args.number < length c.self.inside.places.items =
-    rw (← c.self.view_is) at c.requires in
-    groups_put g c.args.number c.index.result.now c.index_mut-node.result.now c.self.invariant h
-    c.index.ensures
-    c.index_mut-node.ensures.value c.if-node.true
+    let h = rw (← c.self.view_is) at c.requires in
+    groups_put _ c.args.number c.index.result.now c.index_mut-node.result.now c.self.invariant h
+    c.index.ensures c.index_mut-node.ensures.value c.if-node.true
 
 pub returns-then-node-clause-tracers : goal.returns-then-node-clause-tracers
 returns-then-node-clause-tracers c =
-    let g : Groups =
-    record {
-      places = c.self.inside.places.items;
-      nodes = c.self.inside.nodes.items;
-      slots = c.self.inside.slots.items;
-    } in
-    let h : c.args.number < length c.self.inside.places.items =
-    rw (← c.self.view_is) at c.requires in
+    let h = rw (← c.self.view_is) at c.requires in
     let n : Node = c.index_mut-node.result.now in
     rw (← c.self.view_is)
-    (tracers_kept g c.args.number c.index.result.now n c.self.invariant h c.index.ensures
-    c.index_mut-node.ensures.value (one_more n) refl)
+    (tracers_kept _ c.args.number c.index.result.now n c.self.invariant h c.index.ensures c.index_mut-node.ensures.value (one_more n) refl)
 
 pub returns-then-node-clause-listed : goal.returns-then-node-clause-listed
 returns-then-node-clause-listed c =
-    let g : Groups =
-    record {
-      places = c.self.inside.places.items;
-      nodes = c.self.inside.nodes.items;
-      slots = c.self.inside.slots.items;
-    } in
-    let h : c.args.number < length c.self.inside.places.items =
-    rw (← c.self.view_is) at c.requires in
-    listed_put g c.args.number c.index.result.now c.index_mut-node.result.now c.self.invariant h
-    c.index.ensures
-    c.index_mut-node.ensures.value c.if-node.true
+    let h = rw (← c.self.view_is) at c.requires in
+    listed_put _ c.args.number c.index.result.now c.index_mut-node.result.now c.self.invariant h
+    c.index.ensures c.index_mut-node.ensures.value c.if-node.true
 
 pub returns-then-node-clause-others : goal.returns-then-node-clause-others
 returns-then-node-clause-others c =
-    let g : Groups =
-    record {
-      places = c.self.inside.places.items;
-      nodes = c.self.inside.nodes.items;
-      slots = c.self.inside.slots.items;
-    } in
-    let h : c.args.number < length c.self.inside.places.items =
-    rw (← c.self.view_is) at c.requires in
+    let h = rw (← c.self.view_is) at c.requires in
     rw (← c.self.view_is)
-    (listed_kept g c.args.number c.index.result.now c.index_mut-node.result.now c.self.invariant h
-    c.index.ensures
-    c.index_mut-node.ensures.value c.if-node.true)
+    (listed_kept _ c.args.number c.index.result.now c.index_mut-node.result.now c.self.invariant h
+    c.index.ensures c.index_mut-node.ensures.value c.if-node.true)
 
 pub returns-else-node-clause-listed : goal.returns-else-node-clause-listed
 returns-else-node-clause-listed c =
-    let g : Groups =
-    record {
-      places = c.self.inside.places.items;
-      nodes = c.self.inside.nodes.items;
-      slots = c.self.inside.slots.items;
-    } in
-    let h : c.args.number < length c.self.inside.places.items =
-    rw (← c.self.view_is) at c.requires in
-    listed_full g c.args.number c.index.result.now c.index_mut-node.result.now c.self.invariant h
-    c.index.ensures
-    c.index_mut-node.ensures.value c.if-node.false
+    let h = rw (← c.self.view_is) at c.requires in
+    listed_full _ c.args.number c.index.result.now c.index_mut-node.result.now c.self.invariant h
+    c.index.ensures c.index_mut-node.ensures.value c.if-node.false

@@ -1,78 +1,43 @@
 -- A write to one node, which keeps its range and its list.
-use Rattle.std.proofs.Common.{◌<◌, length, refl}
+use Rattle.std.proofs.Common.{refl}
 use Rattle.st_world.specs.declared.node.Node.{Node}
-use Rattle.st_world.specs.Nodes.{Groups}
 use Rattle.st_world.proofs.Groups.{groups_kept, lists_from, lists_to, traced_is, traced_here}
 use Rattle.st_world.proofs.Groups.{traced_elsewhere}
 use Rattle.st_world.proofs.nodes.Nodes.trace.Goals as goal
 
 pub invariant_of-self : goal.invariant_of-self
 invariant_of-self c =
-    let g : Groups =
-    record {
-      places = c.self.inside.places.items;
-      nodes = c.self.inside.nodes.items;
-      slots = c.self.inside.slots.items;
-    } in
-    let h : c.args.number < length c.self.inside.places.items =
-    rw (← c.self.view_is) at c.requires in
+    let h = rw (← c.self.view_is) at c.requires in
     let k = c.index.result.now in
     let n : Node = c.index_mut-node.result.now in
-    let from = lists_from g c.args.number k n c.self.invariant h c.index.ensures
-    c.index_mut-node.ensures.value in
-    let to = lists_to g c.args.number k n c.self.invariant h c.index.ensures
-    c.index_mut-node.ensures.value in
-    groups_kept g c.args.number k n c.self.invariant h c.index.ensures
-    c.index_mut-node.ensures.value
-    (record { start = n.start; end = n.end; listed = n.listed; traced = c.args.on }) refl refl from
+    let from = lists_from _ c.args.number k n c.self.invariant h c.index.ensures c.index_mut-node.ensures.value in
+    let to = lists_to _ c.args.number k n c.self.invariant h c.index.ensures c.index_mut-node.ensures.value in
+    groups_kept _ c.args.number k n c.self.invariant h c.index.ensures c.index_mut-node.ensures.value
+    (record n { traced = c.args.on }) refl refl from
     to
 
 pub returns-clause-was : goal.returns-clause-was
 returns-clause-was c =
-    let g : Groups =
-    record {
-      places = c.self.inside.places.items;
-      nodes = c.self.inside.nodes.items;
-      slots = c.self.inside.slots.items;
-    } in
-    let h : c.args.number < length c.self.inside.places.items =
-    rw (← c.self.view_is) at c.requires in
+    let h = rw (← c.self.view_is) at c.requires in
     let k = c.index.result.now in
     let n : Node = c.index_mut-node.result.now in
     rw (← c.self.view_is)
-    (traced_is g c.args.number k n c.self.invariant h c.index.ensures
-    c.index_mut-node.ensures.value)
+    (traced_is _ c.args.number k n c.self.invariant h c.index.ensures c.index_mut-node.ensures.value)
 
 pub returns-clause-here : goal.returns-clause-here
 returns-clause-here c =
-    let g : Groups =
-    record {
-      places = c.self.inside.places.items;
-      nodes = c.self.inside.nodes.items;
-      slots = c.self.inside.slots.items;
-    } in
-    let h : c.args.number < length c.self.inside.places.items =
-    rw (← c.self.view_is) at c.requires in
+    let h = rw (← c.self.view_is) at c.requires in
     let k = c.index.result.now in
     let n : Node = c.index_mut-node.result.now in
     rw (← c.self.view_is)
-    (traced_here g c.args.number k n c.self.invariant h c.index.ensures
-    c.index_mut-node.ensures.value
-    (record { start = n.start; end = n.end; listed = n.listed; traced = c.args.on }))
+    (traced_here _ c.args.number k n c.self.invariant h c.index.ensures c.index_mut-node.ensures.value
+    (record n { traced = c.args.on }))
 
 pub returns-clause-elsewhere : goal.returns-clause-elsewhere
 returns-clause-elsewhere c =
-    let g : Groups =
-    record {
-      places = c.self.inside.places.items;
-      nodes = c.self.inside.nodes.items;
-      slots = c.self.inside.slots.items;
-    } in
-    let h : c.args.number < length c.self.inside.places.items =
-    rw (← c.self.view_is) at c.requires in
+    let h = rw (← c.self.view_is) at c.requires in
     let k = c.index.result.now in
     let n : Node = c.index_mut-node.result.now in
     rw (← c.self.view_is)
-    (traced_elsewhere g c.args.number k n c.self.invariant h c.index.ensures
-    c.index_mut-node.ensures.value
-    (record { start = n.start; end = n.end; listed = n.listed; traced = c.args.on }))
+    (traced_elsewhere _ c.args.number k n c.self.invariant h c.index.ensures c.index_mut-node.ensures.value
+    (record n { traced = c.args.on }))
