@@ -1,7 +1,7 @@
 -- An item of the order has an event at its place, and its move is between those of the items before
 -- and after it.
 use Rattle.std.proofs.Common.{◌≡◌, ℕ, zero, suc, ◌<◌, List, [], ◌∷◌, ◌++◌, reverse, take, drop}
-use Rattle.std.proofs.Common.{Option, Some, IsSome}
+use Rattle.std.proofs.Common.{Some, IsSome}
 use Rattle.std.proofs.Common.{slice_get, length, get_or, refl, sym, ◌∙◌, ap, subst}
 use Rattle.std.proofs.lemmas.List.{reverse-reverse}
 use Rattle.std.proofs.lemmas.Option.{same_Some, none-some, slice_get-get_or}
@@ -26,8 +26,8 @@ event_there streams (item.Hidden p i) there = (there.0, there.1.0)
 
 place_some : (streams : List Stream) (x : Item) (e : Event) → IsAt streams x e
     → IsSome (event_at streams (item_place x).0 (item_place x).1)
-place_some streams (item.Reported p i) e at = subst (λ (o : Option Event). IsSome o) (sym at) refl
-place_some streams (item.Hidden p i) e at = subst (λ (o : Option Event). IsSome o) (sym at.0) refl
+place_some streams (item.Reported p i) e at = rw at refl
+place_some streams (item.Hidden p i) e at = rw at.0 refl
 
 -- at an item's place there is an event
 pub place_there : (streams : List Stream) (xs : List Item) (n : ℕ) (d : Item) (at : Pid × ℕ)

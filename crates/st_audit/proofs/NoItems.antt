@@ -1,7 +1,7 @@
 -- Without items there are no events, so the checker accepts no acts: nothing is left, and no act
 -- can stop.
 use Rattle.std.proofs.Common.{◌≡◌, ℕ, ◌+◌, ◌<◌, nat_lt, true, false, cond, List, [], ◌∷◌, ◌++◌}
-use Rattle.std.proofs.Common.{length, find, Some, None, refl, sym, ◌∙◌, ap, arith}
+use Rattle.std.proofs.Common.{length, find, None, refl, sym, ◌∙◌, arith}
 use Rattle.std.specs.List.{AllByRecursion}
 use Rattle.std.proofs.lemmas.Option.{none-some}
 use Rattle.st_core.specs.declared.types.Pid.{Pid}
@@ -9,11 +9,10 @@ use Rattle.st_core.specs.declared.types.Event.{Event}
 use Rattle.st_core.specs.Step.{Outcome}
 use Rattle.st_core.specs.Run.{Stream, stream}
 use Rattle.st_core.specs.Verdict as verdicts
-use Rattle.st_order.specs.declared.item.Item.{Item}
 use Rattle.st_order.specs.declared.item.Item.TheVariants as item
 use Rattle.st_order.specs.Items.{is_hidden, items, items_among, items_from}
 use Rattle.st_order.specs.Order.{IsOrder}
-use Rattle.st_order.proofs.ForCallers.{members, Among}
+use Rattle.st_order.proofs.ForCallers.{all_left, all_right, members, Among}
 use Rattle.std.proofs.lemmas.List.Sorted.{IsPermutation-sym}
 use Rattle.st_audit.specs.Findings.{IsNo}
 
@@ -26,16 +25,6 @@ no_events all p i (e ∷ es) h =
     ++ items_from all p (i + 1) es)
     → ⊥) [ true ↦ λ h. h.0 | false ↦ λ h. h.0 ] h)
 
-left_part : (P : Item → Type 0) (xs ys : List Item) → AllByRecursion P (xs ++ ys)
-    → AllByRecursion P xs
-left_part P [] ys h = tt
-left_part P (x ∷ xs) ys h = (h.0, left_part P xs ys h.1)
-
-right_part : (P : Item → Type 0) (xs ys : List Item) → AllByRecursion P (xs ++ ys)
-    → AllByRecursion P ys
-right_part P [] ys h = h
-right_part P (x ∷ xs) ys h = right_part P xs ys h.1
-
 none_left : (all some : List Stream) (os : List Outcome)
     → AllByRecursion (λ z. Among z []) (items_among all some)
     → find (λ x. nat_lt (length (stream [] os x.pid)) (length x.events)) some ≡ None
@@ -43,10 +32,8 @@ none_left all [] os h = refl
 none_left all (s ∷ some) os h =
     let first = items_from all s.pid 0 s.events in
     let empty = no_events all s.pid 0 s.events
-    (left_part (λ z. Among z []) first (items_among all some) h) in
-    ap (λ es. cond (nat_lt 0 (length es)) (Some s)
-    (find (λ (x : Stream). nat_lt (length (stream [] os x.pid)) (length x.events)) some)) empty
-    ∙ none_left all some os (right_part (λ z. Among z []) first (items_among all some) h)
+    (all_left (λ z. Among z []) first (items_among all some) h) in
+    rw empty (none_left all some os (all_right (λ z. Among z []) first (items_among all some) h))
 
 pub accepts_nothing : (top : ℕ) (streams : List Stream) (v : verdicts.Verdict) → IsOrder streams []
     → verdicts.IsVerdict top streams [] v → IsNo v → ⊥

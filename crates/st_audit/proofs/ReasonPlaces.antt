@@ -1,7 +1,7 @@
 -- A reason of pairing names the place of an event: the rule that gives it gives it there.
 use Rattle.std.proofs.Common.{◌≡◌, ℕ, ◌==◌, ◌&&◌, ◌||◌, nat_lt, Bool, true, false, not, cond, List}
 use Rattle.std.proofs.Common.{[], ◌∷◌}
-use Rattle.std.proofs.Common.{Option, Some, None, IsSome, option_and_then, refl, sym, subst}
+use Rattle.std.proofs.Common.{Option, Some, None, IsSome, option_and_then, refl, subst}
 use Rattle.std.proofs.lemmas.Option.{same_Some, none-some}
 use Rattle.st_core.specs.declared.types.Pid.{Pid}
 use Rattle.st_core.specs.declared.types.Event.{Event}
@@ -32,10 +32,6 @@ IsPlaced streams (fault.Mismatch p i q j) = IsSome (event_at streams p i)
 abbrev Places : List Stream → Rule PairFault → Type 0
 Places streams rule = (p : Pid) (i : ℕ) (e : Event) (f : PairFault) → IsSome (event_at streams p i)
     → rule p i e ≡ Some f → IsPlaced streams f
-
-some_at : (streams : List Stream) (p : Pid) (i : ℕ) (e : Event) → event_at streams p i ≡ Some e
-    → IsSome (event_at streams p i)
-some_at streams p i e at = subst (λ (o : Option Event). IsSome o) (sym at) refl
 
 given_by : (streams : List Stream) (b : Bool) (x f : PairFault) → IsPlaced streams x
     → cond b None (Some x) ≡ Some f
@@ -88,7 +84,7 @@ module _ (streams : List Stream) where
           | Some g ↦ λ is h.
               let at = given_at rule streams g rising is in
               subst (IsPlaced streams) (same_Some g f h)
-              (places at.pid at.index at.event g (some_at streams at.pid at.index at.event at.at)
+              (places at.pid at.index at.event g (rw at.at refl)
               at.gives)
         ] refl h
 

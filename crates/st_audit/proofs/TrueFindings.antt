@@ -58,8 +58,8 @@ AreThere streams (m ∷ ms) = IsThereAt streams (item_place m.item) × AreThere 
 
 place_of : (streams : List Stream) (x : Item) (e : Event) → event_of streams x ≡ Some e
     → IsThereAt streams (item_place (move_by x e).item)
-place_of streams (item.Reported p i) e at = subst (λ (o : Option Event). IsSome o) (sym at) refl
-place_of streams (item.Hidden p i) e at = subst (λ (o : Option Event). IsSome o) (sym at) refl
+place_of streams (item.Reported p i) e at = rw at refl
+place_of streams (item.Hidden p i) e at = rw at refl
 
 moves_there : (streams : List Stream) (xs : List Item) → AreThere streams (moves streams xs)
 moves_there streams [] = tt

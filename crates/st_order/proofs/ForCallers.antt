@@ -11,6 +11,6 @@ pub use Rattle.st_order.proofs.Insertion.{an_order}
 -- ---- the events of a process in turn
 pub use Rattle.st_order.proofs.Turns.{keeps_turn, tallest_grows, tallest_has}
 pub use Rattle.st_order.proofs.RowKeys.{greatest_more}
-pub use Rattle.st_order.proofs.Lists.{all_append, all_right, all_take}
+pub use Rattle.st_order.proofs.Lists.{all_append, all_left, all_right, all_take}
 -- ---- the events of a listed process
 pub use Rattle.st_order.proofs.ListedEvents.{drop_front, AreFound, all_found}

@@ -20,6 +20,7 @@ use Rattle.st_pair.specs.declared.answer.Source.TheVariants as source
 use Rattle.st_pair.specs.Places.{event_at, is_stamp, first}
 use Rattle.st_pair.specs.Pairing.{receive_of, repeated, source_of}
 use Rattle.st_core.proofs.ForCallers.{is_lt-true}
+use Rattle.st_core.proofs.ForCallers.{is_eq-Equal, pid_cmp-Equal}
 use Rattle.st_order.specs.declared.item.Item.{Item}
 use Rattle.st_order.specs.declared.item.Item.TheVariants as item
 use Rattle.st_order.specs.Items.{is_hidden, items_at, items_from, items_among, items}
@@ -38,19 +39,15 @@ key_total = then_total (on_total (λ (k : Key). k.height) nat_cmp_total)
     (on_total (λ (k : Key). k.place) nat_cmp_total)))
 
 then_eq : (a b : Ordering) → is_eq (ordering_then a b) ≡ true → (is_eq a ≡ true) × (is_eq b ≡ true)
-then_eq Less b h = absurd (cc)
 then_eq Equal b h = (refl, h)
-then_eq Greater b h = absurd (cc)
+then_eq a b h = absurd (cc)
 
 nat_same : (m n : ℕ) → is_eq (nat_cmp m n) ≡ true → m ≡ n
 nat_same m n h = grind (arith, nat_tests)
 
 pid_same : (p q : Pid) → is_eq (pid_cmp p q) ≡ true → p ≡ q
 pid_same p q h =
-    let parts = then_eq (nat_cmp p.node q.node) (nat_cmp p.number q.number) h in
-    let node = nat_same p.node q.node parts.0 in
-    let number = nat_same p.number q.number parts.1 in
-    λ i. record { node = node i; number = number i }
+    pid_cmp-Equal p q (is_eq-Equal (pid_cmp p q) h)
 
 key_same : (k l : Key) → is_eq (key_cmp k l) ≡ true → k ≡ l
 key_same k l h =
@@ -149,7 +146,7 @@ module _ (streams : List Stream) (once : first (repeated streams) streams ≡ No
     hidden_keyed : is_hidden streams e ≡ true → IsKeyed streams (item.Hidden p i)
     hidden_keyed h = record {
       its = key_by streams (item.Hidden p i) e;
-      given = ap (λ (o : Option Event). option_map (key_by streams (item.Hidden p i)) o) at;
+      given = rw at refl;
       found = ap (option_map (λ (at : Pid × ℕ). item.Hidden at.0 at.1))
           (only_receive streams p i e at (hidden_receives streams e h) once);
     }
@@ -160,10 +157,8 @@ module _ (streams : List Stream) (once : first (repeated streams) streams ≡ No
         let k = key_by streams (item.Reported p i) e in
         record {
           its = k;
-          given = ap (λ (o : Option Event). option_map (key_by streams (item.Reported p i)) o) at;
-          found = ap (λ (b : Bool). cond b (option_map (λ (at : Pid × ℕ). item.Hidden at.0 at.1)
-              (receive_of streams p k.height)) (Some (item.Reported p (i + 1 - 1)))) (above_zero i)
-              ∙ ap (λ (n : ℕ). Some (item.Reported p n)) minus;
+          given = rw at refl;
+          found = rw (above_zero i, minus) refl;
         }
 
     at_keyed : AllByRecursion (IsKeyed streams) (items_at streams p i e)

@@ -1,5 +1,5 @@
 -- A fact of each element, along lists that are joined, cut and moved: by induction on the list.
-use Rattle.std.proofs.Common.{◌≡◌, ℕ, zero, suc, Bool, false, List, [], ◌∷◌, ◌++◌, take}
+use Rattle.std.proofs.Common.{◌≡◌, ℕ, suc, Bool, false, List, [], ◌∷◌, ◌++◌, take}
 use Rattle.std.specs.List.{AllByRecursion, IsDistinct}
 use Rattle.std.specs.List.Sorted.{IsPermutation}
 use Rattle.std.proofs.lemmas.List.Elements.{All-from_recursion, recursion_from_All}
@@ -20,9 +20,8 @@ module _ {A : Type 0} (P : A → Type 0) where
   all_right (x ∷ xs) ys h = all_right xs ys h.1
 
   pub all_take : (n : ℕ) (xs : List A) → AllByRecursion P xs → AllByRecursion P (take n xs)
-  all_take zero xs h = tt
-  all_take (suc n) [] h = tt
   all_take (suc n) (x ∷ xs) h = (h.0, all_take n xs h.1)
+  all_take n xs h = tt
 
   pub all_moved : (xs ys : List A) → IsPermutation xs ys → AllByRecursion P xs → AllByRecursion P ys
   all_moved xs ys moved h =
