@@ -64,25 +64,18 @@ loop-number-preserved c =
 
 pub invariant_of-result : goal.invariant_of-result
 invariant_of-result c =
-    let pids = c.args.pids.now in
     let last : c.loop-number.number ≡ length c.args.pids.now = omega arith in
     let now = rw last at c.loop-number.invariant in
-    made_groups pids c.loop-number.after c.loop-number.places.items c.loop-number.nodes.items
-    c.loop-number.slots.items
-    now.made now.slots_len now.slots
+    made_groups _ _ _ _ _ now.made now.slots_len now.slots
 
 pub returns-clause-by_node : goal.returns-clause-by_node
 returns-clause-by_node c =
-    let pids = c.args.pids.now in
     let last : c.loop-number.number ≡ length c.args.pids.now = omega arith in
     let now = rw last at c.loop-number.invariant in
-    made_by_node pids c.loop-number.after c.loop-number.places.items c.loop-number.nodes.items
-    c.loop-number.slots.items now.made now.slots_len now.slots
+    made_by_node _ _ _ _ _ now.made now.slots_len now.slots
 
 pub returns-clause-listed : goal.returns-clause-listed
 returns-clause-listed c =
-    let pids = c.args.pids.now in
     let last : c.loop-number.number ≡ length c.args.pids.now = omega arith in
     let now = rw last at c.loop-number.invariant in
-    made_listed pids c.loop-number.after c.loop-number.places.items c.loop-number.nodes.items
-    c.loop-number.slots.items now.made now.slots_len now.slots
+    made_listed _ _ _ _ _ now.made now.slots_len now.slots

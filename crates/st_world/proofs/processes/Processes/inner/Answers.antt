@@ -23,8 +23,7 @@ invariant_of-self g c =
     let own = c.ready.ensures in
     let at = sym c.number_of.ensures ∙ c.in-Some.is in
     let s = started c.self.invariant own.places own.tracers own.others at own.listed
-    c.index_mut.ensures.value
-    own.local in
+    c.index_mut.ensures.value own.local in
     let a = c.args.act.now in
     let x = c.index_mut-2.result.now in
     let is = c.index_mut-2.ensures.value in
@@ -45,8 +44,7 @@ returns-in_default-inner g c =
     let own = c.ready.ensures in
     let at = sym c.number_of.ensures ∙ c.in-Some.is in
     let s = started c.self.invariant own.places own.tracers own.others at own.listed
-    c.index_mut.ensures.value
-    own.local in
+    c.index_mut.ensures.value own.local in
     let ps = c.self.inside.pids in
     let raw = c.self.inside.locals.items in
     let ls = flagged (are_traced c.self.inside.nodes) raw in
@@ -78,8 +76,7 @@ invariant_of-self-2 g c =
     let own = c.ready.ensures in
     let at = sym c.number_of.ensures ∙ c.in-Some.is in
     let s = started c.self.invariant own.places own.tracers own.others at own.listed
-    c.index_mut.ensures.value
-    own.local in
+    c.index_mut.ensures.value own.local in
     let a = c.args.act.now in
     let x = c.index_mut-2.result.now in
     let is = c.index_mut-2.ensures.value in
@@ -100,8 +97,7 @@ returns g c =
     let own = c.ready.ensures in
     let at = sym c.number_of.ensures ∙ c.in-Some.is in
     let s = started c.self.invariant own.places own.tracers own.others at own.listed
-    c.index_mut.ensures.value
-    own.local in
+    c.index_mut.ensures.value own.local in
     let ps = c.self.inside.pids in
     let raw = c.self.inside.locals.items in
     let ls = flagged (are_traced c.self.inside.nodes) raw in

@@ -30,8 +30,7 @@ receive-requires g c =
     let own = c.ready.ensures in
     let at = sym c.number_of.ensures ∙ c.in-Some.is in
     let s = started c.self.invariant own.places own.tracers own.others at own.listed
-    c.index_mut.ensures.value
-    own.local in
+    c.index_mut.ensures.value own.local in
     let ps = c.self.inside.pids in
     let ls = flagged (are_traced c.self.inside.nodes) c.self.inside.locals.items in
     let x = c.index_mut-2.result.now in
@@ -51,8 +50,7 @@ invariant_of-self g c =
     let own = c.ready.ensures in
     let at = sym c.number_of.ensures ∙ c.in-Some.is in
     let s = started c.self.invariant own.places own.tracers own.others at own.listed
-    c.index_mut.ensures.value
-    own.local in
+    c.index_mut.ensures.value own.local in
     let ps = c.self.inside.pids in
     let ls = flagged (are_traced c.self.inside.nodes) c.self.inside.locals.items in
     let bs = c.self.inside.queues.boxes in
@@ -90,8 +88,7 @@ returns g c =
     let own = c.ready.ensures in
     let at = sym c.number_of.ensures ∙ c.in-Some.is in
     let s = started c.self.invariant own.places own.tracers own.others at own.listed
-    c.index_mut.ensures.value
-    own.local in
+    c.index_mut.ensures.value own.local in
     let ps = c.self.inside.pids in
     let raw = c.self.inside.locals.items in
     let ls = flagged (are_traced c.self.inside.nodes) raw in

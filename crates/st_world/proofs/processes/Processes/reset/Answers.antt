@@ -23,16 +23,13 @@ returns-in_default g c =
 pub invariant_of-self : goal.invariant_of-self
 invariant_of-self g c =
     let ps = c.self.inside.pids in
-    let raw = c.self.inside.locals.items in
-    let bs = c.self.inside.queues.boxes in
     let i = c.in-Some.number in
     let at : position (λ p. pid_eq p c.args.me) c.self.inside.pids ≡ Some c.in-Some.number =
     sym c.number_of.ensures ∙ c.in-Some.is in
     let ls2 = c.wipe.new.locals in
     let bs2 = c.wipe.new.queues.boxes in
     let own = rw c.deref_mut.ensures.value at c.wipe.ensures in
-    let pid = own_pid g.row.TOP ps c.self.inside.nodes raw bs c.self.invariant c.args.me i at
-    c.clear.new.self
+    let pid = own_pid _ _ _ _ _ c.self.invariant c.args.me i at c.clear.new.self
     c.clear.ensures.places in
     let state = own.rows.state ps c.args.me c.self.invariant.by_node pid c.self.invariant.listed in
     let items : (with_items c.self.inside.locals c.wipe.new.locals).items ≡ c.wipe.new.locals =
@@ -41,11 +38,9 @@ invariant_of-self g c =
     let locals_len = c.wipe.auto.locals ∙ ap length c.deref_mut.ensures.value in
     let queues_len = own.queues_len ∙ c.self.invariant.by_node.len in
     subst (λ x. AreKept g.row.TOP ps c.clear.new.self x bs2) (sym items)
-    (reset_kept g.row.TOP ps c.self.inside.nodes raw bs c.self.invariant c.args.me i at
-    c.clear.new.self
-    c.clear.ensures.places c.clear.ensures.tracers ls2 bs2 locals_len queues_len state
-    (reset_listed g.row.TOP ps c.self.inside.nodes raw bs c.self.invariant c.args.me i at
-    c.clear.new.self
+    (reset_kept _ _ _ _ _ c.self.invariant c.args.me i at c.clear.new.self c.clear.ensures.places
+    c.clear.ensures.tracers ls2 bs2 locals_len queues_len state
+    (reset_listed _ _ _ _ _ c.self.invariant c.args.me i at c.clear.new.self
     c.clear.ensures.places ls2 bs2 own.rows.node own.rows.others c.clear.ensures.others))
 
 pub returns : goal.returns
@@ -59,8 +54,7 @@ returns g c =
     let ls2 = c.wipe.new.locals in
     let bs2 = c.wipe.new.queues.boxes in
     let own = rw c.deref_mut.ensures.value at c.wipe.ensures in
-    let pid = own_pid g.row.TOP ps c.self.inside.nodes raw bs c.self.invariant c.args.me i at
-    c.clear.new.self
+    let pid = own_pid _ _ _ _ _ c.self.invariant c.args.me i at c.clear.new.self
     c.clear.ensures.places in
     let state = own.rows.state ps c.args.me c.self.invariant.by_node pid c.self.invariant.listed in
     let items : (with_items c.self.inside.locals c.wipe.new.locals).items ≡ c.wipe.new.locals =
@@ -70,9 +64,8 @@ returns g c =
     let queues_len = own.queues_len ∙ c.self.invariant.by_node.len in
     let ls = flagged (are_traced c.self.inside.nodes) c.self.inside.locals.items in
     let step =
-    reset_step g.row.TOP ps c.self.inside.nodes raw bs c.self.invariant c.args.me i at
-    c.clear.new.self
-    c.clear.ensures.places c.clear.ensures.tracers ls2 bs2 locals_len queues_len state in
+    reset_step _ _ _ _ _ c.self.invariant c.args.me i at c.clear.new.self c.clear.ensures.places
+    c.clear.ensures.tracers ls2 bs2 locals_len queues_len state in
     let whole = rw (← items) at step in
     let after : State =
     state_of ps (flagged (are_traced c.clear.new.self)

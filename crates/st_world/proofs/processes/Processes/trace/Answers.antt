@@ -20,14 +20,9 @@ returns-in_default g c =
 
 pub invariant_of-self : goal.invariant_of-self
 invariant_of-self g c =
-    let ps = c.self.inside.pids in
-    let raw = c.self.inside.locals.items in
-    let bs = c.self.inside.queues.boxes in
-    let i = c.in-Some.number in
     let at : position (λ p. pid_eq p c.args.me) c.self.inside.pids ≡ Some c.in-Some.number =
     sym c.number_of.ensures ∙ c.in-Some.is in
-    trace_kept g.row.TOP ps c.self.inside.nodes raw bs c.self.invariant c.args.me i at
-    c.trace-was.new.self
+    trace_kept _ _ _ _ _ c.self.invariant c.args.me c.in-Some.number at c.trace-was.new.self
     c.trace-was.ensures.places c.args.on c.trace-was.ensures.here c.trace-was.ensures.elsewhere
     c.trace-was.result c.trace-was.ensures.was c.trace-was.ensures.listed
 
@@ -36,13 +31,11 @@ returns g c =
     let ps = c.self.inside.pids in
     let raw = c.self.inside.locals.items in
     let bs = c.self.inside.queues.boxes in
-    let i = c.in-Some.number in
     let at : position (λ p. pid_eq p c.args.me) c.self.inside.pids ≡ Some c.in-Some.number =
     sym c.number_of.ensures ∙ c.in-Some.is in
     let ls = flagged (are_traced c.self.inside.nodes) c.self.inside.locals.items in
     let step =
-    trace_step g.row.TOP ps c.self.inside.nodes raw bs c.self.invariant c.args.me i at
-    c.trace-was.new.self
+    trace_step _ _ _ _ _ c.self.invariant c.args.me c.in-Some.number at c.trace-was.new.self
     c.trace-was.ensures.places c.args.on c.trace-was.ensures.here c.trace-was.ensures.elsewhere
     c.trace-was.result c.trace-was.ensures.was in
     let after : State = state_of ps (flagged (are_traced c.trace-was.new.self) raw) bs in
