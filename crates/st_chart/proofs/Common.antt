@@ -1,10 +1,10 @@
 -- Two lists of pids that rise have the same pids in common, whichever of the two is gone through.
 -- So the processes that are listed among the ends are the ends among those that are listed.
-use Rattle.std.proofs.Common.{◌≡◌, ℕ, zero, suc, ◌+◌, ◌<◌, Bool, true, false, ◌&&◌, ◌||◌, ◌==◌}
+use Rattle.std.proofs.Common.{◌≡◌, ℕ, zero, suc, ◌+◌, ◌<◌, Bool, true, ◌&&◌, ◌||◌, ◌==◌}
 use Rattle.std.proofs.Common.{List, [], ◌∷◌, filter, cond, length, get_or, Result, Ok, Err, is_ok}
 use Rattle.std.proofs.Common.{refl, sym, ap, ◌∙◌, arith}
 use Rattle.std.specs.declared.cmp.Ordering.{Ordering}
-use Rattle.std.specs.declared.cmp.Ordering.TheVariants.{Less, Equal, Greater}
+use Rattle.std.specs.declared.cmp.Ordering.TheVariants.{Less}
 use Rattle.std.specs.Ordering.{nat_cmp, ordering_then, is_eq}
 use Rattle.std.specs.List.{list_any}
 use Rattle.std.specs.List.Sorted.{IsStrictlySortedBy, IsBinarySearchResult, IsSearchInRange}
@@ -28,8 +28,7 @@ numbers_equal a b = grind (arith, nat_tests)
 
 both_equal : (o p : Ordering) → is_eq (ordering_then o p) ≡ (is_eq o && is_eq p)
 both_equal Less p = refl
-both_equal Equal p = refl
-both_equal Greater p = refl
+both_equal o p = refl
 
 pub pids_equal : (p q : Pid) → is_eq (pid_cmp p q) ≡ pid_eq p q
 pids_equal p q =
@@ -37,14 +36,7 @@ pids_equal p q =
     ∙ (λ i. numbers_equal p.node q.node i && numbers_equal p.number q.number i)
 
 two_of : (a b c : Bool) → cond b true (cond a true c) ≡ (c || (a || b))
-two_of true true true = refl
-two_of true true false = refl
-two_of true false true = refl
-two_of true false false = refl
-two_of false true true = refl
-two_of false true false = refl
-two_of false false true = refl
-two_of false false false = refl
+two_of a b c = grind arith
 
 -- whether a set that had old has p, after a is put in and then b
 pub both_noted : (a b p : Pid) (old one two : Bool) → one ≡ cond (is_eq (pid_cmp a p)) true old
@@ -76,10 +68,7 @@ has_kept f ps p =
     ap f (sym (pid_cmp-Equal p q (is_eq-Equal (pid_cmp p q) same)))) ps
 
 and_swap : (a b : Bool) → (a && b) ≡ (b && a)
-and_swap true true = refl
-and_swap true false = refl
-and_swap false true = refl
-and_swap false false = refl
+and_swap a b = grind arith
 
 -- ---- what two lists have in common
 

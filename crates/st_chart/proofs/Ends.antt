@@ -1,6 +1,6 @@
 -- A process is a lane exactly if it is an end of an item that has the label: it doesn't matter
 -- whether the items are gone through, or those that have the label.
-use Rattle.std.proofs.Common.{◌≡◌, Bool, true, false, ◌||◌, List, [], ◌∷◌}
+use Rattle.std.proofs.Common.{◌≡◌, Bool, false, ◌||◌, List, [], ◌∷◌}
 use Rattle.std.proofs.Common.{refl, sym, ap, ◌∙◌, filter, cond, Option, Some, None}
 use Rattle.std.specs.List.{list_any, cons_option}
 use Rattle.st_core.specs.declared.types.Pid.{Pid}
@@ -10,10 +10,6 @@ use Rattle.st_order.specs.declared.item.Item.{Item}
 use Rattle.st_chart.specs.declared.charted_item.ChartedItem.{ChartedItem}
 use Rattle.st_chart.specs.Chart.{charted_of, all_charted, is_end, lanes}
 use Rattle.st_chart.specs.Parts.{is_end_in}
-
-pub or_false : (b : Bool) → b ≡ (b || false)
-or_false true = refl
-or_false false = refl
 
 module _ (streams : List Stream) (label : Label) where
   abbrev end_by : Pid → Option ChartedItem → Bool
