@@ -9,37 +9,35 @@ use Rattle.st_world.proofs.nodes.Nodes.clear.Goals as goal
 pub invariant_of-self : goal.invariant_of-self
 invariant_of-self c =
     let h = rw (← c.self.view_is) at c.requires in
-    let k = c.index.result.now in
     let n : Node = c.index_mut-node.result.now in
     let empty : Node = record n { listed = n.start } in
-    let from = lists_from _ c.args.number k n c.self.invariant h c.index.ensures c.index_mut-node.ensures.value in
-    let to = lists_to _ c.args.number k n c.self.invariant h c.index.ensures c.index_mut-node.ensures.value in
-    groups_kept _ c.args.number k n c.self.invariant h c.index.ensures c.index_mut-node.ensures.value empty refl refl
-    (omega arith) (omega (arith, from, to))
+    let from = lists_from _ _ _ _ c.self.invariant h c.index.ensures
+    c.index_mut-node.ensures.value in
+    let to = lists_to _ _ _ _ c.self.invariant h c.index.ensures c.index_mut-node.ensures.value in
+    groups_kept _ _ _ _ c.self.invariant h c.index.ensures c.index_mut-node.ensures.value empty
+    refl refl (omega arith) (omega (arith, from, to))
 
 pub returns-clause-empty : goal.returns-clause-empty
 returns-clause-empty c =
     let h = rw (← c.self.view_is) at c.requires in
-    let k = c.index.result.now in
     let n : Node = c.index_mut-node.result.now in
     let empty : Node = record n { listed = n.start } in
-    emptied _ c.args.number k n c.self.invariant h c.index.ensures c.index_mut-node.ensures.value
-    empty refl
+    emptied _ _ _ _ c.self.invariant h c.index.ensures c.index_mut-node.ensures.value empty
+    refl
 
 pub returns-clause-tracers : goal.returns-clause-tracers
 returns-clause-tracers c =
     let h = rw (← c.self.view_is) at c.requires in
-    let k = c.index.result.now in
     let n : Node = c.index_mut-node.result.now in
     let empty : Node = record n { listed = n.start } in
     rw (← c.self.view_is)
-    (tracers_kept _ c.args.number k n c.self.invariant h c.index.ensures c.index_mut-node.ensures.value empty refl)
+    (tracers_kept _ _ _ _ c.self.invariant h c.index.ensures c.index_mut-node.ensures.value empty
+    refl)
 
 pub returns-clause-others : goal.returns-clause-others
 returns-clause-others c =
     let h = rw (← c.self.view_is) at c.requires in
-    let k = c.index.result.now in
     let n : Node = c.index_mut-node.result.now in
     let empty : Node = record n { listed = n.start } in
     rw (← c.self.view_is)
-    (listed_apart _ c.args.number k n c.self.invariant h c.index.ensures c.index_mut-node.ensures.value empty)
+    (listed_apart _ _ _ _ c.self.invariant h c.index.ensures c.index_mut-node.ensures.value empty)

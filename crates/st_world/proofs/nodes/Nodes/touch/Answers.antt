@@ -9,31 +9,32 @@ use Rattle.st_world.proofs.nodes.Nodes.touch.Goals as goal
 pub invariant_of-self : goal.invariant_of-self
 invariant_of-self c =
     let h = rw (← c.self.view_is) at c.requires in
-    groups_put _ c.args.number c.index.result.now c.index_mut-node.result.now c.self.invariant h
-    c.index.ensures c.index_mut-node.ensures.value c.if-node.true
+    groups_put _ _ _ _ c.self.invariant h c.index.ensures
+    c.index_mut-node.ensures.value c.if-node.true
 
 pub returns-then-node-clause-tracers : goal.returns-then-node-clause-tracers
 returns-then-node-clause-tracers c =
     let h = rw (← c.self.view_is) at c.requires in
     let n : Node = c.index_mut-node.result.now in
     rw (← c.self.view_is)
-    (tracers_kept _ c.args.number c.index.result.now n c.self.invariant h c.index.ensures c.index_mut-node.ensures.value (one_more n) refl)
+    (tracers_kept _ _ _ _ c.self.invariant h c.index.ensures c.index_mut-node.ensures.value
+    (one_more n) refl)
 
 pub returns-then-node-clause-listed : goal.returns-then-node-clause-listed
 returns-then-node-clause-listed c =
     let h = rw (← c.self.view_is) at c.requires in
-    listed_put _ c.args.number c.index.result.now c.index_mut-node.result.now c.self.invariant h
-    c.index.ensures c.index_mut-node.ensures.value c.if-node.true
+    listed_put _ _ _ _ c.self.invariant h c.index.ensures
+    c.index_mut-node.ensures.value c.if-node.true
 
 pub returns-then-node-clause-others : goal.returns-then-node-clause-others
 returns-then-node-clause-others c =
     let h = rw (← c.self.view_is) at c.requires in
     rw (← c.self.view_is)
-    (listed_kept _ c.args.number c.index.result.now c.index_mut-node.result.now c.self.invariant h
-    c.index.ensures c.index_mut-node.ensures.value c.if-node.true)
+    (listed_kept _ _ _ _ c.self.invariant h c.index.ensures
+    c.index_mut-node.ensures.value c.if-node.true)
 
 pub returns-else-node-clause-listed : goal.returns-else-node-clause-listed
 returns-else-node-clause-listed c =
     let h = rw (← c.self.view_is) at c.requires in
-    listed_full _ c.args.number c.index.result.now c.index_mut-node.result.now c.self.invariant h
-    c.index.ensures c.index_mut-node.ensures.value c.if-node.false
+    listed_full _ _ _ _ c.self.invariant h c.index.ensures
+    c.index_mut-node.ensures.value c.if-node.false

@@ -8,36 +8,31 @@ use Rattle.st_world.proofs.nodes.Nodes.trace.Goals as goal
 pub invariant_of-self : goal.invariant_of-self
 invariant_of-self c =
     let h = rw (← c.self.view_is) at c.requires in
-    let k = c.index.result.now in
     let n : Node = c.index_mut-node.result.now in
-    let from = lists_from _ c.args.number k n c.self.invariant h c.index.ensures c.index_mut-node.ensures.value in
-    let to = lists_to _ c.args.number k n c.self.invariant h c.index.ensures c.index_mut-node.ensures.value in
-    groups_kept _ c.args.number k n c.self.invariant h c.index.ensures c.index_mut-node.ensures.value
-    (record n { traced = c.args.on }) refl refl from
-    to
+    let from = lists_from _ _ _ _ c.self.invariant h c.index.ensures
+    c.index_mut-node.ensures.value in
+    let to = lists_to _ _ _ _ c.self.invariant h c.index.ensures c.index_mut-node.ensures.value in
+    groups_kept _ _ _ _ c.self.invariant h c.index.ensures c.index_mut-node.ensures.value
+    (record n { traced = c.args.on }) refl refl from to
 
 pub returns-clause-was : goal.returns-clause-was
 returns-clause-was c =
     let h = rw (← c.self.view_is) at c.requires in
-    let k = c.index.result.now in
-    let n : Node = c.index_mut-node.result.now in
     rw (← c.self.view_is)
-    (traced_is _ c.args.number k n c.self.invariant h c.index.ensures c.index_mut-node.ensures.value)
+    (traced_is _ _ _ _ c.self.invariant h c.index.ensures c.index_mut-node.ensures.value)
 
 pub returns-clause-here : goal.returns-clause-here
 returns-clause-here c =
     let h = rw (← c.self.view_is) at c.requires in
-    let k = c.index.result.now in
     let n : Node = c.index_mut-node.result.now in
     rw (← c.self.view_is)
-    (traced_here _ c.args.number k n c.self.invariant h c.index.ensures c.index_mut-node.ensures.value
+    (traced_here _ _ _ _ c.self.invariant h c.index.ensures c.index_mut-node.ensures.value
     (record n { traced = c.args.on }))
 
 pub returns-clause-elsewhere : goal.returns-clause-elsewhere
 returns-clause-elsewhere c =
     let h = rw (← c.self.view_is) at c.requires in
-    let k = c.index.result.now in
     let n : Node = c.index_mut-node.result.now in
     rw (← c.self.view_is)
-    (traced_elsewhere _ c.args.number k n c.self.invariant h c.index.ensures c.index_mut-node.ensures.value
+    (traced_elsewhere _ _ _ _ c.self.invariant h c.index.ensures c.index_mut-node.ensures.value
     (record n { traced = c.args.on }))

@@ -9,7 +9,8 @@ use Rattle.st_world.proofs.processes.Processes.place_of_one.Goals as goal
 
 pub returns-in_default-clause-value : goal.returns-in_default-clause-value
 returns-in_default-clause-value g c =
-    ap (option_and_then (λ (r : Process). position (λ m. bears_stamp c.args.from c.args.this m.token) r.queue))
+    ap (option_and_then (λ (r : Process).
+    position (λ m. bears_stamp c.args.from c.args.this m.token) r.queue))
     (sym (read_nothing c.self.invariant c.self.view_is c.args.pid
     (sym c.number_of.ensures ∙ c.in_default.is)))
 
