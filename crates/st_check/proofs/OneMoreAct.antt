@@ -62,13 +62,12 @@ pub stream-append : (acts : List Act) (a : Act) (os : List Outcome) (o : Outcome
     ++ (if pid_eq (actor a) p then option_to_list o.report else [])
 stream-append [] a [] o p even =
     append-nil (if pid_eq (actor a) p then option_to_list o.report else [])
-stream-append [] a (x ∷ os) o p even = absurd (omega arith)
-stream-append (b ∷ acts) a [] o p even = absurd (omega arith)
 stream-append (b ∷ acts) a (x ∷ os) o p even =
     let first = (if pid_eq (actor b) p then option_to_list x.report else []) in
     ap (λ rest. first ++ rest) (stream-append acts a os o p (omega arith))
     ∙ sym (append_assoc first (stream acts os p)
     (if pid_eq (actor a) p then option_to_list o.report else []))
+stream-append acts a os o p even = absurd (omega arith)
 
 -- the tags of acts and one more
 pub tags_from-append : (tags : Tags) (n : ℕ) (acts : List Act) (a : Act) (os : List Outcome)
@@ -77,13 +76,12 @@ pub tags_from-append : (tags : Tags) (n : ℕ) (acts : List Act) (a : Act) (os :
     ≡ tags_after (tags_from tags n acts os) (n + length acts) a o.place
 tags_from-append tags n [] a [] o even =
     let same : n ≡ n + 0 = omega arith in ap (λ k. tags_after tags k a o.place) same
-tags_from-append tags n [] a (x ∷ os) o even = absurd (omega arith)
-tags_from-append tags n (b ∷ acts) a [] o even = absurd (omega arith)
 tags_from-append tags n (b ∷ acts) a (x ∷ os) o even =
     let next = tags_after tags n b x.place in
     let same : (n + 1) + length acts ≡ n + suc (length acts) = omega arith in
     tags_from-append next (n + 1) acts a os o (omega arith)
     ∙ ap (λ k. tags_after (tags_from next (n + 1) acts os) k a o.place) same
+tags_from-append tags n acts a os o even = absurd (omega arith)
 
 -- the pairs of an act, if it has a report
 abbrev pub pair_of : Tags → ℕ → Act → Outcome → List (ℕ × ℕ)
@@ -98,8 +96,6 @@ pub pairs_from-append : (tags : Tags) (n : ℕ) (acts : List Act) (a : Act) (os 
 pairs_from-append tags n [] a [] o even =
     let same : n ≡ n + 0 = omega arith in
     append-nil (pair_of tags n a o) ∙ ap (λ k. pair_of tags k a o) same
-pairs_from-append tags n [] a (x ∷ os) o even = absurd (omega arith)
-pairs_from-append tags n (b ∷ acts) a [] o even = absurd (omega arith)
 pairs_from-append tags n (b ∷ acts) a (x ∷ os) o even =
     let next = tags_after tags n b x.place in
     let same : (n + 1) + length acts ≡ n + suc (length acts) = omega arith in
@@ -109,3 +105,4 @@ pairs_from-append tags n (b ∷ acts) a (x ∷ os) o even =
     same)
     ∙ sym (append_assoc (pair_of tags n b x) (pairs_from next (n + 1) acts os)
     (pair_of (tags_from next (n + 1) acts os) (n + suc (length acts)) a o))
+pairs_from-append tags n acts a os o even = absurd (omega arith)

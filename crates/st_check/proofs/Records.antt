@@ -60,9 +60,8 @@ last_report : (pids : List Pid) (acts : List Act) (os : List Outcome) (a : Act) 
     → length os ≡ length acts → AllZip (ReportsAmong pids) (acts ++ a ∷ []) (os ++ o ∷ [])
     → ReportsAmong pids a o
 last_report pids [] [] a o even all = all.0
-last_report pids [] (x ∷ os) a o even all = absurd (omega arith)
-last_report pids (b ∷ acts) [] a o even all = absurd (omega arith)
 last_report pids (b ∷ acts) (x ∷ os) a o even all = last_report pids acts os a o (omega arith) all.1
+last_report pids acts os a o even all = absurd (omega arith)
 
 -- what the act does to each recorded stream
 module _ (acts : List Act) (a : Act) (os : List Outcome) (o : Outcome)
