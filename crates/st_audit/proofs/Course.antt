@@ -162,7 +162,9 @@ pub course_ends : (top : ℕ) (streams : List Stream) (xs : List Item) (n : ℕ)
     → place ≡ item_place (get_or xs (length xs - 1) d)
     → Judged acts (Some place) ≡ end_of top streams xs
 course_ends top streams xs n d s acts place way past some is =
-    sym (way ∙ ap (λ ys. course top streams (last_place xs) s (earlier_of streams (take n xs)) acts (moves streams ys))
+    sym (way
+    ∙ ap (λ ys. course top streams (last_place xs) s (earlier_of streams (take n xs)) acts
+    (moves streams ys))
     (drop_of_length-le xs past)
     ∙ ap (λ o. Judged acts (option_map item_place o))
     (last_at None xs (length xs - 1) d (omega arith))

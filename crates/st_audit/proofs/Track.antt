@@ -1,8 +1,8 @@
 -- In settled streams the construction goes on from item to item: its acts run, its world is as the
 -- moves say, and its acts tell what the moves tell. So at the end they show the told events.
-use Rattle.std.proofs.Common.{add-one, ◌≡◌, ℕ, ◌+◌, ◌<◌, ◌≤◌, suc, false, not, List, [], ◌∷◌, ◌++◌, take}
-use Rattle.std.proofs.Common.{drop, length, get_or}
-use Rattle.std.proofs.Common.{Some, None, Err, append_assoc, slice_get, refl, sym, ◌∙◌, ap, subst}
+use Rattle.std.proofs.Common.{add-one, ◌≡◌, ℕ, ◌+◌, ◌<◌, ◌≤◌, suc, false, not, List, [], ◌∷◌, ◌++◌}
+use Rattle.std.proofs.Common.{take, drop, length, get_or, Some, None, Err, append_assoc, slice_get}
+use Rattle.std.proofs.Common.{refl, sym, ◌∙◌, ap, subst}
 use Rattle.std.proofs.lemmas.Bool.{eq-eqb}
 use Rattle.std.proofs.lemmas.List.{append-nil, take_all}
 use Rattle.std.proofs.lemmas.Option.{same_Some}
@@ -25,11 +25,11 @@ use Rattle.st_plan.specs.Marks.{all_told, told_parts, Marks}
 use Rattle.st_plan.specs.Moves.{Move, clock, earlier_of, is_taking, move_by, moves}
 use Rattle.st_plan.specs.Build.{state_after, tracers_after, GoesOn}
 use Rattle.st_plan.specs.Plain.{out_of_turn, event_count, told_of_moves, told_of_move, IsSettled}
-use Rattle.st_plan.proofs.ForCallers.{take_more, clock_at, earlier_more, goes_on, in_turn_at, moves_append}
-use Rattle.st_plan.proofs.ForCallers.{one_move, opens, order_there, run_append, state_append}
-use Rattle.st_plan.proofs.ForCallers.{stream_append, stream_silent, acts_none, append_none}
-use Rattle.st_plan.proofs.ForCallers.{tells_only, tells_told_events, told_pids, tracers_none}
-use Rattle.st_plan.proofs.ForCallers.{IsKept, IsThere}
+use Rattle.st_plan.proofs.ForCallers.{take_more, clock_at, earlier_more, goes_on, in_turn_at}
+use Rattle.st_plan.proofs.ForCallers.{moves_append, one_move, opens, order_there, run_append}
+use Rattle.st_plan.proofs.ForCallers.{state_append, stream_append, stream_silent, acts_none}
+use Rattle.st_plan.proofs.ForCallers.{append_none, tells_only, tells_told_events, told_pids}
+use Rattle.st_plan.proofs.ForCallers.{tracers_none, IsKept, IsThere}
 use Rattle.st_audit.specs.declared.construction.Halt.{Halt}
 use Rattle.st_audit.specs.declared.construction.Halt.TheVariants as halt
 use Rattle.st_audit.specs.Findings.{IsNo}

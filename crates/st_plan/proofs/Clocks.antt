@@ -173,8 +173,9 @@ pub stamps_of : (x : Item) (e : Event) → (let b : Bool = elim x [
 stamps_of (item.Reported p i) e h = not-false (is_stamp e) h
 stamps_of (item.Hidden p i) e h = tt
 
-pub all_below : (streams : List Stream) (m : Move) (earlier : List Move) → IsAt streams m.item m.event
-    → move_by m.item m.event ≡ m → Stamps m.item m.event → IsTop streams m.item m.event
+pub all_below : (streams : List Stream) (m : Move) (earlier : List Move)
+    → IsAt streams m.item m.event → move_by m.item m.event ≡ m → Stamps m.item m.event
+    → IsTop streams m.item m.event
     → AllByRecursion (HasCome streams) earlier → AllByRecursion (IsBelow streams m) earlier
     → AllByRecursion (λ y. y.who ≡ m.who → y.event.serial.this < m.event.serial.this) earlier
 all_below streams m [] at is stamps top each below = tt

@@ -94,10 +94,6 @@ turn_by earlier (item.Reported p i) h =
     eqb-true (event_count p earlier) i (not-false (event_count p earlier == i) h)
 turn_by earlier (item.Hidden p i) h = tt
 
-pub turn_of : (earlier : List Move) (m : Move) → out_of_turn earlier m ≡ false
-    → IsInTurn earlier m.item
-turn_of earlier m h = turn_by earlier m.item h
-
 -- SETTLED STREAMS
 
 -- no reason holds of the move
@@ -109,7 +105,7 @@ free_from : (earlier ms : List Move) → AllAlong (λ before m. uncaused before 
     → AllAlong (λ before m. out_of_turn before m ≡ false) earlier ms → AllAlong IsFree earlier ms
 free_from earlier [] caused turn = tt
 free_from earlier (m ∷ ms) caused turn = (
-  record { caused = caused.0; turn = turn_of earlier m turn.0 },
+  record { caused = caused.0; turn = turn_by earlier m.item turn.0 },
   free_from (m ∷ earlier) ms caused.1 turn.1,
 )
 

@@ -18,8 +18,8 @@ use Rattle.st_order.specs.Items.{event_of}
 use Rattle.st_order.specs.Order.{key_by, comes_before, KeysRise}
 use Rattle.st_plan.specs.Marks.{Marks}
 use Rattle.st_plan.specs.Moves.{Move, move_by, moves, is_taking, clock}
-use Rattle.st_plan.proofs.EarlierMoves.{before_below, clock_below, event_is, one_move, there_event, IsAt}
-use Rattle.st_plan.proofs.EarlierMoves.{IsKeyBelow, IsThere}
+use Rattle.st_plan.proofs.EarlierMoves.{before_below, clock_below, event_is, one_move}
+use Rattle.st_plan.proofs.EarlierMoves.{there_event, IsAt, IsKeyBelow, IsThere}
 use Rattle.st_plan.proofs.FreeMoves.{AllAlong, IsInTurn}
 use Rattle.st_plan.proofs.Receives.{IsWaiting}
 use Rattle.st_plan.proofs.RisingStamps.{IsTop}

@@ -21,7 +21,8 @@ use Rattle.st_core.specs.Report.{report, token_event}
 use Rattle.st_core.specs.Step.{acted, receives, changed, outcome_of, step}
 use Rattle.st_core.specs.Run.{Stream}
 use Rattle.st_core.specs.Streams.{lists}
-use Rattle.st_core.proofs.ForCallers.{pid_eq-refl, pid_eq-swap, process_pid, step_done, run_from-one}
+use Rattle.st_core.proofs.ForCallers.{pid_eq-refl, pid_eq-swap, process_pid, run_from-one}
+use Rattle.st_core.proofs.ForCallers.{step_done}
 use Rattle.st_mail.specs.Mail.{bears_stamp}
 use Rattle.st_plan.specs.Marks.{Marks}
 use Rattle.st_plan.specs.Moves.{Move, is_taking, clock, last, move_by}
