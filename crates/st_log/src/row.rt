@@ -100,7 +100,7 @@ impl Content {
             Content::Reset(actor) => Act::Reset(actor),
             Content::Tracer(actor, on, _) => Act::Tracer(actor, on),
             Content::Call(place) => calls.at(place as usize).0,
-            Content::Traced(place) => traced[place as usize].without_rank().act,
+            Content::Traced(place) => traced[place as usize].act(),
             Content::Apart(place) => apart[place as usize].act,
         }
     }
@@ -142,7 +142,7 @@ impl Content {
             Content::Reset(_) => Reply::Done,
             Content::Tracer(_, _, was) => Reply::Was(was),
             Content::Call(place) => calls.at(place as usize).1,
-            Content::Traced(place) => traced[place as usize].without_rank().reply,
+            Content::Traced(place) => traced[place as usize].reply(),
             Content::Apart(place) => apart[place as usize].reply,
         }
     }
@@ -155,7 +155,7 @@ impl Content {
     {
         match self {
             Content::Reset(_) | Content::Tracer(..) | Content::Call(_) => None,
-            Content::Traced(place) => traced[place as usize].without_rank().report,
+            Content::Traced(place) => traced[place as usize].report(),
             Content::Apart(place) => apart[place as usize].report,
         }
     }

@@ -55,7 +55,7 @@ fn is_same_component(first: &Option<Component>, second: &Option<Component>) -> b
 }
 
 /// Whether they are the same report, or both none.
-fn is_same_report(first: &Option<Event>, second: &Option<Event>) -> bool
+pub fn is_same_report(first: &Option<Event>, second: &Option<Event>) -> bool
     ensures { IsTrue result ↔ (first.now ≡ second.now) }
 {
     *first == *second

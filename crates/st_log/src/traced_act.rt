@@ -3,12 +3,11 @@
 
 ghost use Rattle.std.specs.Prelude.{◌≡◌, IfSome, IsTrue};
 ghost use Rattle.st_core.specs.Step.{actor};
-ghost use Rattle.st_log.specs.TracedActs.{event_of_parts, receive_rest, send_rest, token_of_parts};
 ghost use Rattle.st_log.specs.TracedActs.{traced_rest, with_rank};
 
 use crate::entry::Entry;
 use crate::row::Unranked;
-use crate::same::is_same_entry;
+use crate::same::is_same_report;
 use st_core::{Act, Event, Flags, Kind, Label, Pid, Reply, Serial, Token, Want};
 
 /// The forms of acts under a token.
@@ -50,41 +49,43 @@ pub fn traced_of(entry: &Entry) -> Option<TracedAct>
     ensures { IfSome result (λ t. with_rank entry.now.rank (traced_rest t) ≡ entry.now) }
 {
     let act = likely_act(entry)?;
-    if is_same_entry(&act.without_rank().with_rank(entry.rank), entry) {
+    if is_same_report(&act.report(), &entry.report) {
         return Some(act);
     }
     None
 }
 
-/// The one act under a token that may say all of the entry: it does if the entry's report and token
-/// follow from it. There is none for a receive by place.
+/// The one act under a token that may say all of the entry: it does if it says the report too.
+/// There is none for a receive by place.
 fn likely_act(entry: &Entry) -> Option<TracedAct>
-    ensures { IfSome result (λ t. t.actor ≡ actor entry.now.act) }
+    ensures act { IfSome result (λ t. (traced_rest t).act ≡ entry.now.act) }
+    ensures reply { IfSome result (λ t. (traced_rest t).reply ≡ entry.now.reply) }
+    ensures carried { IfSome result (λ t. (traced_rest t).carried ≡ entry.now.carried) }
 {
-    let (label, serial) = match (entry.carried, entry.report) {
-        (Some(token), _) => (token.label, token.serial),
-        (None, Some(event)) => (event.label, event.serial),
-        (None, None) => return None,
-    };
     let (form, actor, other, value) = match (entry.act, entry.reply, entry.carried, entry.report) {
-        (Act::Send(me, to, value), _, Some(token), None) => {
+        (Act::Send(me, to, value), Reply::Done, Some(token), None) if token.from == me => {
             (TracedForm::Send(token.flags), me, to, value)
         }
-        (Act::Send(me, to, value), _, Some(token), Some(_)) => {
+        (Act::Send(me, to, value), Reply::Done, Some(token), Some(_)) if token.from == me => {
             (TracedForm::ReportedSend(token.flags), me, to, value)
         }
-        (Act::Print(me, value), ..) => (TracedForm::Print, me, me, value),
-        (Act::Receive(me, want), Reply::Mail(from, value), ..) => {
+        (Act::Print(me, value), Reply::Done, None, Some(_)) => (TracedForm::Print, me, me, value),
+        (Act::Receive(me, want), Reply::Mail(from, value), None, Some(_)) => {
             let form = match want {
                 Want::First => TracedForm::First,
-                Want::From(_) => TracedForm::From,
-                Want::Value(_) => TracedForm::Value,
-                Want::Both(..) => TracedForm::Both,
-                Want::Place(_) => return None,
+                Want::From(sender) if sender == from => TracedForm::From,
+                Want::Value(asked) if asked == value => TracedForm::Value,
+                Want::Both(sender, asked) if sender == from && asked == value => TracedForm::Both,
+                _ => return None,
             };
             (form, me, from, value)
         }
         _ => return None,
+    };
+    let (label, serial) = match (entry.carried, entry.report) {
+        (Some(token), _) => (token.label, token.serial),
+        (None, Some(event)) => (event.label, event.serial),
+        (None, None) => return None,
     };
     Some(TracedAct {
         form,
@@ -108,22 +109,11 @@ impl TracedAct {
     pub fn without_rank(self) -> Unranked
         ensures { result ≡ traced_rest self }
     {
-        match self.form {
-            TracedForm::Send(flags) => self.send_rest(flags, None),
-            TracedForm::ReportedSend(flags) => {
-                let report = self.event(Kind::Send, self.actor, Some(self.other));
-                self.send_rest(flags, Some(report))
-            }
-            TracedForm::Print => Unranked {
-                act: Act::Print(self.actor, self.value),
-                reply: Reply::Done,
-                report: Some(self.event(Kind::Print, self.actor, None)),
-                carried: None,
-            },
-            TracedForm::First => self.receive_rest(Want::First),
-            TracedForm::From => self.receive_rest(Want::From(self.other)),
-            TracedForm::Value => self.receive_rest(Want::Value(self.value)),
-            TracedForm::Both => self.receive_rest(Want::Both(self.other, self.value)),
+        Unranked {
+            act: self.act(),
+            reply: self.reply(),
+            report: self.report(),
+            carried: self.carried(),
         }
     }
 
@@ -135,48 +125,69 @@ impl TracedAct {
         self.actor
     }
 
-    /// The event of this kind between these processes.
-    fn event(self, kind: Kind, from: Pid, to: Option<Pid>) -> Event
-        ensures { result ≡ event_of_parts kind self.label self.serial from to self.value }
+    /// The entry's act.
+    pub fn act(self) -> Act
+        ensures { result ≡ (traced_rest self).act }
     {
-        Event {
+        let want = match self.form {
+            TracedForm::Send(_) | TracedForm::ReportedSend(_) => {
+                return Act::Send(self.actor, self.other, self.value);
+            }
+            TracedForm::Print => return Act::Print(self.actor, self.value),
+            TracedForm::First => Want::First,
+            TracedForm::From => Want::From(self.other),
+            TracedForm::Value => Want::Value(self.value),
+            TracedForm::Both => Want::Both(self.other, self.value),
+        };
+        Act::Receive(self.actor, want)
+    }
+
+    /// Returns the entry's reply.
+    pub fn reply(self) -> Reply
+        ensures { result ≡ (traced_rest self).reply }
+    {
+        match self.form {
+            TracedForm::Send(_) | TracedForm::ReportedSend(_) | TracedForm::Print => Reply::Done,
+            TracedForm::First | TracedForm::From | TracedForm::Value | TracedForm::Both => {
+                Reply::Mail(self.other, self.value)
+            }
+        }
+    }
+
+    /// Returns the event that the entry reported, if it did.
+    pub fn report(self) -> Option<Event>
+        ensures { result ≡ (traced_rest self).report }
+    {
+        let (kind, from, to) = match self.form {
+            TracedForm::Send(_) => return None,
+            TracedForm::ReportedSend(_) => (Kind::Send, self.actor, Some(self.other)),
+            TracedForm::Print => (Kind::Print, self.actor, None),
+            TracedForm::First | TracedForm::From | TracedForm::Value | TracedForm::Both => {
+                (Kind::Receive, self.other, Some(self.actor))
+            }
+        };
+        Some(Event {
             label: self.label,
             kind,
             to,
             from,
             serial: self.serial,
             value: self.value,
-        }
+        })
     }
 
-    /// A send that carried a token with these flags, without its rank.
-    fn send_rest(self, flags: Flags, report: Option<Event>) -> Unranked
-        ensures { result ≡ send_rest self.actor self.other self.value report
-            (token_of_parts flags self.label self.serial self.actor) }
+    /// The token that the entry's message carried, if it had one.
+    fn carried(self) -> Option<Token>
+        ensures { result ≡ (traced_rest self).carried }
     {
-        Unranked {
-            act: Act::Send(self.actor, self.other, self.value),
-            reply: Reply::Done,
-            report,
-            carried: Some(Token {
+        match self.form {
+            TracedForm::Send(flags) | TracedForm::ReportedSend(flags) => Some(Token {
                 label: self.label,
                 flags,
                 serial: self.serial,
                 from: self.actor,
             }),
-        }
-    }
-
-    /// A receive by this pattern, without its rank.
-    fn receive_rest(self, want: Want) -> Unranked
-        ensures { result
-            ≡ receive_rest self.actor want self.label self.other self.value self.serial }
-    {
-        Unranked {
-            act: Act::Receive(self.actor, want),
-            reply: Reply::Mail(self.other, self.value),
-            report: Some(self.event(Kind::Receive, self.other, Some(self.actor))),
-            carried: None,
+            _ => None,
         }
     }
 }
