@@ -140,6 +140,22 @@ impl CallLog {
         self.briefs[place].call(self.whole.as_slice())
     }
 
+    /// The act of the call at this place.
+    pub fn act_at(&self, place: usize) -> Act
+        requires { place < length self.now.calls }
+        ensures { result ≡ (call_at self.now.calls place).0 }
+    {
+        self.briefs[place].act(self.whole.as_slice())
+    }
+
+    /// Returns the reply of the call at this place.
+    pub fn reply_at(&self, place: usize) -> Reply
+        requires { place < length self.now.calls }
+        ensures { result ≡ (call_at self.now.calls place).1 }
+    {
+        self.briefs[place].reply(self.whole.as_slice())
+    }
+
     /// The actor of the call at this place.
     #[inline]
     pub fn actor_at(&self, place: usize) -> Pid
@@ -258,18 +274,41 @@ impl Brief {
         requires { IsBriefPlaced (length whole.now) self }
         ensures { result ≡ call_in whole.now self }
     {
+        (self.act(whole), self.reply(whole))
+    }
+
+    /// The call's act, of the same.
+    fn act(self, whole: &[(Act, Reply)]) -> Act
+        requires { IsBriefPlaced (length whole.now) self }
+        ensures { result ≡ (call_in whole.now self).0 }
+    {
         match self {
-            Brief::Send(me, to, value) => (Act::Send(me, to, value), Reply::Done),
-            Brief::Print(me, value) => (Act::Print(me, value), Reply::Done),
-            Brief::Nothing(me, want) => (Act::Receive(me, want), Reply::Nothing),
-            Brief::First(me, from, value) => receive_call(me, Want::First, from, value),
-            Brief::From(me, from, value) => receive_call(me, Want::From(from), from, value),
-            Brief::Value(me, from, value) => receive_call(me, Want::Value(value), from, value),
-            Brief::Both(me, from, value) => receive_call(me, Want::Both(from, value), from, value),
-            Brief::Place(me, place, from, value) => {
-                receive_call(me, Want::Place(u64::from(place)), from, value)
-            }
-            Brief::Whole(place) => whole[place as usize],
+            Brief::Send(me, to, value) => Act::Send(me, to, value),
+            Brief::Print(me, value) => Act::Print(me, value),
+            Brief::Nothing(me, want) => Act::Receive(me, want),
+            Brief::First(me, ..) => Act::Receive(me, Want::First),
+            Brief::From(me, from, _) => Act::Receive(me, Want::From(from)),
+            Brief::Value(me, _, value) => Act::Receive(me, Want::Value(value)),
+            Brief::Both(me, from, value) => Act::Receive(me, Want::Both(from, value)),
+            Brief::Place(me, place, ..) => Act::Receive(me, Want::Place(u64::from(place))),
+            Brief::Whole(place) => whole[place as usize].0,
+        }
+    }
+
+    /// Returns the call's reply, of the same.
+    fn reply(self, whole: &[(Act, Reply)]) -> Reply
+        requires { IsBriefPlaced (length whole.now) self }
+        ensures { result ≡ (call_in whole.now self).1 }
+    {
+        match self {
+            Brief::Send(..) | Brief::Print(..) => Reply::Done,
+            Brief::Nothing(..) => Reply::Nothing,
+            Brief::First(_, from, value)
+            | Brief::From(_, from, value)
+            | Brief::Value(_, from, value)
+            | Brief::Both(_, from, value)
+            | Brief::Place(_, _, from, value) => Reply::Mail(from, value),
+            Brief::Whole(place) => whole[place as usize].1,
         }
     }
 
@@ -319,11 +358,4 @@ impl Brief {
             _ => self == other,
         }
     }
-}
-
-/// A receive that took a message from this process and of this value.
-fn receive_call(me: Pid, want: Want, from: Pid, value: u64) -> (Act, Reply)
-    ensures { result ≡ (Act.Receive me want, Reply.Mail from value) }
-{
-    (Act::Receive(me, want), Reply::Mail(from, value))
 }

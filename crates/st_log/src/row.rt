@@ -99,7 +99,7 @@ impl Content {
         match self {
             Content::Reset(actor) => Act::Reset(actor),
             Content::Tracer(actor, on, _) => Act::Tracer(actor, on),
-            Content::Call(place) => calls.at(place as usize).0,
+            Content::Call(place) => calls.act_at(place as usize),
             Content::Traced(place) => traced[place as usize].act(),
             Content::Apart(place) => apart[place as usize].act,
         }
@@ -141,7 +141,7 @@ impl Content {
         match self {
             Content::Reset(_) => Reply::Done,
             Content::Tracer(_, _, was) => Reply::Was(was),
-            Content::Call(place) => calls.at(place as usize).1,
+            Content::Call(place) => calls.reply_at(place as usize),
             Content::Traced(place) => traced[place as usize].reply(),
             Content::Apart(place) => apart[place as usize].reply,
         }
