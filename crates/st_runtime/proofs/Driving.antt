@@ -1,33 +1,28 @@
--- A record of logs in which each process made its script is that of driven scripts: each process's
--- acts in the run are those in its log. A worker's refusal is one of an act of its script.
-use Rattle.std.proofs.Common.{◌≡◌, ◌≢◌, ℕ, zero, suc, ◌+◌, ◌<◌, ◌≤◌, Bool, true, false, cond, List, []}
-use Rattle.std.proofs.Common.{◌∷◌, ◌++◌, length, map, None, refl, sym, ◌∙◌, ap, subst, arith}
+-- A record in which each process made its script is that of driven scripts. A worker's refusal is
+-- one of an act of its script.
+use Rattle.std.proofs.Common.{◌≡◌, ◌≢◌, ℕ, zero, suc, ◌<◌, ◌≤◌, List, []}
+use Rattle.std.proofs.Common.{◌∷◌, length, map, None, refl, sym, ◌∙◌, ap, subst, arith}
 use Rattle.std.specs.List.{AllZip, zip}
 use Rattle.std.specs.Prelude.{All, Some, take, slice_get}
-use Rattle.std.proofs.lemmas.List.{map-append, take_more}
-use Rattle.std.proofs.lemmas.List.Elements.{All-nil, All-cons, filter-append}
+use Rattle.std.proofs.lemmas.List.Elements.{All-nil, All-cons}
 use Rattle.std.proofs.lemmas.Option.{same_Some}
 use Rattle.std.proofs.lemmas.Slice.Zip.{seconds-zip}
 use Rattle.st_core.specs.declared.types.Act.{Act}
 use Rattle.st_core.specs.declared.types.Pid.{Pid}
-use Rattle.st_core.specs.declared.types.Reply.{Reply}
-use Rattle.st_core.specs.Pid.{pid_eq, IsRising}
+use Rattle.st_core.specs.Pid.{IsRising}
 use Rattle.st_core.specs.Run.{Shows, pids_of, run}
-use Rattle.st_core.specs.Step.{actor}
 use Rattle.st_core.specs.Streams.{IsStreams}
 use Rattle.st_log.specs.declared.entry.Entry.{Entry}
-use Rattle.st_log.specs.Entries.{entry_at, no_entry}
 use Rattle.st_runtime.specs.declared.fault.ActFault.{ActFault}
 use Rattle.st_runtime.specs.declared.fault.ActFault.TheVariants as fault
 use Rattle.st_runtime.specs.declared.join.record.Record.{Record}
 use Rattle.st_runtime.specs.declared.driver.worker.Ending.{Ending}
 use Rattle.st_runtime.specs.Driven.{acts_by, acts_in, stamps_in, IsDriven, IsOwn, IsRefused}
 use Rattle.st_runtime.specs.Driven.{IsPossible, IsWorkerFault}
-use Rattle.st_runtime.specs.Joining.{own_acts, IsScripted}
-use Rattle.st_runtime.specs.Pieces.{pids_in, calls_of}
+use Rattle.st_runtime.specs.Joining.{IsScripted}
+use Rattle.st_runtime.specs.Pieces.{pids_in}
 use Rattle.st_runtime.specs.Pcb.{Control}
 use Rattle.st_runtime.specs.Working.{IsPlayed, IsWorked, IsFirstRefusal}
-use Rattle.st_runtime.proofs.Members.{got_at}
 use Rattle.st_runtime.proofs.Runs.{pids_streams}
 use Rattle.st_runtime.proofs.Shown.{are_streams}
 use Rattle.st_runtime.proofs.Workers.{Job}
@@ -65,53 +60,6 @@ scripts_back pids scripts ends even worked =
 
 -- ---- the run
 
-own_act : (b : Bool) (a : Act) (y : Reply) (rest : List Act) (cs : List (Act × Reply))
-    → rest ≡ map (λ c. c.0) cs
-    → cond b (a ∷ rest) rest ≡ map (λ c. c.0) (cond b ((a, y) ∷ []) [] ++ cs)
-own_act true a y rest cs same = ap (λ more. a ∷ more) same
-own_act false a y rest cs same = same
-
--- a process's acts among entries are those of its calls there
-acts_of_calls : (p : Pid) (es : List Entry)
-    → acts_by p (map (λ e. e.act) es) ≡ map (λ c. c.0) (calls_of p es)
-acts_of_calls p [] = refl
-acts_of_calls p (e ∷ es) =
-    own_act (pid_eq (actor e.act) p) e.act e.reply (acts_by p (map (λ d. d.act) es)) (calls_of p es)
-    (acts_of_calls p es)
-
--- an entry more adds its act, if it is the process's own
-pub acts_further : (p : Pid) (log : List Entry) (i : ℕ) (b : Bool) → i < length log
-    → pid_eq (actor (entry_at log i).act) p ≡ b
-    → acts_by p (map (λ e. e.act) (take (i + 1) log))
-    ≡ acts_by p (map (λ e. e.act) (take i log)) ++ cond b ((entry_at log i).act ∷ []) []
-acts_further p log i b within is =
-    let so_far = acts_by p (map (λ (e : Entry). e.act) (take i log)) in
-    let a = (entry_at log i).act in
-    ap (λ es. acts_by p (map (λ (e : Entry). e.act) es)) (take_more log i no_entry within)
-    ∙ ap (acts_by p) (map-append (λ (e : Entry). e.act) (take i log) (entry_at log i ∷ []))
-    ∙ filter-append (λ x. pid_eq (actor x) p) (map (λ (e : Entry). e.act) (take i log)) (a ∷ [])
-    ∙ ap (λ t. so_far ++ cond t (a ∷ []) []) is
-
--- the script is one act further
-pub script_further : (script : List Act) (n : ℕ) (a : Act) → slice_get script n ≡ Some a
-    → (n < length script) × (take (n + 1) script ≡ take n script ++ a ∷ [])
-script_further script n a at =
-    let got = got_at script n a a at in
-    (got.0, take_more script n a got.0 ∙ ap (λ x. take n script ++ x ∷ []) got.1)
-
--- each process's acts in the run are those in its log
-acts_made : (xs : List Control) (es : List Entry)
-    → All (λ (x : Control). calls_of x.process.pid es ≡ calls_of x.process.pid x.log) xs
-    → map (λ p. acts_by p (map (λ e. e.act) es)) (pids_in xs) ≡ map own_acts xs
-acts_made [] es same = refl
-acts_made (x ∷ xs) es same =
-    let p = x.process.pid in
-    let here : acts_by p (map (λ e. e.act) es) ≡ own_acts x =
-    acts_of_calls p es ∙ ap (map (λ c. c.0)) (same 0 x (omega arith))
-    ∙ sym (acts_of_calls p x.log) in
-    let rest = acts_made xs es (λ k d below. same (suc k) d (omega arith)) in
-    λ i. here i ∷ rest i
-
 pub driven : (top ranks : ℕ) (xs : List Control) (r : Record) (pids : List Pid)
     (scripts : List (List Act)) → IsRising pids → pids_in xs ≡ pids
     → IsScripted top ranks xs scripts r → IsDriven top ranks pids scripts r
@@ -137,10 +85,7 @@ driven top ranks xs r pids scripts rising of_pids scripted =
       streams = subst IsStreams (sym logged.streams)
           (are_streams top xs es (subst IsRising (sym of_pids) rising) one);
       listed = ap pids_of logged.streams ∙ pids_streams xs ∙ of_pids;
-      made = ap (λ made. map (λ p. acts_by p made) pids) logged.acts
-          ∙ ap (λ ps. map (λ p. acts_by p acts) ps) (sym of_pids)
-          ∙ acts_made xs es one.calls
-          ∙ scripted.made;
+      made = ap (λ ps. map (λ p. acts_by p r.acts) ps) (sym of_pids) ∙ scripted.made;
     }
 
 -- ---- a worker's refusal

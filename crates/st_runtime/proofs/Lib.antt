@@ -19,6 +19,7 @@ pub mod Wholeness
 pub mod Passing
 pub mod Seated
 pub mod JoinLemmas
+pub mod Scripted
 -- The endings of workers.
 pub mod Workers
 pub mod Driving

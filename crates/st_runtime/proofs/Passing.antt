@@ -30,7 +30,7 @@ pub below_from : (m n : ℕ) → nat_lt m n ≡ true → m < n
 below_from m n is = grind (arith, nat_tests)
 
 -- pids that rise differ at different places
-one_place : (ps : List Pid) (i j : ℕ) (d : Pid) → IsRising ps → i < length ps → j < length ps
+pub one_place : (ps : List Pid) (i j : ℕ) (d : Pid) → IsRising ps → i < length ps → j < length ps
     → get_or ps i d ≡ get_or ps j d → i ≡ j
 one_place ps i j d rising here there same =
     ⊎_elim (λ one. one)
@@ -100,7 +100,7 @@ moves_if e c d moves = ⊎_elim
     (λ past. subst (λ b. MatchBool b (MovesPast e c d) (d ≡ c)) (sym past.1) past.0)
     (λ still. subst (λ b. MatchBool b (MovesPast e c d) (d ≡ c)) (sym still.1) still.0) moves
 
-false_unless : (b : Bool) → ¬ (b ≡ true) → b ≡ false
+pub false_unless : (b : Bool) → ¬ (b ≡ true) → b ≡ false
 false_unless true h = absurd (h refl)
 false_unless false h = refl
 
@@ -173,48 +173,48 @@ module _ (e : Entry) (cs : List Along) (ps : List Pid) (me them : ℕ) (of : pid
       })
 
   -- the cursors of both passed it
-  pub stepped_two : (bs ds : List Along) → me ≢ them → MovesPastAt e them cs bs
-      → MovesPastAt e me bs ds → AreStepped e cs ds
-  stepped_two bs ds apart to from =
-      let b = to.cursor in
-      let c = from.cursor in
-      let still = length-set cs them b in
+  pub stepped_two : (bs ds : List Along) → them ≢ me → MovesPastAt e me cs bs
+      → MovesPastAt e them bs ds → AreStepped e cs ds
+  stepped_two bs ds apart from to =
+      let b = from.cursor in
+      let c = to.cursor in
+      let still = length-set cs me b in
       let Stepped : List Along → Type 0 = λ xs. AreStepped e cs xs in
-      let both : ds ≡ set (set cs them b) me c = from.written ∙ ap (λ xs. set xs me c) to.written in
-      let passes : MovesPast e (get_or (set cs them b) me c) c =
-      subst (λ xs. MovesPast e (get_or xs me c) c) to.written from.passes in
+      let both : ds ≡ set (set cs me b) them c = to.written ∙ ap (λ xs. set xs them c) from.written in
+      let passes : MovesPast e (get_or (set cs me b) them c) c =
+      subst (λ xs. MovesPast e (get_or xs them c) c) from.written to.passes in
       subst Stepped (sym both) (record {
-        even = length-set (set cs them b) me c ∙ still;
+        even = length-set (set cs me b) them c ∙ still;
         each = λ i below d.
-            moves_if e (get_or cs i d) (get_or (set (set cs them b) me c) i d)
+            moves_if e (get_or cs i d) (get_or (set (set cs me b) them c) i d)
             (⊎_elim
             (λ here. subst
-            (λ j. Moves e (get_or cs j d) (get_or (set (set cs them b) me c) j d)) (sym here)
+            (λ j. Moves e (get_or cs j d) (get_or (set (set cs me b) them c) j d)) (sym here)
             (inl (
-              subst (MovesPast e (get_or cs me d))
-                  (sym (get_or-set_same (set cs them b) me c d (omega (arith, still, me_within))))
+              subst (MovesPast e (get_or cs them d))
+                  (sym (get_or-set_same (set cs me b) them c d (omega (arith, still, them_within))))
                   (subst (λ x. MovesPast e x c)
-                  (get_or-set_other cs them me b c apart ∙ get_or_default cs me c d me_within)
+                  (get_or-set_other cs me them b c apart ∙ get_or_default cs them c d them_within)
                   passes),
-              touched_me d,
+              touched_them d,
             )))
             (λ other. ⊎_elim
             (λ there. subst
-            (λ j. Moves e (get_or cs j d) (get_or (set (set cs them b) me c) j d)) (sym there)
+            (λ j. Moves e (get_or cs j d) (get_or (set (set cs me b) them c) j d)) (sym there)
             (inl (
-              subst (MovesPast e (get_or cs them d))
-                  (sym (get_or-set_other (set cs them b) me them c d (λ it. apart (sym it))
-                  ∙ get_or-set_same cs them b d them_within))
-                  (subst (λ x. MovesPast e x b) (get_or_default cs them b d them_within) to.passes),
-              touched_them d,
+              subst (MovesPast e (get_or cs me d))
+                  (sym (get_or-set_other (set cs me b) them me c d (λ it. apart (sym it))
+                  ∙ get_or-set_same cs me b d me_within))
+                  (subst (λ x. MovesPast e x b) (get_or_default cs me b d me_within) from.passes),
+              touched_me d,
             )))
             (λ neither. inr (
-              get_or-set_other (set cs them b) me i c d other
-                  ∙ get_or-set_other cs them i b d neither,
-              untouched i d below other neither,
+              get_or-set_other (set cs me b) them i c d other
+                  ∙ get_or-set_other cs me i b d neither,
+              untouched i d below neither other,
             ))
-            (cases_eq i them))
-            (cases_eq i me));
+            (cases_eq i me))
+            (cases_eq i them));
       })
 
 -- ---- a whole node

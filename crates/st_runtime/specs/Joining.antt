@@ -1,13 +1,12 @@
 -- The steps of joining: where an entry is, the least pid that isn't seated, and what is read out of
 -- the logs.
-use Rattle.std.specs.Prelude.{◌≡◌, ℕ, ◌<◌, Bool, MatchBool, List, length, map, Option, Some, None}
-use Rattle.std.specs.Prelude.{if◌then◌else◌, All, Contains, IfSome}
+use Rattle.std.specs.Prelude.{◌≡◌, ℕ, ◌<◌, Bool, MatchBool, List, [], length, map, Option, Some, None}
+use Rattle.std.specs.Prelude.{if◌then◌else◌, slice_index_or, All, Contains, IfSome}
 use Rattle.std.specs.Borrow.{Bor}
 use Rattle.std.specs.Ordering.{is_lt}
 use Rattle.st_core.specs.declared.types.Pid.{Pid}
 use Rattle.st_core.specs.declared.types.Act.{Act}
 use Rattle.st_core.specs.declared.types.Event.{Event}
-use Rattle.st_core.specs.declared.types.Reply.{Reply}
 use Rattle.st_core.specs.Pid.{pid_cmp, pid_eq, IsBelow, IsRising}
 use Rattle.st_core.specs.Step.{actor}
 use Rattle.st_log.specs.declared.entry.Entry.{Entry}
@@ -63,18 +62,14 @@ referred r = entry_at r.0.now.entries r.1
 abbrev pub IsThere : Bor Logged × ℕ → Type 0
 IsThere r = r.1 < length r.0.now.entries
 
--- the acts of entries that are referred to, and their replies
-abbrev pub IsReadOut : List (Bor Logged × ℕ) → List Act → List Reply → Type 0
-IsReadOut refs acts replies =
-    (acts ≡ map (λ r. (referred r).act) refs) × (replies ≡ map (λ r. (referred r).reply) refs)
-
 -- the report of p in an entry, if it is p's own and has one
 abbrev pub report_at : Pid → Entry → Option Event
 report_at p e = if pid_eq (actor e.act) p then e.report else None
 
--- the process's own acts in its log
-abbrev pub own_acts : Control → List Act
-own_acts x = acts_by x.process.pid (map (λ e. e.act) x.log)
+-- so many acts of each of the first n scripts are all of it
+abbrev pub AreEnded : List ℕ → List (List Act) → ℕ → Type 0
+AreEnded made scripts n = (i : ℕ) → i < n
+    → slice_index_or made i 0 ≡ length (slice_index_or scripts i [])
 
 -- the record is that of whole logs that locks kept, in which each process made its script
 pub record IsScripted (top ranks : ℕ) (xs : List Control) (scripts : List (List Act)) (r : Record)
@@ -82,4 +77,4 @@ pub record IsScripted (top ranks : ℕ) (xs : List Control) (scripts : List (Lis
   pub whole : AreWhole xs
   pub kept : All (λ x. IsFromLog top ranks x.process x.log) xs
   pub logged : IsLogged top xs r
-  pub made : map own_acts xs ≡ scripts
+  pub made : map (λ p. acts_by p r.acts) (pids_in xs) ≡ scripts

@@ -1,7 +1,7 @@
 -- One walk over the acts by rank. What it finds of logs: each has exactly the acts that touch its
 -- process. And its cursors: one in each log, which passes an act that touches the process.
 use Rattle.std.specs.Prelude.{◌≡◌, ℕ, ◌<◌, true, MatchBool, List, [], ◌∷◌, ◌++◌, length, map, filter}
-use Rattle.std.specs.Prelude.{All, AllPairs, slice_index_or, slice_set, ◌⊎◌}
+use Rattle.std.specs.Prelude.{All, AllPairs, drop, slice_index_or, slice_set, ◌⊎◌}
 use Rattle.st_core.specs.declared.types.Pid.{Pid}
 use Rattle.st_core.specs.Pid.{node_of, IsBelow}
 use Rattle.st_core.specs.Step.{touches}
@@ -47,6 +47,11 @@ start x = record { pid = x.process.pid; passed = []; left = x.log }
 -- whose the cursors are
 abbrev pub pids_along : List Along → List Pid
 pids_along cs = map (λ c. c.pid) cs
+
+-- the entry is the next one at the cursor at this place
+abbrev pub IsNextAt : Entry → ℕ → List Along → Type 0
+IsNextAt e i cs = (d : Along) → i < length cs
+    → (slice_index_or cs i d).left ≡ e ∷ drop 1 (slice_index_or cs i d).left
 
 -- the cursor passes the entry, which was next
 pub record MovesPast (e : Entry) (before after : Along) : Type 0 where

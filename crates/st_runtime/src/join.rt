@@ -1,11 +1,10 @@
 //! The one run that pieces tell of.
 
 ghost use Rattle.std.specs.Prelude.{◌≡◌, length, map, vec_len, All, IfOk, IfErr, IfSome, OnOk};
-ghost use Rattle.std.specs.Thread.{IsSync};
 ghost use Rattle.st_core.specs.Pid.{IsRising};
 ghost use Rattle.st_core.specs.Streams.{IsStreams};
 ghost use Rattle.st_runtime.specs.Joined.{IsJoined, streams_of};
-ghost use Rattle.st_runtime.specs.Joining.{referred, IsLogged, IsReadOut, IsScripted, IsThere};
+ghost use Rattle.st_runtime.specs.Joining.{referred, IsLogged, IsScripted, IsThere};
 ghost use Rattle.st_runtime.specs.Pcb.{IsFromLog};
 ghost use Rattle.st_runtime.specs.Pieces.{pids_in, IsFit, IsJoinFault};
 ghost use Rattle.st_runtime.specs.Walk.{IsWalk};
@@ -13,6 +12,7 @@ ghost use Rattle.st_runtime.specs.Walk.{IsWalk};
 pub mod collect;
 pub mod reading;
 pub mod record;
+pub mod scripts;
 pub mod seating;
 pub mod turns;
 pub mod walk;
@@ -20,11 +20,12 @@ pub mod whole;
 
 use crate::fault::JoinFault;
 use crate::join::collect::streams_of;
-use crate::join::reading::{acts_and_replies, acts_of, replies_of};
+use crate::join::reading::{acts_of, replies_of};
 use crate::join::record::Record;
-use crate::join::seating::{first_undone, first_unseated};
+use crate::join::scripts::check_scripts;
+use crate::join::seating::first_unseated;
 use crate::join::turns::turns_of;
-use crate::join::walk::{Reference, walk};
+use crate::join::walk::{Reference, pids_of, walk};
 use crate::join::whole::first_missing;
 use crate::pcb::Pcb;
 use crate::system::pieces::Pieces;
@@ -55,8 +56,8 @@ pub fn join_pieces<const TOP: u64, const RANKS: u64>(
     Ok(run_of_logs(alloc, processes, entries.as_slice())?)
 }
 
-/// Joins the logs that driven scripts left, by several threads. The scripts are let go before the
-/// acts are read out.
+/// Joins the logs that driven scripts left. The scripts are let go before streams and replies are
+/// read out, by a thread each.
 pub(crate) fn join_driven<const TOP: u64, const RANKS: u64, R: Threads + Sync>(
     rt: &R,
     alloc: Global,
@@ -69,13 +70,13 @@ pub(crate) fn join_driven<const TOP: u64, const RANKS: u64, R: Threads + Sync>(
 {
     let processes = processes.as_slice();
     let Some(entries) = entries_of(alloc, processes)? else {
-        return Err(first_fault(processes, scripts.as_slice()));
+        return Err(first_fault(processes));
     };
-    if let Some(pid) = first_undone(processes, scripts.as_slice()) {
-        return Err(JoinFault::SeatDiffers(pid));
-    }
+    let acts = acts_of(alloc, entries.as_slice())?;
+    let pids = pids_of(alloc, processes)?;
+    check_scripts(alloc, pids.as_slice(), acts.as_slice(), scripts.as_slice())?;
     drop(scripts);
-    Ok(run_by_threads(rt, alloc, processes, entries.as_slice())?)
+    Ok(run_by_threads(rt, alloc, processes, entries.as_slice(), acts)?)
 }
 
 /// The entries of all logs, each once and by rank and then actor, if one walk leads through all
@@ -95,18 +96,11 @@ fn entries_of<const TOP: u64, const RANKS: u64>(
 
 /// Why the logs of driven scripts don't fit. If no fault is found, there were more acts than turns
 /// can tell (`join::turns`), and it is `Memory`.
-fn first_fault<const TOP: u64, const RANKS: u64>(
-    processes: &[Pcb<TOP, RANKS>],
-    scripts: &[Sequence<Act>],
-) -> JoinFault
-    requires rising { IsRising (pids_in processes.now) }
-    requires each { length scripts.now ≡ length processes.now }
+fn first_fault<const TOP: u64, const RANKS: u64>(processes: &[Pcb<TOP, RANKS>]) -> JoinFault
+    requires { IsRising (pids_in processes.now) }
 {
-    if let Some((pid, place)) = first_missing(processes) {
-        return JoinFault::Missing(pid, place as u64);
-    }
-    match first_undone(processes, scripts) {
-        Some(pid) => JoinFault::SeatDiffers(pid),
+    match first_missing(processes) {
+        Some((pid, place)) => JoinFault::Missing(pid, place as u64),
         None => JoinFault::Memory,
     }
 }
@@ -148,32 +142,35 @@ fn run_of_logs<const TOP: u64, const RANKS: u64>(
     })
 }
 
-/// Makes the run with a thread each for the acts, the replies and the streams.
+/// The one run of whole logs, of which these are the merged entries and their acts. Its streams and
+/// its replies are read out by a thread each.
 fn run_by_threads<const TOP: u64, const RANKS: u64, R: Threads + Sync>(
     rt: &R,
     alloc: Global,
     processes: &[Pcb<TOP, RANKS>],
     entries: &[Reference<'_>],
+    acts: Vec<Act>,
 ) -> Result<Record, AllocError>
     requires rising { IsRising (pids_in processes.now) }
     requires walk { IsWalk processes.now (map referred entries.now) }
     requires there { All IsThere entries.now }
     requires kept { All (λ x. IsFromLog TOP RANKS x.process x.log) processes.now }
-    ensures { IfOk result (IsLogged TOP processes.now) }
+    requires acts { acts.items ≡ map (λ r. (referred r).act) entries.now }
+    ensures logged { IfOk result (IsLogged TOP processes.now) }
+    ensures acts { IfOk result (λ r. r.acts ≡ acts.items) }
 {
-    let (streams, calls) = join(
+    let (streams, replies) = join(
         rt,
         || -> Result<Streams, AllocError>
             requires { IsStreams (streams_of processes.now) }
             ensures { IfOk result (λ s. s ≡ streams_of processes.entry.now) }
         { streams_of(alloc, processes) },
-        || -> Result<(Vec<Act>, Vec<Reply>), AllocError>
-            requires sync { IsSync R.row }
-            requires there { All IsThere entries.now }
-            ensures { IfOk result (λ r. IsReadOut entries.entry.now r.0.items r.1.items) }
-        { acts_and_replies(rt, alloc, entries) },
+        || -> Result<Vec<Reply>, AllocError>
+            requires { All IsThere entries.now }
+            ensures { IfOk result (λ v. v.items ≡ map (λ r. (referred r).reply) entries.entry.now) }
+        { replies_of(alloc, entries) },
     );
-    let (acts, replies) = calls?;
+    let replies = replies?;
     Ok(Record {
         streams: streams?,
         acts: Sequence::from_vec(acts),

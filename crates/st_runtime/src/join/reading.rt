@@ -1,12 +1,11 @@
 //! The acts of entries and what they returned, read out of the logs in which they stay.
 
 ghost use Rattle.std.specs.Prelude.{◌≡◌, map, All, IfOk};
-ghost use Rattle.st_runtime.specs.Joining.{referred, IsReadOut, IsThere};
+ghost use Rattle.st_runtime.specs.Joining.{referred, IsThere};
 
 use crate::join::walk::Reference;
 use st_core::{Act, Reply};
 use std::alloc::{AllocError, Global};
-use std::thread::{Threads, join};
 
 /// The act of the entry that is referred to.
 fn act_of(reference: &Reference<'_>) -> Act
@@ -48,29 +47,4 @@ pub fn replies_of(alloc: Global, entries: &[Reference<'_>]) -> Result<Vec<Reply>
         replies.push_reserved(reply_of(reference));
     }
     Ok(replies)
-}
-
-/// The acts of entries and what they returned, read out by a thread each.
-pub fn acts_and_replies<R: Threads + Sync>(
-    rt: &R,
-    alloc: Global,
-    entries: &[Reference<'_>],
-) -> Result<(Vec<Act>, Vec<Reply>), AllocError>
-    requires { All IsThere entries.now }
-    ensures { IfOk result (λ r. IsReadOut entries.now r.0.items r.1.items) }
-{
-    let (acts, replies) = join(
-        rt,
-        || -> Result<Vec<Act>, AllocError>
-            requires { All IsThere entries.now }
-            ensures { IfOk result (λ v. v.items ≡ map (λ r. (referred r).act) entries.entry.now) }
-        { acts_of(alloc, entries) },
-        || -> Result<Vec<Reply>, AllocError>
-            requires { All IsThere entries.now }
-            ensures { IfOk result (λ v. v.items ≡ map (λ r. (referred r).reply) entries.entry.now) }
-        { replies_of(alloc, entries) },
-    );
-    let acts = acts?;
-    let replies = replies?;
-    Ok((acts, replies))
 }

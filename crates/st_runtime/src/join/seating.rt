@@ -1,17 +1,14 @@
 //! Whether each process has the one seat that its log tells of.
 
-ghost use Rattle.std.specs.Prelude.{◌≡◌, ◌↔◌, ◌<◌, [], ◌∷◌, length, map, slice_get, IfNone, IsTrue};
-ghost use Rattle.std.specs.Prelude.{MatchOption, Some};
+ghost use Rattle.std.specs.Prelude.{◌≡◌, ◌↔◌, [], ◌∷◌, IsTrue, MatchOption};
 ghost use Rattle.st_core.specs.Pid.{IsRising};
-ghost use Rattle.st_log.specs.Entries.{entry_at};
-ghost use Rattle.st_runtime.specs.Driven.{acts_by};
-ghost use Rattle.st_runtime.specs.Joining.{own_acts, IsLeastUnseated, lesser};
+ghost use Rattle.st_runtime.specs.Joining.{IsLeastUnseated, lesser};
 ghost use Rattle.st_runtime.specs.Pieces.{pids_in, calls_of, seats_at, IsSeated, IsFirstUnseated};
 
 use crate::join::whole::place_in;
 use crate::pcb::Pcb;
 use crate::system::seat::Seat;
-use st_core::{Act, Pid, Sequence};
+use st_core::Pid;
 use st_log::{CallLog, Log, is_call};
 
 /// The least pid that isn't seated. It has a log or a seat, since a pid without either is seated.
@@ -141,52 +138,4 @@ fn holds_calls(mine: &CallLog, pid: Pid, log: &Log) -> bool
         }
     }
     next == mine.len()
-}
-
-/// The least pid whose own acts in its log aren't its script.
-pub fn first_undone<const TOP: u64, const RANKS: u64>(
-    processes: &[Pcb<TOP, RANKS>],
-    scripts: &[Sequence<Act>],
-) -> Option<Pid>
-    requires { length scripts.now ≡ length processes.now }
-    ensures { IfNone result (map own_acts processes.now ≡ scripts.now) }
-{
-    for (place, process) in processes.iter().enumerate() {
-        if !holds_acts(scripts[place].as_slice(), process.pid(), process.log()) {
-            return Some(process.pid());
-        }
-    }
-    None
-}
-
-/// Whether these are the acts of the pid in the log.
-fn holds_acts(script: &[Act], pid: Pid, log: &Log) -> bool
-    ensures { IsTrue result → acts_by pid (map (λ e. e.act) log.now.entries) ≡ script.now }
-{
-    let mut next = 0;
-    for place in 0..log.len() {
-        if log.actor_at(place) == pid {
-            if !is_act_at(script, next, log, place) {
-                return false;
-            }
-            next += 1;
-        }
-    }
-    next == script.len()
-}
-
-/// Whether the script's act at the first place is that of the log's entry at the second.
-fn is_act_at(script: &[Act], next: usize, log: &Log, place: usize) -> bool
-    requires { place < length log.now.entries }
-    ensures { IsTrue result
-        → slice_get script.now next ≡ Some (entry_at log.now.entries place).act }
-{
-    next < script.len() && is_same_act(&script[next], &log.act_at(place))
-}
-
-/// Whether they are the same act.
-fn is_same_act(first: &Act, second: &Act) -> bool
-    ensures { IsTrue result ↔ (first.now ≡ second.now) }
-{
-    *first == *second
 }

@@ -6,13 +6,14 @@ ghost use Rattle.std.specs.Prelude.{◌≡◌, ◌<◌, ◌≤◌, ◌∷◌, []
 ghost use Rattle.std.specs.Prelude.{IfSome, IsTrue, OnOk, slice_get, Some};
 ghost use Rattle.st_core.specs.Pid.{node_of, IsRising};
 ghost use Rattle.st_core.specs.Step.{actor};
+ghost use Rattle.st_log.specs.declared.entry.Entry.{Entry};
 ghost use Rattle.st_log.specs.Entries.{entry_at, is_wide};
 ghost use Rattle.st_runtime.specs.Joining.{referred, IsThere};
 ghost use Rattle.st_runtime.specs.Pcb.{IsFromLog};
 ghost use Rattle.st_runtime.specs.Pieces.{pids_in};
 ghost use Rattle.st_runtime.specs.System.{knows};
 ghost use Rattle.st_runtime.specs.Walk.{start, pids_along, AreLower, AreStepped, IsKeyBefore, IsWalk};
-ghost use Rattle.st_runtime.specs.Walk.{MovesPast, MovesPastAt};
+ghost use Rattle.st_runtime.specs.Walk.{IsNextAt, MovesPast, MovesPastAt};
 
 use crate::pcb::Pcb;
 use crate::pcb::acts::receiver_of;
@@ -66,6 +67,16 @@ impl<'a> Cursor<'a> {
         ensures { IsTrue result → self.now.left ≡ [] }
     {
         self.next >= self.log.len()
+    }
+
+    /// Passes the next entry, whatever it is.
+    fn advance(&mut self)
+        ensures { (e : Entry) → self.old.left ≡ e ∷ drop 1 self.old.left
+            → MovesPast e self.old self.new }
+    {
+        if self.next < self.log.len() {
+            self.next += 1;
+        }
     }
 
     /// Passes the next entry, if it is seen to be the one at this place of the log.
@@ -135,7 +146,7 @@ fn cursors_of<'a, const TOP: u64, const RANKS: u64>(
 }
 
 /// The pids of the processes.
-fn pids_of<const TOP: u64, const RANKS: u64>(
+pub fn pids_of<const TOP: u64, const RANKS: u64>(
     alloc: Global,
     processes: &[Pcb<TOP, RANKS>],
 ) -> Result<Vec<Pid>, AllocError>
@@ -193,7 +204,8 @@ fn pass_turn<'a>(
     Some(entry)
 }
 
-/// Passes an entry of the process at this place at the cursors of all processes that it touches.
+/// Passes the next entry of the process at this place at the cursors of all processes that it
+/// touches.
 fn pass_all(
     cursors: &mut [Cursor<'_>],
     pids: &[Pid],
@@ -206,6 +218,7 @@ fn pass_all(
     requires pids { pids_along cursors.old ≡ pids.now }
     requires place { place < length log.now.entries }
     requires me { slice_get pids.now me ≡ Some (actor (entry_at log.now.entries place).act) }
+    requires next { IsNextAt (entry_at log.now.entries place) me cursors.old }
     ensures known { IsTrue result
         → knows pids.now (entry_at log.now.entries place).act ≡ true }
     ensures stepped { IsTrue result
@@ -255,8 +268,8 @@ fn are_lower(pids: &[Pid], first: usize, node: u16) -> bool
     }
 }
 
-/// Passes an act that isn't one of a whole node at the cursors of its actor and of a send's
-/// receiver.
+/// Passes an act that isn't one of a whole node at the cursors of its actor, where it is next, and
+/// of a send's receiver.
 fn pass_two(
     cursors: &mut [Cursor<'_>],
     pids: &[Pid],
@@ -270,17 +283,19 @@ fn pass_two(
     requires place { place < length log.now.entries }
     requires narrow { is_wide (entry_at log.now.entries place).act ≡ false }
     requires me { slice_get pids.now me ≡ Some (actor (entry_at log.now.entries place).act) }
+    requires next { IsNextAt (entry_at log.now.entries place) me cursors.old }
     ensures known { IsTrue result
         → knows pids.now (entry_at log.now.entries place).act ≡ true }
     ensures stepped { IsTrue result
         → AreStepped (entry_at log.now.entries place) cursors.old cursors.new }
 {
     let to = receiver_of(&log.act_at(place));
+    advance_at(cursors, me);
     if to == pids[me] {
-        return pass_at(cursors, me, log, place);
+        return true;
     }
     match place_of(guesses, pids, to) {
-        Some(them) => pass_at(cursors, them, log, place) && pass_at(cursors, me, log, place),
+        Some(them) => pass_at(cursors, them, log, place),
         None => false,
     }
 }
@@ -293,6 +308,14 @@ fn pass_at(cursors: &mut [Cursor<'_>], at: usize, log: &Log, place: usize) -> bo
         → MovesPastAt (entry_at log.now.entries place) at cursors.old cursors.new }
 {
     cursors[at].pass(log, place)
+}
+
+/// Passes the next entry at the cursor at this place.
+fn advance_at(cursors: &mut [Cursor<'_>], at: usize)
+    requires { at < length cursors.old }
+    ensures { (e : Entry) → IsNextAt e at cursors.old → MovesPastAt e at cursors.old cursors.new }
+{
+    cursors[at].advance();
 }
 
 /// Whether no entry is left.

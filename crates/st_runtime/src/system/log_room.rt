@@ -21,22 +21,25 @@ pub fn expected_entries(
     ensures { IfOk result (λ counts. vec_len counts ≡ length pids.now) }
 {
     let mut counts = vec![in alloc; 0; pids.len()]?;
-    for script in scripts {
-        count_script(&mut counts, pids, guesses, script.as_slice());
+    for (place, script) in scripts.iter().enumerate() {
+        count_script(&mut counts, pids, guesses, place, script.as_slice());
     }
     Ok(counts)
 }
 
-/// Counts the entries of a script.
-fn count_script(counts: &mut [usize], pids: &[Pid], guesses: &Guesses, script: &[Act])
+/// Counts the entries of the script of the process at this place: one there for each act, and one at
+/// the receiver of each send.
+fn count_script(counts: &mut [usize], pids: &[Pid], guesses: &Guesses, place: usize, script: &[Act])
     requires rising { IsRising pids.now }
     requires each { length counts.old ≡ length pids.now }
     ensures { length counts.new ≡ length counts.old }
 {
+    if place < counts.len() {
+        counts[place] = counts[place].saturating_add(script.len());
+    }
     for act in script {
-        let (from, to) = (act.actor(), receiver_of(act));
-        count_one(counts, pids, guesses, from);
-        if to != from {
+        let to = receiver_of(act);
+        if to != act.actor() {
             count_one(counts, pids, guesses, to);
         }
     }

@@ -1,8 +1,10 @@
 -- One walk leads through the logs, and each process made its script.
-use Rattle.std.proofs.Common.{◌∙◌, map, subst, List}
+use Rattle.std.proofs.Common.{◌∙◌, ap, map, subst, sym, List}
 use Rattle.st_log.specs.declared.entry.Entry.{Entry}
+use Rattle.st_runtime.specs.Driven.{acts_by}
 use Rattle.st_runtime.specs.Joining.{referred, IsScripted}
 use Rattle.st_runtime.specs.Pcb.{Control}
+use Rattle.st_runtime.specs.Pieces.{pids_in}
 use Rattle.st_runtime.proofs.Walks.{walk_whole}
 use Rattle.st_runtime.proofs.join.join_driven.Goals as goal
 
@@ -17,6 +19,10 @@ returns g c =
     subst Scripted c.as_slice-processes.ensures.value (record {
       whole = walk_whole xs es walk;
       kept = c.in_ok-entries.ensures.kept;
-      logged = c.in_ok-run_by_threads.ensures;
-      made = c.in_default-first_undone.ensures ∙ c.as_slice-2.ensures.value;
+      logged = c.in_ok-run_by_threads.ensures.logged;
+      made = ap (λ acts. map (λ p. acts_by p acts) (pids_in xs))
+          (c.in_ok-run_by_threads.ensures.acts ∙ sym c.as_slice-3.ensures.value)
+          ∙ ap (map (λ p. acts_by p c.as_slice-3.result.now))
+          (sym (c.as_slice-2.ensures.value ∙ c.in_ok-pids.ensures))
+          ∙ c.in_ok-check_scripts.ensures ∙ c.as_slice-4.ensures.value;
     })

@@ -1,4 +1,4 @@
--- The entries that one walk passed are one run, and each thread reads its part out of them.
+-- The entries that one walk passed are one run, whose streams and replies a thread each reads out.
 use Rattle.std.proofs.Common.{arith, rules, ◌∙◌, sym, map, List}
 use Rattle.std.proofs.lemmas.Simd.{map-map}
 use Rattle.st_log.specs.declared.entry.Entry.{Entry}
@@ -18,22 +18,22 @@ join-streams-requires-after_bounds g c κs within =
     (walk_merged xs entries c.requires.walk) in
     ((omega arith, are_streams top xs entries c.requires.rising run), search rules)
 
-pub returns : goal.returns
-returns g c =
+pub returns-clause-logged : goal.returns-clause-logged
+returns-clause-logged g c =
     let top = g.row.TOP in
     let xs = c.args.processes.now in
     let refs = c.args.entries.now in
     let entries : List Entry = map referred refs in
     let merged = walk_merged xs entries c.requires.walk in
-    let out = rw c.in_ok-acts.was at c.join-streams.ensures.second in
+    let out = rw c.in_ok-replies.was at c.join-streams.ensures.second in
     record {
       entries = entries;
       merged = merged;
       run = one_run top g.row.RANKS xs entries c.requires.kept
           (walk_whole xs entries c.requires.walk) merged;
       streams = rw c.in_ok-streams.was at c.join-streams.ensures.first;
-      acts = c.from_vec.ensures ∙ out.0
+      acts = c.from_vec.ensures ∙ c.requires.acts
           ∙ sym (map-map (λ (e : Entry). e.act) referred refs);
-      replies = c.from_vec-2.ensures ∙ out.1
+      replies = c.from_vec-2.ensures ∙ out
           ∙ sym (map-map (λ (e : Entry). e.reply) referred refs);
     }

@@ -3,6 +3,7 @@
 use Rattle.std.proofs.Common.{◌≡◌, ◌≢◌, ◌∙◌, ℕ, Bool, List, get_or, Some, true, false, length}
 use Rattle.std.proofs.Common.{refl, sym, ap, arith}
 use Rattle.std.specs.Prelude.{slice_get}
+use Rattle.std.proofs.lemmas.List.{length-set}
 use Rattle.std.proofs.lemmas.Option.{same_Some}
 use Rattle.st_core.specs.declared.types.Pid.{Pid}
 use Rattle.st_core.specs.Pid.{pid_eq}
@@ -50,20 +51,33 @@ returns-then-eq-clause-stepped c sure =
     let is : c.receiver_of-to.result ≡ receiver e.act =
     c.receiver_of-to.ensures ∙ ap receiver c.act_at.ensures in
     stepped_one e c.args.cursors.now ps c.args.me c.args.me c.requires.pids c.requires.rising
-    c.requires.narrow c.requires.me (to ∙ ap Some is) c.pass_at.new.cursors refl
-    (c.pass_at.ensures sure)
+    c.requires.narrow c.requires.me (to ∙ ap Some is) c.advance_at.new.cursors refl
+    (c.advance_at.ensures e c.requires.next)
 
-pub pass_at-requires-in-Some-clause-at : goal.pass_at-requires-in-Some-clause-at
-pass_at-requires-in-Some-clause-at c =
+pub advance_at-requires : goal.advance_at-requires
+advance_at-requires c =
     let ps = c.args.pids.now in
-    let to = c.receiver_of-to.result in
-    let within = (got_at ps c.in-Some.them to to c.in-Some.ensures.some).0 in
+    let a = actor (entry_at c.args.log.now.entries c.args.place).act in
+    let within = (got_at ps c.args.me a a c.requires.me).0 in
     let long : length ps ≡ length c.args.cursors.now =
     ap length (sym c.requires.pids) ∙ length_pids c.args.cursors.now in
     omega (arith, within, long)
 
-pub returns-then-pass_at-clause-known : goal.returns-then-pass_at-clause-known
-returns-then-pass_at-clause-known c sure =
+pub pass_at-requires-clause-at : goal.pass_at-requires-clause-at
+pass_at-requires-clause-at c =
+    let ps = c.args.pids.now in
+    let e = entry_at c.args.log.now.entries c.args.place in
+    let to = c.receiver_of-to.result in
+    let within = (got_at ps c.in-Some.them to to c.in-Some.ensures.some).0 in
+    let long : length ps ≡ length c.args.cursors.now =
+    ap length (sym c.requires.pids) ∙ length_pids c.args.cursors.now in
+    let moved = c.advance_at.ensures e c.requires.next in
+    let still : length c.advance_at.new.cursors ≡ length c.args.cursors.now =
+    ap length moved.written ∙ length-set c.args.cursors.now c.args.me moved.cursor in
+    omega (arith, within, long, still)
+
+pub returns-in-Some-clause-known : goal.returns-in-Some-clause-known
+returns-in-Some-clause-known c sure =
     let ps = c.args.pids.now in
     let a = (entry_at c.args.log.now.entries c.args.place).act in
     let is : c.receiver_of-to.result ≡ receiver a =
@@ -71,8 +85,8 @@ returns-then-pass_at-clause-known c sure =
     both_true _ _ (is_among-found ps (actor a) c.args.me c.requires.me)
     (is_among-found ps (receiver a) c.in-Some.them (c.in-Some.ensures.some ∙ ap Some is))
 
-pub returns-then-pass_at-clause-stepped : goal.returns-then-pass_at-clause-stepped
-returns-then-pass_at-clause-stepped c sure =
+pub returns-in-Some-clause-stepped : goal.returns-in-Some-clause-stepped
+returns-in-Some-clause-stepped c sure =
     let ps = c.args.pids.now in
     let e = entry_at c.args.log.now.entries c.args.place in
     let is : c.receiver_of-to.result ≡ receiver e.act =
@@ -81,5 +95,5 @@ returns-then-pass_at-clause-stepped c sure =
     c.eq.result c.requires.me c.in-Some.ensures.some c.eq.ensures c.if-eq.false in
     stepped_two e c.args.cursors.now ps c.args.me c.in-Some.them c.requires.pids c.requires.rising
     c.requires.narrow c.requires.me (c.in-Some.ensures.some ∙ ap Some is)
-    c.pass_at-in-Some.new.cursors c.pass_at-then-pass_at.new.cursors apart
-    (c.pass_at-in-Some.ensures c.if-pass_at.true) (c.pass_at-then-pass_at.ensures sure)
+    c.advance_at.new.cursors c.pass_at.new.cursors (λ it. apart (sym it))
+    (c.advance_at.ensures e c.requires.next) (c.pass_at.ensures sure)
