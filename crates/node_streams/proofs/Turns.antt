@@ -1,21 +1,24 @@
 -- Follows what a turn does to the counts of the walk, and processes that are listed before.
 use Rattle.std.proofs.Common.{◌≡◌, ℕ, ◌+◌, ◌-◌, ◌≤◌, ◌<◌, ◌||◌, suc, cond}
-use Rattle.std.proofs.Common.{true, false, List, [], ◌∷◌, length, Option, Some, None}
+use Rattle.std.proofs.Common.{true, false, List, [], ◌∷◌, length, replicate, Option, Some, None}
 use Rattle.std.proofs.Common.{Result, Ok, Err, OnOk, refl, arith, sym, ◌∙◌, ap}
-use Rattle.std.specs.HashMap.{get}
 use Rattle.std.specs.Option.{unwrap_or}
-use Rattle.std.specs.List.{find, slice_get, sum_by}
+use Rattle.std.specs.List.{find, slice_get, slice_set, sum_by}
+use Rattle.std.proofs.Math.ListN.{length-set}
+use Rattle.std.proofs.lemmas.List.{length-replicate}
 use Rattle.std.proofs.lemmas.Bool.{false≢true}
 use Rattle.std.proofs.lemmas.List.Sums.{sum_by-cons}
 use Rattle.st_core.specs.declared.types.Pid.{Pid}
 use Rattle.st_core.specs.declared.types.Event.{Event}
-use Rattle.st_core.specs.Pid.{pid_eq}
+use Rattle.st_core.specs.Pid.{pid_eq, IsRising}
 use Rattle.st_core.specs.Run.{Stream, pids_of}
 use Rattle.st_core.specs.Streams.{events_of, is_among}
 use Rattle.st_core.proofs.ForCallers.{pid_eq-swap, pid_eq-true, place_within}
 use Rattle.node_streams.specs.declared.walk.Walk.{Walk}
-use Rattle.node_streams.specs.Tables.{done_in, IsAt}
-use Rattle.node_streams.proofs.Counting.{add_zero, turns_more}
+use Rattle.node_streams.specs.Order.{turns}
+use Rattle.node_streams.specs.Tables.{done_in, number_by_pid, IsAt}
+use Rattle.node_streams.proofs.Counting.{turns_more}
+use Rattle.node_streams.proofs.Places.{number_here, number_put, number_zeros}
 
 place_among : (ps : List Pid) (p : Pid) → is_among ps p ≡ true → (i : ℕ) × (slice_get ps i ≡ Some p)
 place_among [] p is = absurd (false≢true is)
@@ -49,37 +52,57 @@ any_process streams P listed other p = (elim (is_among (pids_of streams) p) as (
       | false ↦ λ is. other p (unlisted_events streams p is)
     ]) refl
 
+pub before_all : (streams : List Stream) (ps : List Pid) (w : Walk) → pids_of streams ≡ ps
+    → w.done.items ≡ replicate (length ps) 0 → IsAt streams [] w
+before_all streams ps w are zeros = record {
+  each = ap length zeros ∙ length-replicate (length ps) 0 ∙ sym (ap length are);
+  done = λ p. ap (λ ns. number_by_pid (pids_of streams) ns p) zeros
+      ∙ number_zeros (pids_of streams) (length ps) p;
+}
+
+-- a walk with other candidates is at the same place
+pub same_walk : (streams : List Stream) (order : List Pid) (w u : Walk) → u.done ≡ w.done
+    → IsAt streams order w → IsAt streams order u
+same_walk streams order w u same at = record {
+  each = ap (λ d. length d.items) same ∙ at.each;
+  done = λ p. ap (λ d. number_by_pid (pids_of streams) d.items p) same ∙ at.done p;
+}
+
+pub done_here : (streams : List Stream) (order : List Pid) (w : Walk) (i : ℕ) (p : Pid)
+    → IsRising (pids_of streams) → IsAt streams order w → slice_get (pids_of streams) i ≡ Some p
+    → unwrap_or (slice_get w.done.items i) 0 ≡ turns p order
+done_here streams order w i p rising at here =
+    sym (number_here (pids_of streams) w.done.items i p rising here) ∙ at.done p
+
 -- one event more
-pub gone_at : (order : List Pid) (w u : Walk) (p : Pid) → IsAt order w
-    → ((q : Pid) → done_in u q ≡ done_in w q + cond (pid_eq p q) 1 0) → IsAt (p ∷ order) u
-gone_at order w u p at done = record {
+pub gone_at : (streams : List Stream) (order : List Pid) (w u : Walk) (i more : ℕ) (p : Pid)
+    → IsRising (pids_of streams) → IsAt streams order w → slice_get (pids_of streams) i ≡ Some p
+    → more ≡ unwrap_or (slice_get w.done.items i) 0 + 1
+    → u.done.items ≡ slice_set w.done.items i more → IsAt streams (p ∷ order) u
+gone_at streams order w u i more p rising at here is put = record {
+  each = ap length put ∙ length-set w.done.items i more ∙ at.each;
   done = λ q.
-      let now = done q in
-      let before = at.done q in
-      let more = turns_more p order q in
-      omega arith;
+      let place = place_within (pids_of streams) i p here in
+      let long = at.each in
+      ap (λ ns. number_by_pid (pids_of streams) ns q) put
+      ∙ number_put (pids_of streams) w.done.items i more p q rising here (omega arith)
+      ∙ (elim (pid_eq p q) as (λ b. pid_eq p q ≡ b
+      → cond b more (done_in streams w q) ≡ turns q (p ∷ order)) [
+        | true ↦ λ same.
+            let before = done_here streams order w i p rising at here in
+            let whose = ap (λ r. turns r order) (pid_eq-true p q same) in
+            let next = turns_more p order q ∙ ap (λ b. cond b 1 0 + turns q order) same in
+            omega arith
+        | false ↦ λ apart.
+            let before = at.done q in
+            let next = turns_more p order q ∙ ap (λ b. cond b 1 0 + turns q order) apart in
+            omega arith
+      ]) refl;
 }
 
--- a walk that only waits otherwise is at the same place
-pub same_walk : (order : List Pid) (w u : Walk) → u.done ≡ w.done → IsAt order w → IsAt order u
-same_walk order w u done at = record {
-  done = λ p. ap (λ d. unwrap_or (get pid_eq d p) 0) done ∙ at.done p;
-}
-
--- a walk with one event more of p
-pub one_done : (w u : Walk) (p : Pid) {more : ℕ} → more ≡ done_in w p + 1
-    → ((q : Pid) → get pid_eq u.done q ≡ cond (pid_eq p q) (Some more) (get pid_eq w.done q))
-    → (q : Pid) → done_in u q ≡ done_in w q + cond (pid_eq p q) 1 0
-one_done w u p {more} is now q = ap (λ o. unwrap_or o 0) (now q) ∙
-    (elim (pid_eq p q) as (λ b. pid_eq p q ≡ b
-    → unwrap_or (cond b (Some more) (get pid_eq w.done q)) 0 ≡ done_in w q + cond b 1 0) [
-      | true ↦ λ same. is ∙ ap (λ x. done_in w x + 1) (pid_eq-true p q same)
-      | false ↦ λ _. sym (add_zero (done_in w q))
-    ]) refl
-
-pub always_ok : {T E : Type 0} {P : Type 0} (r : Result T E) → P → OnOk r P
-always_ok (Ok x) is = is
-always_ok (Err e) is = tt
+pub if_ok : {T E : Type 0} {P : Type 0} (r : Result T E) → P → OnOk r P
+if_ok (Ok x) is = is
+if_ok (Err e) is = tt
 
 -- how many events a process has left
 abbrev left_of : (Pid → ℕ) → Stream → ℕ

@@ -1,5 +1,5 @@
 -- Says what the lists of ends and the walk over all events keep.
-use Rattle.std.specs.Prelude.{◌≡◌, ℕ, ◌+◌, ◌≤◌, true, Bool, List, [], ◌∷◌, ◌++◌, length, take}
+use Rattle.std.specs.Prelude.{◌≡◌, ℕ, ◌+◌, ◌≤◌, true, Bool, List, [], ◌∷◌, ◌++◌, length}
 use Rattle.std.specs.Prelude.{Option, Some, None, count_by, if◌then◌else◌, slice_get}
 use Rattle.std.specs.Option.{option_cmp, unwrap_or}
 use Rattle.std.specs.HashMap.{get}
@@ -19,9 +19,7 @@ use Rattle.node_streams.specs.declared.content.MessageContent.{MessageContent}
 use Rattle.node_streams.specs.declared.counter.Counter.{Counter}
 use Rattle.node_streams.specs.declared.ends.End.{End}
 use Rattle.node_streams.specs.declared.walk.Walk.{Walk}
-use Rattle.node_streams.specs.declared.walk.Turn.{Turn}
-use Rattle.node_streams.specs.declared.walk.Turn.TheVariants as turn
-use Rattle.node_streams.specs.Messages.{content_eq, content_of, takes_message, send_of, tells}
+use Rattle.node_streams.specs.Messages.{content_eq, content_of, tells}
 use Rattle.node_streams.specs.Order.{CanGo, next_event, turns}
 
 -- the number of a content
@@ -76,26 +74,24 @@ pub record AreBothEnds (streams : List Stream) (sends receives : List (List End)
   pub sent : AreEnds kind.Send streams sends
   pub received : AreEnds kind.Receive streams receives
 
+-- the number at the place of p among pids, 0 if there is none
+abbrev pub number_by_pid : List Pid → List ℕ → Pid → ℕ
+number_by_pid [] ns p = 0
+number_by_pid (q ∷ qs) [] p = 0
+number_by_pid (q ∷ qs) (n ∷ ns) p = if pid_eq q p then n else number_by_pid qs ns p
+
 -- how many events of p came
-abbrev pub done_in : Walk → Pid → ℕ
-done_in w p = unwrap_or (get pid_eq w.done p) 0
+abbrev pub done_in : List Stream → Walk → Pid → ℕ
+done_in streams w p = number_by_pid (pids_of streams) w.done.items p
 
 -- the walk is where these turns lead
-pub record IsAt (order : List Pid) (w : Walk) : Type 0 where
-  pub done : (p : Pid) → done_in w p ≡ turns p order
+pub record IsAt (streams : List Stream) (order : List Pid) (w : Walk) : Type 0 where
+  pub each : length w.done.items ≡ length (pids_of streams)
+  pub done : (p : Pid) → done_in streams w p ≡ turns p order
 
--- p's next event, a receive, waits for event j of q
-pub record Waits (streams : List Stream) (order : List Pid) (p q : Pid) (j : ℕ) : Type 0 where
-  pub event : Event
-  pub next : next_event streams order p ≡ Some event
-  pub receive : takes_message event ≡ true
-  pub from : event.from ≡ q
-  pub sent : send_of streams (take (turns p order) (events_of streams p)) event ≡ Some j
-  pub late : turns q order ≤ j
-
--- what p can do after these turns
-abbrev pub IsTurn : List Stream → List Pid → Pid → Turn → Type 0
-IsTurn streams order p turn.Over = next_event streams order p ≡ None
-IsTurn streams order p (turn.Free e) =
-    CanGo streams order p × (next_event streams order p ≡ Some e)
-IsTurn streams order p (turn.Waits q j) = Waits streams order p q j
+-- after these turns the process at place i can go on, with this event
+pub record GoesNext (streams : List Stream) (order : List Pid) (i : ℕ) (e : Event) : Type 0 where
+  pub pid : Pid
+  pub place : slice_get (pids_of streams) i ≡ Some pid
+  pub can : CanGo streams order pid
+  pub next : next_event streams order pid ≡ Some e

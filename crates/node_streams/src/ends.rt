@@ -42,7 +42,8 @@ pub(crate) struct End {
 fn own_ends(alloc: Global, kind: Kind, events: &[Event]) -> Result<Vec<End>, AllocError>
     ensures { IfOk result (λ v. v.items ≡ ends_from kind 0 events.now) }
 {
-    let mut ends = Vec::new(alloc);
+    let count = events.iter().filter(|event| is_of_kind(kind, event)).count();
+    let mut ends = Vec::with_capacity(alloc, count)?;
     for (i, event) in events.iter().enumerate() {
         if is_of_kind(kind, event) {
             let content = MessageContent::of(event);

@@ -7,6 +7,7 @@ mod counter;
 mod ends;
 mod judgement;
 pub mod laws;
+mod numbers;
 mod order;
 mod partners;
 mod receives;

@@ -13,15 +13,15 @@ use std::alloc::{AllocError, Global};
 
 /// The next event of each process that has one left.
 fn events_left(alloc: Global, streams: &Streams, walk: &Walk) -> Result<Vec<(Pid, u64)>, AllocError>
-    ensures none { (order : List PidValue) → IsAt order walk.now → IfOk result (λ v.
+    ensures none { (order : List PidValue) → IsAt streams.now order walk.now → IfOk result (λ v.
         v.items ≡ [] → (p : PidValue) → next_event streams.now order p ≡ None) }
-    ensures some { (order : List PidValue) → IsAt order walk.now → IfOk result (λ v.
+    ensures some { (order : List PidValue) → IsAt streams.now order walk.now → IfOk result (λ v.
         v.items ≢ []
         → (p : PidValue) × (e : EventValue) × (next_event streams.now order p ≡ Some e)) }
 {
     let mut left = Vec::new(alloc);
-    for &pid in streams.pids() {
-        let index = walk.done_of(pid);
+    for (place, &pid) in streams.pids().iter().enumerate() {
+        let index = walk.done_at(place);
         if streams.event(pid, index).is_some() {
             left.push((pid, index))?;
         }
@@ -40,9 +40,9 @@ pub(crate) fn cycle(
     ensures none { IfOk result (λ v. v.items ≡ [] → HaveOrder streams.now) }
     ensures some { IfOk result (λ v. v.items ≢ [] → ¬ (HaveOrder streams.now)) }
 {
-    let mut walk = Walk::new(alloc, streams.pids())?;
-    while let Some((pid, event)) = walk.next(streams, taken)? {
-        walk.go(pid, &event)?;
+    let mut walk = Walk::new(alloc, streams)?;
+    while let Some((place, event)) = walk.next(streams, taken)? {
+        walk.go(streams, place, &event)?;
     }
     events_left(alloc, streams, &walk)
 }

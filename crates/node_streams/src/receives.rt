@@ -48,9 +48,8 @@ pub(crate) fn unsent(
     ensures { IfOk result (λ v. v.items ≡ unsent_among streams.now (pids_of streams.now)) }
 {
     let mut places = Vec::new(alloc);
-    for &pid in streams.pids() {
-        let own = taken_of(streams, taken, pid);
-        add_unsent(&mut places, pid, streams.events(pid), own)?;
+    for (place, &pid) in streams.pids().iter().enumerate() {
+        add_unsent(&mut places, pid, streams.events(pid), taken_of(taken, place))?;
     }
     Ok(places)
 }

@@ -1,8 +1,11 @@
 //! The sends that receives took.
 
 ghost use Rattle.std.specs.Prelude.{◌≡◌, [], ◌∷◌, ◌++◌, List, IfOk, OnOk, option_and_then};
-ghost use Rattle.std.specs.Prelude.{slice_get};
-ghost use Rattle.st_core.specs.Streams.{IsStreams, events_of};
+ghost use Rattle.std.specs.Prelude.{Some, slice_get};
+ghost use Rattle.st_core.specs.Pid.{IsRising};
+ghost use Rattle.st_core.specs.Run.{Stream as StreamValue, pids_of};
+ghost use Rattle.st_core.specs.Streams.{events_of};
+ghost use Rattle.st_core.specs.declared.types.Pid.{Pid as PidValue};
 ghost use Rattle.st_core.specs.declared.types.Event.{Event as EventValue};
 ghost use Rattle.st_core.specs.declared.types.Kind.TheVariants as kind;
 ghost use Rattle.node_streams.specs.Messages.{all_taken_sends, taken_send, taken_sends};
@@ -11,7 +14,7 @@ ghost use Rattle.node_streams.specs.Tables.{CountsKind};
 use crate::content::MessageContent;
 use crate::counter::Counter;
 use crate::ends::{End, all_ends, place};
-use st_core::{Event, Kind, Pid, Sequence, Streams};
+use st_core::{Event, Kind, Sequence, Streams};
 use std::alloc::{AllocError, Global};
 use std::marker::Model;
 
@@ -105,19 +108,15 @@ pub(crate) fn all_taken_sends(
     Ok(lists)
 }
 
-/// Those that the receives of one process took.
-pub(crate) fn taken_of<'a>(
-    streams: &Streams,
-    taken: &'a [Sequence<Option<u64>>],
-    pid: Pid,
-) -> &'a [Option<u64>]
-    requires sound { IsStreams streams.now }
-    requires taken { taken.now ≡ all_taken_sends streams.now }
-    ensures { result.now ≡ taken_sends streams.now (events_of streams.now pid) }
+/// Those that the receives of the process at this place took.
+pub(crate) fn taken_of(taken: &[Sequence<Option<u64>>], place: usize) -> &[Option<u64>]
+    ensures { (streams : List StreamValue) (p : PidValue) → IsRising (pids_of streams)
+        → taken.now ≡ all_taken_sends streams → slice_get (pids_of streams) place ≡ Some p
+        → result.now ≡ taken_sends streams (events_of streams p) }
 {
-    match streams.place_of(pid) {
+    match taken.get(place) {
         None => &[],
-        Some(place) => taken[place].as_slice(),
+        Some(sends) => sends.as_slice(),
     }
 }
 

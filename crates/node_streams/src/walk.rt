@@ -1,114 +1,132 @@
 //! The walk over all events, each receive after its send.
 
-ghost use Rattle.std.specs.Prelude.{◌≡◌, ◌+◌, ◌<◌, [], ◌∷◌, true, List, None, Some, IfOk, OnOk};
-ghost use Rattle.std.specs.Prelude.{IfNone, IfSome, if◌then◌else◌};
-ghost use Rattle.st_core.specs.Pid.{pid_eq};
+ghost use Rattle.std.specs.Prelude.{◌≡◌, ◌<◌, ◌≤◌, [], ◌∷◌, ℕ, List, Some, IfOk, OnOk, IfNone};
+ghost use Rattle.std.specs.Prelude.{IfSome, IsFalse, IsTrue, slice_get};
+ghost use Rattle.std.specs.Option.{unwrap_or};
+ghost use Rattle.st_core.specs.Run.{pids_of};
 ghost use Rattle.st_core.specs.Streams.{IsStreams};
 ghost use Rattle.st_core.specs.declared.types.Pid.{Pid as PidValue};
 ghost use Rattle.node_streams.specs.Messages.{all_taken_sends};
-ghost use Rattle.node_streams.specs.Order.{CanGo, next_event};
-ghost use Rattle.node_streams.specs.Tables.{IsAt, IsTurn, done_in};
+ghost use Rattle.node_streams.specs.Order.{CanGo};
+ghost use Rattle.node_streams.specs.Tables.{GoesNext, IsAt, done_in};
 
+use crate::numbers::{number_at, put};
+use crate::partners::receiver_of;
 use crate::sends::{taken_at, taken_of};
 use st_core::{Event, Kind, Pid, Sequence, Streams};
 use std::alloc::{AllocError, Global};
-use std::collections::HashMap;
 
-/// The next turn of a process.
-#[derive(Clone, Copy, Debug, PartialEq, Eq)]
-pub(crate) enum Turn {
-    /// Nothing: it has no event left.
-    Over,
-    /// Its next event, which waits for none.
-    Free(Event),
-    /// Its next event waits for this one of another process.
-    Waits(Pid, u64),
-}
-
-/// The state of the walk.
+/// The state of the walk. A place is that of a process among the pids.
 #[derive(Drop)]
 pub(crate) struct Walk {
-    /// How many events of each process came.
-    pub(crate) done: HashMap<Pid, u64>,
-    /// The process that waits for an event. Only time depends on it.
-    waiting: HashMap<(Pid, u64), Pid>,
-    /// Processes that may go on. Only time depends on them.
-    candidates: Vec<Pid>,
+    /// How many events of the process at each place came.
+    pub(crate) done: Vec<u64>,
+    /// The places of processes that may go on. Only time depends on them.
+    candidates: Vec<usize>,
+}
+
+/// All places of so many processes.
+fn places(alloc: Global, count: usize) -> Result<Vec<usize>, AllocError> {
+    let mut places = Vec::with_capacity(alloc, count)?;
+    for place in 0..count {
+        places.push(place)?;
+    }
+    Ok(places)
 }
 
 impl Walk {
     /// Before all events.
-    pub(crate) fn new(alloc: Global, pids: &[Pid]) -> Result<Walk, AllocError>
-        ensures { IfOk result (IsAt []) }
+    pub(crate) fn new(alloc: Global, streams: &Streams) -> Result<Walk, AllocError>
+        ensures start { IfOk result (IsAt streams.now []) }
+        ensures sound { OnOk result (IsStreams streams.now) }
     {
-        let mut candidates = Vec::new(alloc);
-        candidates.extend_from_slice(pids)?;
+        let count = streams.pids().len();
         Ok(Walk {
-            done: HashMap::new(alloc),
-            waiting: HashMap::new(alloc),
-            candidates,
+            done: vec![in alloc; 0u64; count]?,
+            candidates: places(alloc, count)?,
         })
     }
 
-    /// How many events of a process came.
-    pub(crate) fn done_of(&self, pid: Pid) -> u64
-        ensures { result ≡ done_in self.now pid }
+    /// How many events of the process at this place came.
+    pub(crate) fn done_at(&self, place: usize) -> u64
+        ensures { result ≡ unwrap_or (slice_get self.now.done.items place) 0 }
     {
-        self.done.get(&pid).copied().unwrap_or(0)
+        number_at(&self.done, place)
     }
 
-    /// Finds the next turn of the process.
-    pub(crate) fn turn(&self, streams: &Streams, taken: &[Sequence<Option<u64>>], pid: Pid) -> Turn
+    /// How many events of a process came.
+    fn done_of(&self, streams: &Streams, pid: Pid) -> u64
+        requires { IsStreams streams.now }
+        ensures { result ≡ done_in streams.now self.now pid }
+    {
+        match streams.place_of(pid) {
+            None => 0,
+            Some(place) => self.done_at(place),
+        }
+    }
+
+    /// Whether this send of a process came, if it was reported.
+    fn is_sent(&self, streams: &Streams, from: Pid, send: Option<u64>) -> bool
+        requires { IsStreams streams.now }
+        ensures yes { IsTrue result → (j : ℕ) → send ≡ Some j
+            → j < done_in streams.now self.now from }
+        ensures no { IsFalse result → (j : ℕ) × (send ≡ Some j)
+            × (done_in streams.now self.now from ≤ j) }
+    {
+        match send {
+            None => true,
+            Some(index) => index < self.done_of(streams, from),
+        }
+    }
+
+    /// The next event of the process at this place, if it can go on.
+    pub(crate) fn free_event(
+        &self,
+        streams: &Streams,
+        taken: &[Sequence<Option<u64>>],
+        place: usize,
+    ) -> Option<Event>
         requires sound { IsStreams streams.now }
         requires taken { taken.now ≡ all_taken_sends streams.now }
-        ensures { (order : List PidValue) → IsAt order self.now
-            → IsTurn streams.now order pid result }
+        ensures free { (order : List PidValue) → IsAt streams.now order self.now
+            → IfSome result (GoesNext streams.now order place) }
+        ensures none { (order : List PidValue) → IsAt streams.now order self.now
+            → IfNone result ((p : PidValue) → slice_get (pids_of streams.now) place ≡ Some p
+            → ¬ (CanGo streams.now order p)) }
     {
-        let index = self.done_of(pid);
+        let Some(&pid) = streams.pids().get(place) else {
+            return None;
+        };
+        let index = self.done_at(place);
         let Some(event) = streams.event(pid, index) else {
-            return Turn::Over;
+            return None;
         };
         match event.kind {
-            Kind::Send | Kind::Print => Turn::Free(event),
-            Kind::Receive => match taken_at(taken_of(streams, taken, pid), index as usize) {
-                None => Turn::Free(event),
-                Some(send) => {
-                    if send < self.done_of(event.from) {
-                        Turn::Free(event)
-                    } else {
-                        Turn::Waits(event.from, send)
-                    }
-                }
-            },
+            Kind::Send | Kind::Print => Some(event),
+            Kind::Receive => {
+                let send = taken_at(taken_of(taken, place), index as usize);
+                if self.is_sent(streams, event.from, send) { Some(event) } else { None }
+            }
         }
     }
 
     /// The last candidate that can go on, with its next event. Those after it are candidates no
-    /// longer, and each is noted to wait.
+    /// longer.
     fn candidate(
         &mut self,
         streams: &Streams,
         taken: &[Sequence<Option<u64>>],
-    ) -> Result<Option<(Pid, Event)>, AllocError>
+    ) -> Result<Option<(usize, Event)>, AllocError>
         requires sound { IsStreams streams.now }
         requires taken { taken.now ≡ all_taken_sends streams.now }
         ensures done { OnOk result (self.new.done ≡ self.old.done) }
-        ensures free { (order : List PidValue) → IsAt order self.old
-            → IfOk result (λ o. IfSome o (λ x.
-            CanGo streams.now order x.0 × (next_event streams.now order x.0 ≡ Some x.1))) }
+        ensures free { (order : List PidValue) → IsAt streams.now order self.old
+            → IfOk result (λ o. IfSome o (λ x. GoesNext streams.now order x.0 x.1)) }
     {
-        while let Some(pid) = self.candidates.pop() {
-            match self.turn(streams, taken, pid) {
-                Turn::Over => {}
-                Turn::Free(event) => {
-                    self.candidates.push(pid)?;
-                    return Ok(Some((pid, event)));
-                }
-                Turn::Waits(sender, index) => {
-                    let Ok(_) = self.waiting.insert((sender, index), pid) else {
-                        return Err(AllocError);
-                    };
-                }
+        while let Some(place) = self.candidates.pop() {
+            if let Some(event) = self.free_event(streams, taken, place) {
+                self.candidates.push(place)?;
+                return Ok(Some((place, event)));
             }
         }
         Ok(None)
@@ -119,18 +137,17 @@ impl Walk {
         &self,
         streams: &Streams,
         taken: &[Sequence<Option<u64>>],
-    ) -> Option<(Pid, Event)>
+    ) -> Option<(usize, Event)>
         requires sound { IsStreams streams.now }
         requires taken { taken.now ≡ all_taken_sends streams.now }
-        ensures free { (order : List PidValue) → IsAt order self.now
-            → IfSome result (λ x.
-            CanGo streams.now order x.0 × (next_event streams.now order x.0 ≡ Some x.1)) }
-        ensures none { (order : List PidValue) → IsAt order self.now
+        ensures free { (order : List PidValue) → IsAt streams.now order self.now
+            → IfSome result (λ x. GoesNext streams.now order x.0 x.1) }
+        ensures none { (order : List PidValue) → IsAt streams.now order self.now
             → IfNone result ((p : PidValue) → ¬ (CanGo streams.now order p)) }
     {
-        for &pid in streams.pids() {
-            if let Turn::Free(event) = self.turn(streams, taken, pid) {
-                return Some((pid, event));
+        for place in 0..streams.pids().len() {
+            if let Some(event) = self.free_event(streams, taken, place) {
+                return Some((place, event));
             }
         }
         None
@@ -141,14 +158,13 @@ impl Walk {
         &mut self,
         streams: &Streams,
         taken: &[Sequence<Option<u64>>],
-    ) -> Result<Option<(Pid, Event)>, AllocError>
+    ) -> Result<Option<(usize, Event)>, AllocError>
         requires sound { IsStreams streams.now }
         requires taken { taken.now ≡ all_taken_sends streams.now }
         ensures done { OnOk result (self.new.done ≡ self.old.done) }
-        ensures free { (order : List PidValue) → IsAt order self.old
-            → IfOk result (λ o. IfSome o (λ x.
-            CanGo streams.now order x.0 × (next_event streams.now order x.0 ≡ Some x.1))) }
-        ensures none { (order : List PidValue) → IsAt order self.old
+        ensures free { (order : List PidValue) → IsAt streams.now order self.old
+            → IfOk result (λ o. IfSome o (λ x. GoesNext streams.now order x.0 x.1)) }
+        ensures none { (order : List PidValue) → IsAt streams.now order self.old
             → IfOk result (λ o. IfNone o ((p : PidValue) → ¬ (CanGo streams.now order p))) }
     {
         if let Some(found) = self.candidate(streams, taken)? {
@@ -157,31 +173,35 @@ impl Walk {
         Ok(self.free_process(streams, taken))
     }
 
-    /// Goes on with the next event of a process.
-    pub(crate) fn go(&mut self, pid: Pid, event: &Event) -> Result<(), AllocError>
-        ensures { OnOk result ((p : PidValue)
-            → done_in self.new p ≡ done_in self.old p + (if pid_eq pid p then 1 else 0)) }
+    /// Goes on with the next event of the process at this place.
+    pub(crate) fn go(
+        &mut self,
+        streams: &Streams,
+        place: usize,
+        event: &Event,
+    ) -> Result<(), AllocError>
+        requires { IsStreams streams.now }
+        ensures { (order : List PidValue) (p : PidValue) → IsAt streams.now order self.old
+            → slice_get (pids_of streams.now) place ≡ Some p
+            → OnOk result (IsAt streams.now (p ∷ order) self.new) }
     {
-        let index = self.done_of(pid);
         // There is one more, since memory holds the events.
-        let Some(more) = index.checked_add(1) else {
+        let Some(more) = self.done_at(place).checked_add(1) else {
             return Err(AllocError);
         };
-        let Ok(_) = self.done.insert(pid, more) else {
-            return Err(AllocError);
-        };
+        put(&mut self.done, place, more);
         match event.kind {
+            Kind::Send => self.wake(streams, receiver_of(event)),
             Kind::Print | Kind::Receive => Ok(()),
-            Kind::Send => self.wake(pid, index),
         }
     }
 
-    /// Makes the process a candidate that waits for this event, if there is one.
-    fn wake(&mut self, pid: Pid, index: u64) -> Result<(), AllocError>
+    /// Makes a process a candidate: it may wait for a message that was sent.
+    fn wake(&mut self, streams: &Streams, pid: Pid) -> Result<(), AllocError>
         ensures { self.new.done ≡ self.old.done }
     {
-        if let Some(waiter) = self.waiting.remove(&(pid, index)) {
-            self.candidates.push(waiter)?;
+        if let Some(place) = streams.place_of(pid) {
+            self.candidates.push(place)?;
         }
         Ok(())
     }

@@ -8,7 +8,7 @@ use Rattle.node_streams.proofs.order.cycle.Given as goal
 
 abbrev pub invariant-loop-walk : goal.invariant-loop-walk
 invariant-loop-walk l = (order : List Pid) × IsTurnOrder l.streams order
-    × IsAt order l.walk
+    × IsAt l.streams order l.walk
 
 abbrev pub decreases-loop-walk : goal.decreases-loop-walk
-decreases-loop-walk l = events_left l.streams (done_in l.walk)
+decreases-loop-walk l = events_left l.streams (done_in l.streams l.walk)

@@ -8,11 +8,11 @@ use Rattle.node_streams.specs.Order.{next_event}
 use Rattle.node_streams.specs.Tables.{IsAt}
 use Rattle.node_streams.proofs.order.events_left.Given as goal
 
-abbrev pub invariant-loop-pid : goal.invariant-loop-pid
-invariant-loop-pid l = record {
-  none : (order : List Pid) → IsAt order l.walk → l.left.items ≡ []
-      → (i : ℕ) (p : Pid) → i < l.pid-index → slice_get (pids_of l.streams) i ≡ Some p
+abbrev pub invariant-loop-place : goal.invariant-loop-place
+invariant-loop-place l = record {
+  none : (order : List Pid) → IsAt l.streams order l.walk → l.left.items ≡ []
+      → (i : ℕ) (p : Pid) → i < l.place → slice_get (pids_of l.streams) i ≡ Some p
       → next_event l.streams order p ≡ None;
-  some : (order : List Pid) → IsAt order l.walk → l.left.items ≢ []
+  some : (order : List Pid) → IsAt l.streams order l.walk → l.left.items ≢ []
       → (p : Pid) × (e : Event) × (next_event l.streams order p ≡ Some e);
 }

@@ -2,8 +2,8 @@
 use Rattle.std.proofs.Common.{◌≡◌, length}
 use Rattle.node_streams.proofs.walk.Walk.candidate.Given as goal
 
-abbrev pub invariant-loop-pid : goal.invariant-loop-pid
-invariant-loop-pid l = l.self.done ≡ l.fn.self.done
+abbrev pub invariant-loop-place : goal.invariant-loop-place
+invariant-loop-place l = l.self.done ≡ l.fn.self.done
 
-abbrev pub decreases-loop-pid : goal.decreases-loop-pid
-decreases-loop-pid l = length l.self.candidates.items
+abbrev pub decreases-loop-place : goal.decreases-loop-place
+decreases-loop-place l = length l.self.candidates.items

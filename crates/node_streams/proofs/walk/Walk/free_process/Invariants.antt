@@ -7,7 +7,7 @@ use Rattle.node_streams.specs.Order.{CanGo}
 use Rattle.node_streams.specs.Tables.{IsAt}
 use Rattle.node_streams.proofs.walk.Walk.free_process.Given as goal
 
-abbrev pub invariant-loop-pid : goal.invariant-loop-pid
-invariant-loop-pid l = (order : List Pid) → IsAt order l.self
-    → (i : ℕ) (p : Pid) → i < l.pid-index
+abbrev pub invariant-loop-place : goal.invariant-loop-place
+invariant-loop-place l = (order : List Pid) → IsAt l.streams order l.self
+    → (i : ℕ) (p : Pid) → i < l.place
     → slice_get (pids_of l.streams) i ≡ Some p → ¬ (CanGo l.streams order p)

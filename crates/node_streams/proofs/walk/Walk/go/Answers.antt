@@ -1,17 +1,17 @@
 -- One event more.
 use Rattle.std.proofs.Common.{◌+◌, ◌∙◌, ap}
-use Rattle.std.specs.HashMap.{get}
-use Rattle.std.specs.Option.{unwrap_or}
-use Rattle.st_core.specs.Pid.{pid_eq}
-use Rattle.node_streams.specs.declared.walk.Walk.{Walk}
-use Rattle.node_streams.proofs.Turns.{always_ok, one_done}
+use Rattle.node_streams.proofs.Turns.{gone_at, if_ok}
 use Rattle.node_streams.proofs.walk.Walk.go.Goals as goal
 
 pub returns-in-Send : goal.returns-in-Send
-returns-in-Send c =
-    let w = c.args.self.now in
-    let u : Walk = record w { done = c.insert.new.self } in
-    let more = c.in-Some.ensures.1 ∙ ap (λ n. n + 1) c.done_of-index.ensures in
-    always_ok c.wake.result
-    (λ q. ap (λ d. unwrap_or (get pid_eq d q) 0) c.wake.ensures
-    ∙ one_done w u c.args.pid more c.in-Ok.ensures.updates.0 q)
+returns-in-Send c = λ order p at here.
+    let more = c.in-Some.ensures.1 ∙ ap (λ n. n + 1) c.done_at.ensures in
+    if_ok c.wake.result
+    (gone_at c.args.streams.now order c.args.self.now c.wake.new.self c.args.place c.in-Some.more p
+    c.requires.draft.rising at here more (ap (λ d. d.items) c.wake.ensures ∙ c.put.ensures))
+
+pub returns-in-Print : goal.returns-in-Print
+returns-in-Print c = λ order p at here.
+    let more = c.in-Some.ensures.1 ∙ ap (λ n. n + 1) c.done_at.ensures in
+    gone_at c.args.streams.now order c.args.self.now _ c.args.place c.in-Some.more p
+    c.requires.draft.rising at here more c.put.ensures
