@@ -1,10 +1,8 @@
 -- One event more: how many pass a test, which is the nth that does, and contents that are one.
-use Rattle.std.proofs.Common.{◌≡◌, ℕ, ◌+◌, ◌<◌, ◌==◌, zero, suc, cond, Bool, true, false}
+use Rattle.std.proofs.Common.{◌≡◌, ℕ, ◌+◌, ◌<◌, ◌==◌, zero, suc, cond, Bool, true}
 use Rattle.std.proofs.Common.{List, [], ◌∷◌, ◌++◌}
-use Rattle.std.proofs.Common.{length, get_or, Some, None, refl, arith, sym, ◌∙◌, ap, take}
+use Rattle.std.proofs.Common.{length, get_or, Some, None, refl, arith, ◌∙◌, ap, take}
 use Rattle.std.specs.List.{count_by, slice_get}
-use Rattle.std.specs.HashMap.{get}
-use Rattle.std.specs.Option.{unwrap_or}
 use Rattle.std.proofs.lemmas.Bool.{and_parts, eqb-true}
 use Rattle.std.proofs.Common.{eq-eqb}
 use Rattle.std.proofs.lemmas.List.Sums.{sum_by-append, sum_by-cons}
@@ -16,10 +14,8 @@ use Rattle.st_core.specs.Pid.{pid_eq}
 use Rattle.st_core.specs.Event.{to_eq}
 use Rattle.st_core.proofs.ForCallers.{pid_eq-refl, pid_eq-true, to_eq-same, to_eq-true}
 use Rattle.node_streams.specs.declared.content.MessageContent.{MessageContent}
-use Rattle.node_streams.specs.declared.counter.Counter.{Counter}
 use Rattle.node_streams.specs.Messages.{content_eq}
 use Rattle.node_streams.specs.Order.{turns}
-use Rattle.node_streams.specs.Tables.{count_in}
 
 -- where there is no event
 abbrev pub blank : Event
@@ -101,16 +97,3 @@ content_itself c = rw (
   eq-eqb c.this c.this refl,
   eq-eqb c.value c.value refl,
 ) refl
-
--- a counter with one more of a content
-pub noted : (before after : Counter) (d : MessageContent) (more : ℕ) → more ≡ count_in before d + 1
-    → ((c : MessageContent) → get content_eq after.counts c ≡ cond (content_eq d c) (Some more)
-    (get content_eq before.counts c))
-    → (c : MessageContent) → count_in after c ≡ count_in before c + cond (content_eq d c) 1 0
-noted before after d more is now c = ap (λ o. unwrap_or o 0) (now c) ∙
-    (elim (content_eq d c) as (λ b. content_eq d c ≡ b
-    → unwrap_or (cond b (Some more) (get content_eq before.counts c)) 0
-    ≡ count_in before c + cond b 1 0) [
-      | true ↦ λ same. is ∙ ap (λ x. count_in before x + 1) (content_same d c same)
-      | false ↦ λ _. sym (add_zero (count_in before c))
-    ]) refl

@@ -6,6 +6,7 @@ pub mod SortedEnds
 pub mod EachEvents
 pub mod Takes
 pub mod OtherEnds
+pub mod AlikeEnds
 pub mod Places
 pub mod Turns
 pub mod Frees

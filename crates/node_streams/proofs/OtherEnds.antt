@@ -126,7 +126,7 @@ kind_itself kind.Send = refl
 kind_itself kind.Receive = refl
 kind_itself kind.Print = refl
 
-tells_own : (k : Kind) (e : Event) → e.kind ≡ k → tells k (content_of e) e ≡ true
+pub tells_own : (k : Kind) (e : Event) → e.kind ≡ k → tells k (content_of e) e ≡ true
 tells_own k e is =
     ap (λ j. kind_eq j k && content_eq (content_of e) (content_of e)) is
     ∙ ap (λ b. kind_eq k k && b) (content_itself (content_of e)) ∙ kind_itself k
@@ -135,7 +135,7 @@ told_kind : (k : Kind) (c : MessageContent) (e : Event) → tells k c e ≡ true
 told_kind k c e is =
     kind_same e.kind k (and_parts (kind_eq e.kind k) (content_eq (content_of e) c) is).0
 
-told_content : (k : Kind) (c : MessageContent) (e : Event) → tells k c e ≡ true
+pub told_content : (k : Kind) (c : MessageContent) (e : Event) → tells k c e ≡ true
     → content_of e ≡ c
 told_content k c e is =
     content_same (content_of e) c

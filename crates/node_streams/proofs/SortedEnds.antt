@@ -67,7 +67,7 @@ eq_to None (Some q) = refl
 eq_to (Some p) None = refl
 eq_to (Some p) (Some q) = eq_pid p q
 
-eq_content : (c d : MessageContent) → is_eq (content_cmp c d) ≡ content_eq c d
+pub eq_content : (c d : MessageContent) → is_eq (content_cmp c d) ≡ content_eq c d
 eq_content c d = eq_after _ _ _ _ (eq_pid c.from d.from) (eq_after _ _ _ _ (eq_to c.to d.to)
     (eq_after _ _ _ _ (eq_nat c.label d.label) (eq_after _ _ _ _ (eq_nat c.prev d.prev)
     (eq_after _ _ _ _ (eq_nat c.this d.this) (eq_nat c.value d.value)))))
@@ -81,7 +81,7 @@ tied Equal r is = ap (λ x. not (is_lt x) && true) is
 tied Greater r is = ap (λ x. not (is_lt x) && true) is
 
 -- an end of the content, wherever it is
-abbrev end_of : MessageContent → End
+abbrev pub end_of : MessageContent → End
 end_of c = record { content = c; index = 0 }
 
 alike_ties : (c : MessageContent) (y : End) → ties below (end_of c) y ≡ alike c y
@@ -197,7 +197,7 @@ lt_index Less = refl
 lt_index Equal = refl
 lt_index Greater = refl
 
-eq_index : (o : Ordering) → (ordering_index o == 1) ≡ is_eq o
+pub eq_index : (o : Ordering) → (ordering_index o == 1) ≡ is_eq o
 eq_index Less = refl
 eq_index Equal = refl
 eq_index Greater = refl
@@ -224,7 +224,7 @@ module _ (all v : List End) (are : AreByContent all v) (c : MessageContent) wher
   abbrev rank : End → ℕ
   rank x = ordering_index (content_cmp x.content c)
 
-  rises : IsNonDecreasingBy rank v
+  pub rises : IsNonDecreasingBy rank v
   rises = searchable_from_sorted content_total (λ (x : End). x.content) v c are.rise
 
   pub parted : IsPartitionedBy (below_content c) v

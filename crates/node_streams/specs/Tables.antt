@@ -1,8 +1,7 @@
 -- Says what the lists of ends and the walk over all events keep.
-use Rattle.std.specs.Prelude.{◌≡◌, ℕ, ◌+◌, ◌≤◌, true, Bool, List, [], ◌∷◌, ◌++◌, length}
+use Rattle.std.specs.Prelude.{◌≡◌, ℕ, ◌+◌, true, Bool, List, [], ◌∷◌, ◌++◌, length, take}
 use Rattle.std.specs.Prelude.{Option, Some, None, count_by, if◌then◌else◌, slice_get}
-use Rattle.std.specs.Option.{option_cmp, unwrap_or}
-use Rattle.std.specs.HashMap.{get}
+use Rattle.std.specs.Option.{option_cmp}
 use Rattle.std.specs.List.{filter}
 use Rattle.std.specs.List.Sorted.{IsSortedByKey}
 use Rattle.std.specs.Ordering.{nat_cmp, ordering_then}
@@ -16,19 +15,15 @@ use Rattle.st_core.specs.Pid.{pid_cmp, pid_eq}
 use Rattle.st_core.specs.Run.{Stream, pids_of}
 use Rattle.st_core.specs.Streams.{IsStreams, events_of}
 use Rattle.node_streams.specs.declared.content.MessageContent.{MessageContent}
-use Rattle.node_streams.specs.declared.counter.Counter.{Counter}
 use Rattle.node_streams.specs.declared.ends.End.{End}
 use Rattle.node_streams.specs.declared.walk.Walk.{Walk}
 use Rattle.node_streams.specs.Messages.{content_eq, content_of, tells}
 use Rattle.node_streams.specs.Order.{CanGo, next_event, turns}
 
--- the number of a content
-abbrev pub count_in : Counter → MessageContent → ℕ
-count_in counter c = unwrap_or (get content_eq counter.counts c) 0
-
--- the counter has the events of this kind among these
-abbrev pub CountsKind : Kind → List Event → Counter → Type 0
-CountsKind k es counter = (c : MessageContent) → count_in counter c ≡ count_by (tells k c) es
+-- for each event of this kind among these, by its index, the number of alike ones before it
+abbrev pub CountAlike : Kind → List Event → List ℕ → Type 0
+CountAlike k es numbers = (i : ℕ) (e : Event) → slice_get es i ≡ Some e → kind_eq e.kind k ≡ true
+    → slice_get numbers i ≡ Some (count_by (tells k (content_of e)) (take i es))
 
 -- the ends of this kind among these events, of which the first has this index
 abbrev pub ends_from : Kind → ℕ → List Event → List End

@@ -42,7 +42,10 @@ pub(crate) struct End {
 fn own_ends(alloc: Global, kind: Kind, events: &[Event]) -> Result<Vec<End>, AllocError>
     ensures { IfOk result (λ v. v.items ≡ ends_from kind 0 events.now) }
 {
-    let count = events.iter().filter(|event| is_of_kind(kind, event)).count();
+    let count = events
+        .iter()
+        .filter(|event| is_of_kind(kind, event))
+        .count();
     let mut ends = Vec::with_capacity(alloc, count)?;
     for (i, event) in events.iter().enumerate() {
         if is_of_kind(kind, event) {
@@ -57,7 +60,11 @@ fn own_ends(alloc: Global, kind: Kind, events: &[Event]) -> Result<Vec<End>, All
 }
 
 /// The ends of this kind among a process's events, by their content.
-fn ends_by_content(alloc: Global, kind: Kind, events: &[Event]) -> Result<Vec<End>, AllocError>
+pub(crate) fn ends_by_content(
+    alloc: Global,
+    kind: Kind,
+    events: &[Event],
+) -> Result<Vec<End>, AllocError>
     ensures { IfOk result (λ v. AreByContent (ends_from kind 0 events.now) v.items) }
 {
     let mut ends = own_ends(alloc, kind, events)?;

@@ -2,8 +2,8 @@
 //! events have an order.
 #![tactic(auto)]
 
+mod alike;
 mod content;
-mod counter;
 mod ends;
 mod judgement;
 pub mod laws;

@@ -1,14 +1,15 @@
 //! The other ends of messages.
 
-ghost use Rattle.std.specs.Prelude.{◌≡◌, [], ◌∷◌, ◌++◌, List, IfOk, OnOk};
+ghost use Rattle.std.specs.Prelude.{◌≡◌, true, List, IfOk, count_by};
+ghost use Rattle.st_core.specs.Event.{kind_eq};
 ghost use Rattle.st_core.specs.declared.types.Event.{Event as EventValue};
 ghost use Rattle.st_core.specs.declared.types.Kind.TheVariants as kind;
-ghost use Rattle.node_streams.specs.Messages.{content_of, other_end_of, owner, partners};
-ghost use Rattle.node_streams.specs.Tables.{CountsKind};
+ghost use Rattle.node_streams.specs.Messages.{content_of, other_end_of, owner, partners, tells};
 
+use crate::alike::alike_before;
 use crate::content::MessageContent;
-use crate::counter::Counter;
 use crate::ends::{End, all_ends, place};
+use crate::numbers::number_at;
 use st_core::{Event, Kind, Pid, Sequence, Streams};
 use std::alloc::{AllocError, Global};
 use std::marker::Model;
@@ -58,38 +59,31 @@ impl<'a> MessageEnds<'a> {
         })
     }
 
-    /// The index of the other end of an event's message, and counts the event.
-    fn partner(
-        &self,
-        sent: &mut Counter,
-        received: &mut Counter,
-        event: &Event,
-    ) -> Result<Option<u64>, AllocError>
-        ensures partner { (before : List EventValue) → CountsKind kind.Send before sent.old
-            → CountsKind kind.Receive before received.old
-            → IfOk result (λ o. o ≡ other_end_of self.now before event.now) }
-        ensures sent { (before : List EventValue) → CountsKind kind.Send before sent.old
-            → OnOk result (CountsKind kind.Send (before ++ event.now ∷ []) sent.new) }
-        ensures received { (before : List EventValue) → CountsKind kind.Receive before received.old
-            → OnOk result (CountsKind kind.Receive (before ++ event.now ∷ []) received.new) }
+    /// The index of the other end of an event's message. So many alike ones were sent before it if
+    /// it is a send, and so many were received if it is a receive.
+    fn partner(&self, event: &Event, sent: u64, received: u64) -> Option<u64>
+        ensures { (before : List EventValue)
+            → (kind_eq event.now.kind kind.Send ≡ true
+            → sent ≡ count_by (tells kind.Send (content_of event.now)) before)
+            → (kind_eq event.now.kind kind.Receive ≡ true
+            → received ≡ count_by (tells kind.Receive (content_of event.now)) before)
+            → result ≡ other_end_of self.now before event.now }
     {
         let content = MessageContent::of(event);
         match event.kind {
-            Kind::Print => Ok(None),
+            Kind::Print => None,
             Kind::Send => {
-                let number = sent.note(content)?;
                 let to = receiver_of(event);
-                Ok(place(self.streams, self.receives.as_slice(), to, content, number))
+                place(self.streams, self.receives.as_slice(), to, content, sent)
             }
             Kind::Receive => {
-                let number = received.note(content)?;
-                Ok(place(
+                place(
                     self.streams,
                     self.sends.as_slice(),
                     event.from,
                     content,
-                    number,
-                ))
+                    received,
+                )
             }
         }
     }
@@ -99,12 +93,11 @@ impl<'a> MessageEnds<'a> {
     pub fn partners(&self, alloc: Global, events: &[Event]) -> Result<Vec<Option<u64>>, AllocError>
         ensures { IfOk result (λ v. v.items ≡ partners self.now events.now) }
     {
-        let mut sent = Counter::new(alloc);
-        let mut received = Counter::new(alloc);
+        let sent = alike_before(alloc, Kind::Send, events)?;
+        let received = alike_before(alloc, Kind::Receive, events)?;
         let mut found = Vec::with_capacity(alloc, events.len())?;
-        for event in events {
-            let partner = self.partner(&mut sent, &mut received, event)?;
-            found.push(partner)?;
+        for (i, event) in events.iter().enumerate() {
+            found.push(self.partner(event, number_at(&sent, i), number_at(&received, i)))?;
         }
         Ok(found)
     }

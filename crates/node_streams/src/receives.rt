@@ -49,7 +49,12 @@ pub(crate) fn unsent(
 {
     let mut places = Vec::new(alloc);
     for (place, &pid) in streams.pids().iter().enumerate() {
-        add_unsent(&mut places, pid, streams.events(pid), taken_of(taken, place))?;
+        add_unsent(
+            &mut places,
+            pid,
+            streams.events(pid),
+            taken_of(taken, place),
+        )?;
     }
     Ok(places)
 }

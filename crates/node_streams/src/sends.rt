@@ -1,19 +1,20 @@
 //! The sends that receives took.
 
-ghost use Rattle.std.specs.Prelude.{◌≡◌, [], ◌∷◌, ◌++◌, List, IfOk, OnOk, option_and_then};
-ghost use Rattle.std.specs.Prelude.{Some, slice_get};
+ghost use Rattle.std.specs.Prelude.{◌≡◌, true, List, Some, IfOk, count_by, option_and_then};
+ghost use Rattle.std.specs.Prelude.{slice_get};
 ghost use Rattle.st_core.specs.Pid.{IsRising};
 ghost use Rattle.st_core.specs.Run.{Stream as StreamValue, pids_of};
 ghost use Rattle.st_core.specs.Streams.{events_of};
 ghost use Rattle.st_core.specs.declared.types.Pid.{Pid as PidValue};
 ghost use Rattle.st_core.specs.declared.types.Event.{Event as EventValue};
 ghost use Rattle.st_core.specs.declared.types.Kind.TheVariants as kind;
-ghost use Rattle.node_streams.specs.Messages.{all_taken_sends, taken_send, taken_sends};
-ghost use Rattle.node_streams.specs.Tables.{CountsKind};
+ghost use Rattle.node_streams.specs.Messages.{all_taken_sends, content_of, taken_send, taken_sends};
+ghost use Rattle.node_streams.specs.Messages.{takes_message, tells};
 
+use crate::alike::alike_before;
 use crate::content::MessageContent;
-use crate::counter::Counter;
 use crate::ends::{End, all_ends, place};
+use crate::numbers::number_at;
 use st_core::{Event, Kind, Sequence, Streams};
 use std::alloc::{AllocError, Global};
 use std::marker::Model;
@@ -54,25 +55,24 @@ impl<'a> Sends<'a> {
         self.streams
     }
 
-    /// The index of the send that an event took, if it is a receive, and counts that.
-    fn taken(&self, received: &mut Counter, event: &Event) -> Result<Option<u64>, AllocError>
-        ensures taken { (before : List EventValue) → CountsKind kind.Receive before received.old
-            → IfOk result (λ o. o ≡ taken_send self.now before event.now) }
-        ensures counted { (before : List EventValue) → CountsKind kind.Receive before received.old
-            → OnOk result (CountsKind kind.Receive (before ++ event.now ∷ []) received.new) }
+    /// The index of the send that an event took, if it is a receive, which so many alike ones come
+    /// before.
+    fn taken(&self, event: &Event, number: u64) -> Option<u64>
+        ensures { (before : List EventValue) → (takes_message event.now ≡ true
+            → number ≡ count_by (tells kind.Receive (content_of event.now)) before)
+            → result ≡ taken_send self.now before event.now }
     {
         match event.kind {
-            Kind::Send | Kind::Print => Ok(None),
+            Kind::Send | Kind::Print => None,
             Kind::Receive => {
                 let content = MessageContent::of(event);
-                let number = received.note(content)?;
-                Ok(place(
+                place(
                     self.streams,
                     self.ends.as_slice(),
                     event.from,
                     content,
                     number,
-                ))
+                )
             }
         }
     }
@@ -82,11 +82,10 @@ impl<'a> Sends<'a> {
     pub fn taken_by(&self, alloc: Global, events: &[Event]) -> Result<Vec<Option<u64>>, AllocError>
         ensures { IfOk result (λ v. v.items ≡ taken_sends self.now events.now) }
     {
-        let mut received = Counter::new(alloc);
+        let numbers = alike_before(alloc, Kind::Receive, events)?;
         let mut found = Vec::with_capacity(alloc, events.len())?;
-        for event in events {
-            let taken = self.taken(&mut received, event)?;
-            found.push(taken)?;
+        for (i, event) in events.iter().enumerate() {
+            found.push(self.taken(event, number_at(&numbers, i)))?;
         }
         Ok(found)
     }

@@ -105,7 +105,11 @@ impl Walk {
             Kind::Send | Kind::Print => Some(event),
             Kind::Receive => {
                 let send = taken_at(taken_of(taken, place), index as usize);
-                if self.is_sent(streams, event.from, send) { Some(event) } else { None }
+                if self.is_sent(streams, event.from, send) {
+                    Some(event)
+                } else {
+                    None
+                }
             }
         }
     }

@@ -1,5 +1,5 @@
 -- Each listed process was asked, and the others have no events.
-use Rattle.std.proofs.Common.{◌≡◌, ◌≤◌, get_or, length, List, [], ◌∷◌, ◌++◌, Bool, true, false}
+use Rattle.std.proofs.Common.{◌≡◌, ◌≤◌, get_or, length, List, [], ◌∷◌, ◌++◌, true, false}
 use Rattle.std.proofs.Common.{Option, Some, None, is_some, inl, inr, refl, sym, ◌∙◌, arith, ap, subst}
 use Rattle.std.specs.List.{slice_get}
 use Rattle.std.proofs.lemmas.Bool.{false≢true}
@@ -43,24 +43,24 @@ loop-place-preserved c =
     at_n)) ∙ sym c.event.ensures in
     elim c.if-is_some.branch [
       | then-is_some+in_ok-push w ↦ record {
-          none = λ order at empty. absurd (not_empty c.loop-place.left.items _
-              (sym (ap (λ v. v.items) w.left-is ∙ w.in_ok-push.ensures.items) ∙ empty));
-          some = λ order at full.
-              let found = has_value c.event.result (sym c.is_some.ensures ∙ w.if-is_some.true) in
-              (p, found.0, next order at ∙ found.1);
-        }
+        none = λ order at empty. absurd (not_empty c.loop-place.left.items _
+            (sym (ap (λ v. v.items) w.left-is ∙ w.in_ok-push.ensures.items) ∙ empty));
+        some = λ order at full.
+            let found = has_value c.event.result (sym c.is_some.ensures ∙ w.if-is_some.true) in
+            (p, found.0, next order at ∙ found.1);
+      }
       | else-is_some w ↦ record {
-          none = λ order at empty i q less at_i. elim (less_or_same i n (omega arith)) [
-            | inl before ↦ c.loop-place.invariant.none order at
-                (sym (ap (λ v. v.items) w.left-is) ∙ empty) i q before at_i
-            | inr same ↦ subst (λ r. next_event streams order r ≡ None)
-                (same_Some p q (sym at_n ∙ ap (slice_get (pids_of streams)) (sym same) ∙ at_i))
-                (next order at ∙ no_value c.event.result
-                (sym c.is_some.ensures ∙ w.if-is_some.false))
-          ];
-          some = λ order at full. c.loop-place.invariant.some order at
-              (λ empty. full (ap (λ v. v.items) w.left-is ∙ empty));
-        }
+        none = λ order at empty i q less at_i. elim (less_or_same i n (omega arith)) [
+          | inl before ↦ c.loop-place.invariant.none order at
+              (sym (ap (λ v. v.items) w.left-is) ∙ empty) i q before at_i
+          | inr same ↦ subst (λ r. next_event streams order r ≡ None)
+              (same_Some p q (sym at_n ∙ ap (slice_get (pids_of streams)) (sym same) ∙ at_i))
+              (next order at ∙ no_value c.event.result
+              (sym c.is_some.ensures ∙ w.if-is_some.false))
+        ];
+        some = λ order at full. c.loop-place.invariant.some order at
+            (λ empty. full (ap (λ v. v.items) w.left-is ∙ empty));
+      }
     ]
 
 pub returns-clause-none : goal.returns-clause-none
