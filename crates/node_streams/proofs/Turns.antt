@@ -1,7 +1,7 @@
 -- Follows what a turn does to the counts of the walk, and processes that are listed before.
 use Rattle.std.proofs.Common.{◌≡◌, ℕ, ◌+◌, ◌-◌, ◌≤◌, ◌<◌, ◌||◌, suc, cond}
 use Rattle.std.proofs.Common.{true, false, List, [], ◌∷◌, length, replicate, Option, Some, None}
-use Rattle.std.proofs.Common.{Result, Ok, Err, OnOk, refl, arith, sym, ◌∙◌, ap}
+use Rattle.std.proofs.Common.{IfNone, Result, Ok, Err, OnOk, refl, arith, sym, ◌∙◌, ap}
 use Rattle.std.specs.Option.{unwrap_or}
 use Rattle.std.specs.List.{find, slice_get, slice_set, sum_by}
 use Rattle.std.proofs.Math.ListN.{length-set}
@@ -104,6 +104,10 @@ pub if_ok : {T E : Type 0} {P : Type 0} (r : Result T E) → P → OnOk r P
 if_ok (Ok x) is = is
 if_ok (Err e) is = tt
 
+pub if_none : {A : Type 0} {P Q : Type 0} (o : Option A) → (P → Q) → IfNone o P → IfNone o Q
+if_none None then is = then is
+if_none (Some x) then is = tt
+
 -- how many events a process has left
 abbrev left_of : (Pid → ℕ) → Stream → ℕ
 left_of done s = length s.events - done s.pid
@@ -146,3 +150,14 @@ module _ (f g : Pid → ℕ) (p : Pid) (more : (q : Pid) → g q ≡ f q + cond 
             let before = sum_by-cons (left_of f) x streams in
             omega arith
       ]) refl at
+
+-- and more events leave no more
+pub no_more_left : (streams : List Stream) (f g : Pid → ℕ) → ((q : Pid) → f q ≤ g q)
+    → events_left streams g ≤ events_left streams f
+no_more_left [] f g more = omega arith
+no_more_left (x ∷ streams) f g more =
+    let rest = no_more_left streams f g more in
+    let own = more x.pid in
+    let now = sum_by-cons (left_of g) x streams in
+    let before = sum_by-cons (left_of f) x streams in
+    omega arith

@@ -17,8 +17,8 @@ use Rattle.st_core.specs.Streams.{IsStreams, events_of}
 use Rattle.node_streams.specs.declared.content.MessageContent.{MessageContent}
 use Rattle.node_streams.specs.declared.ends.End.{End}
 use Rattle.node_streams.specs.declared.walk.Walk.{Walk}
-use Rattle.node_streams.specs.Messages.{content_eq, content_of, tells}
-use Rattle.node_streams.specs.Order.{CanGo, next_event, turns}
+use Rattle.node_streams.specs.Messages.{content_eq, content_of, taken_sends, tells}
+use Rattle.node_streams.specs.Order.{CanGo, IsTurnOrder, next_event, turns}
 
 -- for each event of this kind among these, by its index, the number of alike ones before it
 abbrev pub CountAlike : Kind → List Event → List ℕ → Type 0
@@ -83,6 +83,19 @@ done_in streams w p = number_by_pid (pids_of streams) w.done.items p
 pub record IsAt (streams : List Stream) (order : List Pid) (w : Walk) : Type 0 where
   pub each : length w.done.items ≡ length (pids_of streams)
   pub done : (p : Pid) → done_in streams w p ≡ turns p order
+
+-- some turns lead to where the walk is
+pub record IsReached (streams : List Stream) (w : Walk) : Type 0 where
+  pub order : List Pid
+  pub is_order : IsTurnOrder streams order
+  pub at : IsAt streams order w
+
+-- p is at place i, has these events, and took these sends
+pub record AreOf (streams : List Stream) (i : ℕ) (p : Pid) (events : List Event)
+    (taken : List (Option ℕ)) : Type 0 where
+  pub place : slice_get (pids_of streams) i ≡ Some p
+  pub own : events ≡ events_of streams p
+  pub sends : taken ≡ taken_sends streams (events_of streams p)
 
 -- after these turns the process at place i can go on, with this event
 pub record GoesNext (streams : List Stream) (order : List Pid) (i : ℕ) (e : Event) : Type 0 where

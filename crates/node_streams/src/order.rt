@@ -41,8 +41,9 @@ pub(crate) fn cycle(
     ensures some { IfOk result (λ v. v.items ≢ [] → ¬ (HaveOrder streams.now)) }
 {
     let mut walk = Walk::new(alloc, streams)?;
-    while let Some((place, event)) = walk.next(streams, taken)? {
+    while let Some((place, event)) = walk.next(streams, taken) {
         walk.go(streams, place, &event)?;
+        walk.go_far(streams, taken, place)?;
     }
     events_left(alloc, streams, &walk)
 }

@@ -8,7 +8,7 @@ ghost use Rattle.st_core.specs.Streams.{IsStreams};
 ghost use Rattle.st_core.specs.declared.types.Pid.{Pid as PidValue};
 ghost use Rattle.node_streams.specs.Messages.{all_taken_sends};
 ghost use Rattle.node_streams.specs.Order.{CanGo};
-ghost use Rattle.node_streams.specs.Tables.{GoesNext, IsAt, done_in};
+ghost use Rattle.node_streams.specs.Tables.{AreOf, GoesNext, IsAt, IsReached, done_in};
 
 use crate::numbers::{number_at, put};
 use crate::partners::receiver_of;
@@ -79,8 +79,42 @@ impl Walk {
         }
     }
 
+    /// The next event of the process at this place, which has these events and took these sends, if
+    /// it can go on.
+    fn free_event_of(
+        &self,
+        streams: &Streams,
+        place: usize,
+        events: &[Event],
+        taken: &[Option<u64>],
+    ) -> Option<Event>
+        requires { IsStreams streams.now }
+        ensures free { (order : List PidValue) (p : PidValue) → IsAt streams.now order self.now
+            → AreOf streams.now place p events.now taken.now
+            → IfSome result (GoesNext streams.now order place) }
+        ensures none { (order : List PidValue) (p : PidValue) → IsAt streams.now order self.now
+            → AreOf streams.now place p events.now taken.now
+            → IfNone result (¬ (CanGo streams.now order p)) }
+    {
+        let index = self.done_at(place);
+        let Some(event) = events.get(index as usize) else {
+            return None;
+        };
+        match event.kind {
+            Kind::Send | Kind::Print => Some(*event),
+            Kind::Receive => {
+                let send = taken_at(taken, index as usize);
+                if self.is_sent(streams, event.from, send) {
+                    Some(*event)
+                } else {
+                    None
+                }
+            }
+        }
+    }
+
     /// The next event of the process at this place, if it can go on.
-    pub(crate) fn free_event(
+    fn free_event(
         &self,
         streams: &Streams,
         taken: &[Sequence<Option<u64>>],
@@ -97,43 +131,28 @@ impl Walk {
         let Some(&pid) = streams.pids().get(place) else {
             return None;
         };
-        let index = self.done_at(place);
-        let Some(event) = streams.event(pid, index) else {
-            return None;
-        };
-        match event.kind {
-            Kind::Send | Kind::Print => Some(event),
-            Kind::Receive => {
-                let send = taken_at(taken_of(taken, place), index as usize);
-                if self.is_sent(streams, event.from, send) {
-                    Some(event)
-                } else {
-                    None
-                }
-            }
-        }
+        self.free_event_of(streams, place, streams.events(pid), taken_of(taken, place))
     }
 
-    /// The last candidate that can go on, with its next event. Those after it are candidates no
-    /// longer.
+    /// The last candidate that can go on, with its next event. It and those after it are candidates
+    /// no longer.
     fn candidate(
         &mut self,
         streams: &Streams,
         taken: &[Sequence<Option<u64>>],
-    ) -> Result<Option<(usize, Event)>, AllocError>
+    ) -> Option<(usize, Event)>
         requires sound { IsStreams streams.now }
         requires taken { taken.now ≡ all_taken_sends streams.now }
-        ensures done { OnOk result (self.new.done ≡ self.old.done) }
+        ensures done { self.new.done ≡ self.old.done }
         ensures free { (order : List PidValue) → IsAt streams.now order self.old
-            → IfOk result (λ o. IfSome o (λ x. GoesNext streams.now order x.0 x.1)) }
+            → IfSome result (λ x. GoesNext streams.now order x.0 x.1) }
     {
         while let Some(place) = self.candidates.pop() {
             if let Some(event) = self.free_event(streams, taken, place) {
-                self.candidates.push(place)?;
-                return Ok(Some((place, event)));
+                return Some((place, event));
             }
         }
-        Ok(None)
+        None
     }
 
     /// The first process that can go on, with its next event.
@@ -162,19 +181,19 @@ impl Walk {
         &mut self,
         streams: &Streams,
         taken: &[Sequence<Option<u64>>],
-    ) -> Result<Option<(usize, Event)>, AllocError>
+    ) -> Option<(usize, Event)>
         requires sound { IsStreams streams.now }
         requires taken { taken.now ≡ all_taken_sends streams.now }
-        ensures done { OnOk result (self.new.done ≡ self.old.done) }
+        ensures done { self.new.done ≡ self.old.done }
         ensures free { (order : List PidValue) → IsAt streams.now order self.old
-            → IfOk result (λ o. IfSome o (λ x. GoesNext streams.now order x.0 x.1)) }
+            → IfSome result (λ x. GoesNext streams.now order x.0 x.1) }
         ensures none { (order : List PidValue) → IsAt streams.now order self.old
-            → IfOk result (λ o. IfNone o ((p : PidValue) → ¬ (CanGo streams.now order p))) }
+            → IfNone result ((p : PidValue) → ¬ (CanGo streams.now order p)) }
     {
-        if let Some(found) = self.candidate(streams, taken)? {
-            return Ok(Some(found));
+        match self.candidate(streams, taken) {
+            Some(found) => Some(found),
+            None => self.free_process(streams, taken),
         }
-        Ok(self.free_process(streams, taken))
     }
 
     /// Goes on with the next event of the process at this place.
@@ -206,6 +225,31 @@ impl Walk {
     {
         if let Some(place) = streams.place_of(pid) {
             self.candidates.push(place)?;
+        }
+        Ok(())
+    }
+
+    /// Goes on with the events of the process at this place, up to one that waits.
+    pub(crate) fn go_far(
+        &mut self,
+        streams: &Streams,
+        taken: &[Sequence<Option<u64>>],
+        place: usize,
+    ) -> Result<(), AllocError>
+        requires sound { IsStreams streams.now }
+        requires taken { taken.now ≡ all_taken_sends streams.now }
+        requires way { IsReached streams.now self.old }
+        ensures way { OnOk result (IsReached streams.now self.new) }
+        ensures more { OnOk result ((p : PidValue)
+            → done_in streams.now self.old p ≤ done_in streams.now self.new p) }
+    {
+        let Some(&pid) = streams.pids().get(place) else {
+            return Ok(());
+        };
+        let events = streams.events(pid);
+        let own = taken_of(taken, place);
+        while let Some(event) = self.free_event_of(streams, place, events, own) {
+            self.go(streams, place, &event)?;
         }
         Ok(())
     }

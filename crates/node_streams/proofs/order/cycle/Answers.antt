@@ -10,59 +10,62 @@ use Rattle.node_streams.specs.Order.{CanGo}
 use Rattle.node_streams.specs.Tables.{done_in, GoesNext}
 use Rattle.node_streams.proofs.Counting.{turns_more}
 use Rattle.node_streams.proofs.Orders.{no_order}
-use Rattle.node_streams.proofs.Turns.{one_fewer, same_walk}
+use Rattle.node_streams.proofs.Turns.{no_more_left, one_fewer, same_walk}
 use Rattle.node_streams.proofs.order.cycle.Goals as goal
 
-pub loop-walk-smaller : goal.loop-walk-smaller
-loop-walk-smaller c =
+pub go_far-requires-clause-way : goal.go_far-requires-clause-way
+go_far-requires-clause-way c =
     let streams = c.args.streams.now in
-    let so_far = c.loop-walk.invariant in
-    let goes = subst (λ o. IfSome o (λ x. GoesNext streams so_far.0 x.0 x.1)) c.in-Some.is
-    (c.in_ok-place.ensures.free so_far.0 so_far.2) in
+    let way = c.loop-place.invariant in
+    let goes = subst (λ o. IfSome o (λ x. GoesNext streams way.order x.0 x.1)) c.in-Some.is
+    (c.next.ensures.free way.order way.at) in
+    let at = same_walk streams way.order c.loop-place.walk c.next.new.self c.next.ensures.done way.at
+    in record {
+      order = goes.pid ∷ way.order;
+      is_order = (goes.can, way.is_order);
+      at = c.in_ok-go.ensures way.order goes.pid at goes.place;
+    }
+
+pub loop-place-smaller : goal.loop-place-smaller
+loop-place-smaller c =
+    let streams = c.args.streams.now in
+    let way = c.loop-place.invariant in
+    let goes = subst (λ o. IfSome o (λ x. GoesNext streams way.order x.0 x.1)) c.in-Some.is
+    (c.next.ensures.free way.order way.at) in
     let p = goes.pid in
-    let at = same_walk streams so_far.0 c.loop-walk.walk c.next.new.self
-    c.in_ok-place.ensures.done so_far.2 in
-    let after = c.in_ok-go.ensures so_far.0 p at goes.place in
-    one_fewer (done_in streams c.loop-walk.walk) (done_in streams c.go.new.self) p
+    let at = same_walk streams way.order c.loop-place.walk c.next.new.self c.next.ensures.done way.at
+    in
+    let after = c.in_ok-go.ensures way.order p at goes.place in
+    let fewer = one_fewer (done_in streams c.loop-place.walk) (done_in streams c.go.new.self) p
     (λ q.
-    let was = so_far.2.done q in
+    let was = way.at.done q in
     let is = after.done q in
-    let more = turns_more p so_far.0 q in
+    let more = turns_more p way.order q in
     omega arith)
     streams c.in-Some.event
-    (ap (slice_get (events_of streams p)) (so_far.2.done p) ∙ goes.next)
-
-pub loop-walk-preserved : goal.loop-walk-preserved
-loop-walk-preserved c =
-    let streams = c.args.streams.now in
-    let so_far = c.loop-walk.invariant in
-    let goes = subst (λ o. IfSome o (λ x. GoesNext streams so_far.0 x.0 x.1)) c.in-Some.is
-    (c.in_ok-place.ensures.free so_far.0 so_far.2) in
-    let at = same_walk streams so_far.0 c.loop-walk.walk c.next.new.self
-    c.in_ok-place.ensures.done so_far.2 in (
-      goes.pid ∷ so_far.0,
-      (goes.can, so_far.1),
-      c.in_ok-go.ensures so_far.0 goes.pid at goes.place,
-    )
+    (ap (slice_get (events_of streams p)) (way.at.done p) ∙ goes.next) in
+    let far = no_more_left streams (done_in streams c.go.new.self) (done_in streams c.go_far.new.self)
+    c.in_ok-go_far.ensures.more in
+    omega arith
 
 pub returns-clause-none : goal.returns-clause-none
 returns-clause-none c =
     let streams = c.args.streams.now in
-    let so_far = c.loop-walk.invariant in
-    let at = same_walk streams so_far.0 c.loop-walk.walk c.next.new.self
-    c.in_ok-place.ensures.done so_far.2 in
+    let way = c.loop-place.invariant in
+    let at = same_walk streams way.order c.loop-place.walk c.next.new.self c.next.ensures.done way.at
+    in
     IfOk-weaker c.events_left.result _ _
-    (λ v over empty. record { order = so_far.0; is_order = so_far.1; over = over empty })
-    (c.events_left.ensures.none so_far.0 at)
+    (λ v over empty. record { order = way.order; is_order = way.is_order; over = over empty })
+    (c.events_left.ensures.none way.order at)
 
 pub returns-clause-some : goal.returns-clause-some
 returns-clause-some c =
     let streams = c.args.streams.now in
-    let so_far = c.loop-walk.invariant in
-    let at = same_walk streams so_far.0 c.loop-walk.walk c.next.new.self
-    c.in_ok-place.ensures.done so_far.2 in
-    let stuck = subst (λ o. IfNone o ((p : Pid) → CanGo streams so_far.0 p → ⊥)) c.in_default.is
-    (c.in_ok-place.ensures.none so_far.0 so_far.2) in
+    let way = c.loop-place.invariant in
+    let at = same_walk streams way.order c.loop-place.walk c.next.new.self c.next.ensures.done way.at
+    in
+    let stuck = subst (λ o. IfNone o ((p : Pid) → CanGo streams way.order p → ⊥)) c.in_default.is
+    (c.next.ensures.none way.order way.at) in
     IfOk-weaker c.events_left.result _ _
-    (λ v left some. let next = left some in no_order streams so_far.0 stuck next.0 next.1 next.2)
-    (c.events_left.ensures.some so_far.0 at)
+    (λ v left some. let next = left some in no_order streams way.order stuck next.0 next.1 next.2)
+    (c.events_left.ensures.some way.order at)
