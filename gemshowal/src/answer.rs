@@ -1,8 +1,8 @@
 //! The questions that a program asks of a trace, each with a result of its own type.
 
 use crate::device::Sink;
-use crate::{Act, Answer, CompleteError, Completion, Event, Finding, Never, NodeHop, NodeHops};
-use crate::{OutOfMemory, Pid, Reason, Streams, Text, Trace, TOP};
+use crate::{Act, Answer, CompleteError, Completion, Event, Finding, Kind, Never, NodeHop};
+use crate::{NodeHops, OutOfMemory, Pid, Reason, Streams, Text, Trace, TOP};
 use lack_decide::CompleteFault;
 use st_library::alloc::Global;
 use st_library::rt::HostRuntime;
@@ -37,6 +37,14 @@ impl Fits {
             Finding::Fits(_, pairs) => pairs.as_slice(),
             Finding::Unfit(..) => &[],
         }
+    }
+
+    /// Returns whether this trace of the run has both ends of each message: as many sends as the run,
+    /// and as many receives.
+    pub fn has_all_ends(&self, trace: &Trace) -> bool {
+        let sent = self.acts().iter().filter(|act| matches!(act, Act::Send(..))).count();
+        let reported = trace.events().filter(|(_, event)| event.kind == Kind::Send).count();
+        self.pairs().len() == sent && reported == sent
     }
 }
 

@@ -55,7 +55,8 @@ fn place_of((_, _, pid, index): Turn) -> Place {
 /// The state of all processes, before they are searched one by one.
 struct Finder<'a> {
     shown: &'a Shown<'a>,
-    paired: &'a Paired<'a>,
+    /// The pairs, unless both ends of each message were reported.
+    paired: Option<&'a Paired<'a>>,
     /// The hops of all events, unless none of these can follow something that wasn't reported.
     hops: Option<NodeHops<'a>>,
     /// The reported sends without a receive, by receiver and count, with their labels.
@@ -70,7 +71,11 @@ struct Finder<'a> {
 }
 
 impl Missing {
-    pub(super) fn find(shown: &Shown<'_>, paired: &Paired<'_>) -> Result<Missing, OutOfMemory> {
+    /// Finds them by the pairs, unless both ends of each message were reported.
+    pub(super) fn find(
+        shown: &Shown<'_>,
+        paired: Option<&Paired<'_>>,
+    ) -> Result<Missing, OutOfMemory> {
         let is_plain = shown.processes().all(|(_, events)| goes_by_receives(events));
         let hops = (!is_plain).then(|| NodeHops::of(shown.streams)).transpose()?;
         let mut finder = Finder {
@@ -85,7 +90,7 @@ impl Missing {
             open: Vec::new(),
             counters: Vec::new(),
         };
-        for (pid, events) in shown.processes() {
+        for (pid, events) in shown.processes().filter(|_| paired.is_some()) {
             finder.note_ends(pid, events);
         }
         for (pid, events) in shown.processes() {
@@ -110,7 +115,7 @@ impl Finder<'_> {
             let this = event.serial.this;
             height = height.max(this);
             let place = (pid, index);
-            let partner = self.paired.partner(place, event.kind);
+            let partner = self.partner(event, place);
             if !self.shown.is_reported(place) {
                 let turn = (height, event.kind == Kind::Receive, pid, index);
                 let known = self.known(event, partner);
@@ -126,6 +131,10 @@ impl Finder<'_> {
                 self.sends.push(((this, false, event.from, 0), Lack::Hidden(place)));
             }
         }
+    }
+
+    fn partner(&self, event: &Event, place: Place) -> Partner {
+        self.paired.map_or(Partner::Nobody, |paired| paired.partner(place, event.kind))
     }
 
     fn known(&self, event: &Event, partner: Partner) -> Known {
@@ -162,10 +171,9 @@ impl Finder<'_> {
     }
 
     fn is_invented_send(&self, event: &Event, place: Place) -> bool {
-        let partner = || self.paired.partner(place, event.kind);
         event.kind == Kind::Send
             && !self.shown.is_reported(place)
-            && self.known(event, partner()) == Known::Invented
+            && self.known(event, self.partner(event, place)) == Known::Invented
     }
 
     /// Notes what a send or print follows, if nobody reported that, and returns the send whose

@@ -116,7 +116,10 @@ impl Outcome {
         if self.judged.is_some() {
             return Ok(Missing::default());
         }
+        if matches!(&self.said, Said::Fits(fits) if fits.has_all_ends(shown.view.trace)) {
+            return Missing::find(shown, None);
+        }
         let paired = Paired::if_possible(shown.streams)?;
-        paired.map_or(Ok(Missing::default()), |paired| Missing::find(shown, &paired))
+        paired.map_or(Ok(Missing::default()), |paired| Missing::find(shown, Some(&paired)))
     }
 }
