@@ -50,7 +50,7 @@ impl<'a> Paired<'a> {
     /// reports the streams, each event comes after those that it follows.
     pub fn order(&self) -> Result<Vec<Item>, OutOfMemory> {
         let order = st_order::order(&HostRuntime, Global, self.streams, &self.pairing)?;
-        Ok(order.as_slice().to_vec())
+        Ok(order.into_vec().into_iter().collect())
     }
 
     /// Returns what the event of this kind at this place pairs with.
@@ -70,7 +70,7 @@ impl<'a> ProcessHops<'a> {
 
     /// Finds the hops back from the events of a process, in order.
     pub fn find(&self, pid: Pid) -> Result<Vec<NodeHop>, OutOfMemory> {
-        Ok(node_hops::process_hops(Global, &self.0, pid)?.as_slice().to_vec())
+        Ok(node_hops::process_hops(Global, &self.0, pid)?.into_iter().collect())
     }
 }
 

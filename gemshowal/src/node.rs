@@ -5,16 +5,17 @@
 //! that the answer of a spawn is `answer` in place of `'receive'`. So it is rewritten as one of
 //! version 2, which the proved reader then reads. The rewriting isn't proved.
 
-use crate::{Event, Kind, OutOfMemory, Pid, ReadError, Serial, Trace};
+use crate::{Event, Kind, OutOfMemory, Pid, ReadError, Serial, Text, Trace};
+use memchr::{memchr, memchr_iter};
 use node_given::Way;
 use node_machine::Seen;
 use node_origins::EventOrigins;
 use node_streams::{MessageContent, MessageEnds};
 use st_library::alloc::Global;
 use st_text::ReadFault;
-use std::cell::OnceCell;
+use std::cell::{Cell, OnceCell};
 use std::collections::{HashMap, HashSet, VecDeque};
-use std::io::Write;
+use std::iter;
 use std::ops::Range;
 
 /// The first line of the text of such a trace.
@@ -50,6 +51,9 @@ pub struct NodeTrace {
     trace: Trace,
     /// The answers of spawns, in the order of the text.
     answers: Vec<(Pid, u64)>,
+    /// The number of answers before the event that was asked about last: mostly the next one is
+    /// asked about then. Only time depends on it.
+    passed: Cell<usize>,
     spawned: OnceCell<HashSet<Pid>>,
     is_wrapped: bool,
 }
@@ -95,7 +99,8 @@ impl NodeTrace {
     /// Takes a trace as one of a standard node, on which these receives, in the order of the text,
     /// are the answers of spawns.
     pub fn new(trace: Trace, answers: Vec<(Pid, u64)>) -> NodeTrace {
-        NodeTrace { trace, answers, spawned: OnceCell::new(), is_wrapped: false }
+        let (passed, spawned) = (Cell::new(0), OnceCell::new());
+        NodeTrace { trace, answers, passed, spawned, is_wrapped: false }
     }
 
     /// Reads a text of version 3. Takes the text, to let it go before the events are read.
@@ -119,7 +124,16 @@ impl NodeTrace {
 
     /// Returns whether this event is the answer of a spawn.
     pub fn is_answer(&self, place: (Pid, u64)) -> bool {
-        self.answers.binary_search(&place).is_ok()
+        let is_behind = |&at: &usize| {
+            at.checked_sub(1).is_none_or(|last| self.answers[last] < place)
+                && self.answers.get(at).is_none_or(|next| *next >= place)
+        };
+        let passed = self.passed.get();
+        let mut near = passed..=self.answers.len().min(passed + 1);
+        let at = near.find(is_behind);
+        let at = at.unwrap_or_else(|| self.answers.partition_point(|it| *it < place));
+        self.passed.set(at);
+        self.answers.get(at) == Some(&place)
     }
 
     /// Returns whether a spawn was answered in the trace.
@@ -133,8 +147,13 @@ impl NodeTrace {
         let judgement = node_streams::judge(Global, streams)?;
         let ways = |(pid, events): (Pid, &[Event])| Ok((pid, given(&self.seen(pid, events))?));
         let unsent = judgement.unsent.as_slice().to_vec();
-        let count = |kind| self.events(kind).count();
-        let has_unreceived = count(Kind::Send) + unsent.len() > count(Kind::Receive);
+        let more_sent = |(_, event): (_, &Event)| match event.kind {
+            Kind::Send => 1,
+            Kind::Receive => -1,
+            Kind::Print => 0,
+        };
+        let surplus: i64 = self.trace.events().map(more_sent).sum();
+        let has_unreceived = surplus + unsent.len() as i64 > 0;
         Ok(NodeFinding {
             unreceived: if has_unreceived { self.unreceived()? } else { Vec::new() },
             unsent,
@@ -240,7 +259,9 @@ impl NodeTrace {
     }
 
     fn seen(&self, pid: Pid, events: &[Event]) -> Vec<Seen> {
-        seen(events, |index| self.is_answer((pid, index)))
+        let behind = &self.answers[self.answers.partition_point(|it| it.0 < pid)..];
+        let mut left = behind.iter().peekable();
+        seen(events, |index| left.next_if(|&&it| it == (pid, index)).is_some())
     }
 }
 
@@ -269,12 +290,13 @@ impl Origins {
         if !are_needed(&ways) {
             return Ok(None);
         }
-        let events = node_origins::origins(Global, &seen)?.as_slice().to_vec();
+        let events = node_origins::origins(Global, &seen)?.into_iter().collect();
         Ok(Some(Origins { ways, events }))
     }
 }
 
-fn seen(events: &[Event], is_answer: impl Fn(u64) -> bool) -> Vec<Seen> {
+/// Asks of each receive, in order, whether it is the answer of a spawn.
+fn seen(events: &[Event], mut is_answer: impl FnMut(u64) -> bool) -> Vec<Seen> {
     let seen = |(event, index): (&Event, u64)| Seen {
         kind: event.kind,
         label: event.label,
@@ -293,7 +315,7 @@ fn are_shown(seen: &[Seen]) -> bool {
 /// node shows.
 fn given(seen: &[Seen]) -> Result<Vec<Way>, OutOfMemory> {
     if are_shown(seen) {
-        return Ok(node_given::given(Global, seen)?.as_slice().to_vec());
+        return Ok(node_given::given(Global, seen)?.into_iter().collect());
     }
     let way = |event: &Seen| if event.kind == Kind::Receive { Way::Receive } else { Way::Ungiven };
     Ok(seen.iter().map(way).collect())
@@ -364,11 +386,12 @@ struct Rewritten {
 impl Rewritten {
     fn of(text: &[u8]) -> Result<Rewritten, ReadFault> {
         let body = text.strip_prefix(WRAPPED).ok_or(ReadFault::Line(1))?;
-        let names_further_node = body.windows(2).any(|pair| pair[0] == b'<' && pair[1] != b'0');
+        let is_further = |at: usize| body.get(at + 1).is_some_and(|&digit| digit != b'0');
+        let names_further_node = memchr_iter(b'<', body).any(is_further);
         let header = if names_further_node { "seqtrace 2\n" } else { "seqtrace 1\n" };
         let mut rewritten = Rewritten { text: Vec::with_capacity(text.len()), answers: Vec::new() };
         rewritten.text.extend_from_slice(header.as_bytes());
-        for (line, number) in body.split_inclusive(|&byte| byte == b'\n').zip(2..) {
+        for (line, number) in lines(body).zip(2..) {
             match std::str::from_utf8(line).ok().and_then(EventLine::of) {
                 None => rewritten.text.extend_from_slice(line),
                 Some(event) => {
@@ -382,6 +405,16 @@ impl Rewritten {
         }
         Ok(rewritten)
     }
+}
+
+/// Splits a text after each line break.
+fn lines(mut text: &[u8]) -> impl Iterator<Item = &[u8]> {
+    iter::from_fn(move || {
+        let end = memchr(b'\n', text).map_or(text.len(), |at| at + 1);
+        let (line, rest) = text.split_at(end);
+        text = rest;
+        (!line.is_empty()).then_some(line)
+    })
 }
 
 /// Returns the places of the events on these lines, which rise.
@@ -402,6 +435,7 @@ const ANSWER: &str = "answer";
 
 /// The parts of an event's line: `FRONT,{KIND,{PREV,THIS}REST`.
 struct EventLine<'a> {
+    line: &'a str,
     front: &'a str,
     kind: &'a str,
     prev: &'a str,
@@ -415,19 +449,24 @@ impl<'a> EventLine<'a> {
         let (kind, rest) = split_at_brace(rest)?;
         let (serial, rest) = rest.split_once('}')?;
         let (prev, this) = serial.split_once(',')?;
-        Some(EventLine { front, kind, prev, this, rest })
+        Some(EventLine { line, front, kind, prev, this, rest })
     }
 
     /// Writes the line as version 2 has it; returns `None` if a count isn't one that a node prints.
     fn write_plain(&self, text: &mut Vec<u8>) -> Option<()> {
-        let EventLine { front, kind, prev, this, rest } = *self;
+        let EventLine { line, front, kind, prev, this, rest } = *self;
+        let (prev, this) = (printed_count(prev)?, printed_count(this)?);
+        if kind != ANSWER && prev >= 0 && this >= 0 {
+            text.extend_from_slice(line.as_bytes());
+            return Some(());
+        }
         let kind = if kind == ANSWER { "'receive'" } else { kind };
         for part in [front, ",{", kind, ",{"] {
             text.extend_from_slice(part.as_bytes());
         }
-        write_unsigned(prev, text)?;
+        Text(prev as u64 % COUNTS).put(text);
         text.push(b',');
-        write_unsigned(this, text)?;
+        Text(this as u64 % COUNTS).put(text);
         text.push(b'}');
         text.extend_from_slice(rest.as_bytes());
         Some(())
@@ -440,15 +479,9 @@ fn split_at_brace(text: &str) -> Option<(&str, &str)> {
     Some((&text[..at], &text[at + 2..]))
 }
 
-/// Writes the number from 0 to 2^60 - 1 with the bits of a count that a node prints; returns `None`
-/// if the word isn't such a count, spelled so.
-fn write_unsigned(word: &str, text: &mut Vec<u8>) -> Option<()> {
+/// Reads a count as a node prints it; returns `None` if the word isn't such a count, spelled so.
+fn printed_count(word: &str) -> Option<i64> {
     let digits = word.strip_prefix('-').unwrap_or(word);
     let is_spelled_so = word == "0" || matches!(digits.as_bytes().first(), Some(b'1'..=b'9'));
-    let count: i64 = word.parse().ok().filter(|count| is_spelled_so && SHOWN.contains(count))?;
-    if count < 0 {
-        return write!(text, "{}", count as u64 % COUNTS).ok();
-    }
-    text.extend_from_slice(word.as_bytes());
-    Some(())
+    word.parse().ok().filter(|count| is_spelled_so && SHOWN.contains(count))
 }
