@@ -25,15 +25,6 @@ pub(crate) struct Walk {
     candidates: Vec<usize>,
 }
 
-/// All places of so many processes.
-fn places(alloc: Global, count: usize) -> Result<Vec<usize>, AllocError> {
-    let mut places = Vec::with_capacity(alloc, count)?;
-    for place in 0..count {
-        places.push(place)?;
-    }
-    Ok(places)
-}
-
 impl Walk {
     /// Before all events.
     pub(crate) fn new(alloc: Global, streams: &Streams) -> Result<Walk, AllocError>
@@ -41,10 +32,12 @@ impl Walk {
         ensures sound { OnOk result (IsStreams streams.now) }
     {
         let count = streams.pids().len();
-        Ok(Walk {
-            done: vec![in alloc; 0u64; count]?,
-            candidates: places(alloc, count)?,
-        })
+        let done = vec![in alloc; 0u64; count]?;
+        let mut candidates = Vec::with_capacity(alloc, count)?;
+        for place in 0..count {
+            candidates.push(place)?;
+        }
+        Ok(Walk { done, candidates })
     }
 
     /// How many events of the process at this place came.
