@@ -5,15 +5,13 @@ use Rattle.std.proofs.Common.{slice_get, Option, Some, refl, sym, ◌∙◌, ap,
 use Rattle.std.proofs.lemmas.Bool.{cases_eq}
 use Rattle.std.proofs.lemmas.List.{get_or-set_other, get_or-set_same, get_or_default, length-set}
 use Rattle.std.proofs.lemmas.Option.{slice_get_within}
-use Rattle.st_core.specs.declared.types.Act.{Act}
 use Rattle.st_core.specs.declared.types.Event.{Event}
 use Rattle.st_core.specs.declared.types.Message.{Message}
 use Rattle.st_core.specs.declared.types.Pid.{Pid}
 use Rattle.st_core.specs.Pid.{IsRising}
 use Rattle.st_core.specs.State.{LocalState, Process, State}
-use Rattle.st_core.specs.Step.{actor}
 use Rattle.st_mail.specs.Actor.{process_of}
-use Rattle.node_machine.specs.Node.{Common}
+use Rattle.node_machine.specs.Node.{machine_act, node_actor, NodeAct}
 use Rattle.node_check.specs.declared.processes.NodeMark.{NodeMark}
 use Rattle.node_check.specs.declared.processes.Processes.{Processes}
 use Rattle.node_check.specs.declared.processes.Row.{Row}
@@ -189,8 +187,8 @@ module _ {pids : List Pid} {number : ℕ} {old : Processes} (new : Processes) (p
 -- DONE
 
 module _ {pids : List Pid} {number : ℕ} {old x : Processes} (new : Processes) (place : ℕ) (p : Pid)
-    (a : Act) (told : Option Event) (rising : IsRising pids)
-    (at : slice_get pids place ≡ Some p) (own : p ≡ actor a)
+    (a : NodeAct) (told : Option Event) (rising : IsRising pids)
+    (at : slice_get pids place ≡ Some p) (own : p ≡ node_actor a)
     (ready : IsRefreshed pids number place p old x) where
   abbrev pub row : Row
   row = get_or x.rows.items place zero_row
@@ -219,7 +217,7 @@ module _ {pids : List Pid} {number : ℕ} {old x : Processes} (new : Processes) 
       ready.kept.rows_len ready.kept.queues_len)) rising
 
   -- the actor's part was written at its place
-  pub done_alone : (l : LocalState) (b : List Message) → IsAlone a
+  pub done_alone : (l : LocalState) (b : List Message) → IsAlone (machine_act a)
       → IsNodePart ready_process a l b told
       → new.rows.items ≡ set x.rows.items place (record row { local = l })
       → new.queues.boxes ≡ set x.queues.boxes place b
@@ -242,8 +240,8 @@ module _ {pids : List Pid} {number : ℕ} {old x : Processes} (new : Processes) 
       let step = step_by_part (kept_state pids x) place ready_process a ready_rising ready_at own
       l b told alone part in
       record {
-        step = subst (λ s. IsStepOnNode s (Common a) told (kept_state pids new)) ready.same
-            (subst (IsStepOnNode (kept_state pids x) (Common a) told) (sym after) step);
+        step = subst (λ s. IsStepOnNode s a told (kept_state pids new)) ready.same
+            (subst (IsStepOnNode (kept_state pids x) a told) (sym after) step);
         kept = kept_after (number + 1) new place row2 ready.kept (omega arith)
             (slice_get_within pids place p at)
             (let before = ready.kept.written place in omega arith) rows
@@ -252,7 +250,7 @@ module _ {pids : List Pid} {number : ℕ} {old x : Processes} (new : Processes) 
 
   -- by the row that the code read
   pub done_by : (w : Row) → w ≡ get_or x.rows.items place w → (l : LocalState) (b : List Message)
-      → IsAlone a → IsNodePart (process_of p w.local queue) a l b told
+      → IsAlone (machine_act a) → IsNodePart (process_of p w.local queue) a l b told
       → new.rows.items ≡ set x.rows.items place (record w { local = l })
       → new.queues.boxes ≡ set x.queues.boxes place b
       → new.nodes.items ≡ x.nodes.items → IsDone pids number a told old new

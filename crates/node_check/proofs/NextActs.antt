@@ -3,17 +3,17 @@ use Rattle.std.proofs.Common.{◌≡◌, ℕ, zero, suc, ◌+◌, ◌<◌, ◌�
 use Rattle.std.proofs.Common.{map, take, get_or, IsSome, replicate, slice_get, Option, Some, None}
 use Rattle.std.proofs.Common.{option_map, option_and_then, refl, sym, ◌∙◌, ap, subst, arith}
 use Rattle.std.specs.List.{AllByRecursion}
-use Rattle.std.proofs.lemmas.List.{length-map, length-replicate, length-take-le, map-append}
-use Rattle.std.proofs.lemmas.List.{take-map, take_all, take_more}
-use Rattle.st_core.specs.declared.types.Act.{Act}
+use Rattle.std.proofs.lemmas.List.{get_or-map, length-map, length-replicate, length-take-le}
+use Rattle.std.proofs.lemmas.List.{take_all, take_more}
 use Rattle.st_core.specs.declared.types.Event.{Event}
 use Rattle.st_core.specs.declared.types.Pid.{Pid}
 use Rattle.st_core.specs.Pid.{IsRising, pid_eq}
 use Rattle.st_core.specs.Run.{Stream, pids_of}
 use Rattle.st_core.specs.State.{Process, State, process, zero_state}
-use Rattle.st_core.specs.Step.{actor, outcome_of, receiver}
+use Rattle.st_core.specs.Step.{outcome_of, receiver}
 use Rattle.st_core.specs.Streams.{events_of}
-use Rattle.node_machine.specs.Node.{Common, node_acted, node_run, node_step}
+use Rattle.node_machine.specs.Node.{machine_act, node_acted, node_actor, node_run, node_step}
+use Rattle.node_machine.specs.Node.{NodeAct}
 use Rattle.node_check.specs.declared.processes.Processes.{Processes}
 use Rattle.node_check.specs.declared.processes.StepFault.{StepFault}
 use Rattle.node_check.specs.declared.processes.StepFault.TheVariants as fault
@@ -23,23 +23,23 @@ use Rattle.node_check.specs.Kept.{IsKeptAt, IsDone, IsUndone, kept_state}
 use Rattle.node_check.specs.Progress.{counts_after, HasPassedOnNode, IsNextEvent, IsPassedOnNode}
 use Rattle.node_check.specs.Progress.{IsStopOnNode, stop_by}
 use Rattle.node_check.specs.declared.verdict.NodeVerdict.TheVariants as verdict
-use Rattle.node_check.specs.Verdict.{in_common, IsNodeVerdict, PassesOnNode}
+use Rattle.node_check.specs.Verdict.{IsNodeVerdict, PassesOnNode}
 use Rattle.node_check.proofs.Rows.{rows_pids}
 use Rattle.node_check.proofs.States.{missing}
 use Rattle.node_check.proofs.Verdicts.{differs_more, is_passing, passed_more, stuck_more}
 
 -- NO STEP
 
-pub no_actor : (s : State) (a : Act) → process s (actor a) ≡ None → node_step s (Common a) ≡ None
+pub no_actor : (s : State) (a : NodeAct) → process s (node_actor a) ≡ None → node_step s a ≡ None
 no_actor s a gone = rw gone refl
 
-pub no_receiver : (s : State) (a : Act) → process s (receiver a) ≡ None
-    → node_step s (Common a) ≡ None
+pub no_receiver : (s : State) (a : NodeAct) → process s (receiver (machine_act a)) ≡ None
+    → node_step s a ≡ None
 no_receiver s a gone =
     let rest =
-    λ (r : Process). option_map (λ (_ : Process). outcome_of s a (node_acted r (Common a)))
-    (process s (receiver a)) in
-    elim (process s (actor a)) as (λ o. option_and_then rest o ≡ None) [
+    λ (r : Process). option_map (λ (_ : Process). outcome_of s (machine_act a) (node_acted r a))
+    (process s (receiver (machine_act a))) in
+    elim (process s (node_actor a)) as (λ o. option_and_then rest o ≡ None) [
       | None ↦ refl
       | Some r ↦
           rw gone refl
@@ -56,44 +56,50 @@ unlisted {pids} x p kept apart =
 
 -- THE ACT OF A NUMBER
 
-pub many : (acts : List Act) (n : ℕ) → n < length acts → length (take n acts) ≡ n
+-- among the acts that values stand for
+pub act_within : {X : Type 0} (f : X → NodeAct) (xs : List X) (n : ℕ) → n < length xs
+    → n < length (map f xs)
+act_within f xs n within = let size = length-map xs f in omega arith
+
+pub act_at : {X : Type 0} (f : X → NodeAct) (xs : List X) (n : ℕ) (x : X) (a : NodeAct)
+    → n < length xs → x ≡ get_or xs n x → a ≡ f x → a ≡ get_or (map f xs) n a
+act_at f xs n x a within at is = is ∙ ap f at ∙ sym (get_or-map f xs n x a within)
+
+pub many : (acts : List NodeAct) (n : ℕ) → n < length acts → length (take n acts) ≡ n
 many acts n within = length-take-le n acts (omega arith)
 
-module _ (streams : List Stream) (acts : List Act) (n : ℕ) (a : Act) (kept : Progress)
+module _ (streams : List Stream) (acts : List NodeAct) (n : ℕ) (a : NodeAct) (kept : Progress)
     (within : n < length acts) (is : a ≡ get_or acts n a)
     (p : HasPassedOnNode streams (take n acts) kept) where
   abbrev pub s : State
   s = kept_state (pids_of streams) kept.processes
 
-  more : in_common (take n acts) ++ Common a ∷ [] ≡ in_common (take (n + 1) acts)
-  more =
-      sym (map-append Common (take n acts) (a ∷ []))
-      ∙ ap (λ x. map Common (take n acts ++ x ∷ [])) is
-      ∙ ap (map Common) (sym (take_more acts n a within))
+  more : take n acts ++ a ∷ [] ≡ take (n + 1) acts
+  more = ap (λ x. take n acts ++ x ∷ []) is ∙ sym (take_more acts n a within)
 
   -- what is kept is of as many acts as the number
   pub kept_at : IsKeptAt (pids_of streams) n kept.processes
   kept_at =
       subst (λ k. IsKeptAt (pids_of streams) k kept.processes) (many acts n within) p.processes
 
-  pub stuck_at : node_step s (Common a) ≡ None → IsStopOnNode streams (take (n + 1) acts) stop.Stuck
+  pub stuck_at : node_step s a ≡ None → IsStopOnNode streams (take (n + 1) acts) stop.Stuck
   stuck_at none =
       subst (λ xs. node_run (pids_of streams) xs ≡ None) more
-      (stuck_more streams p.rising (in_common (take n acts)) s kept.counts.items p.passed (Common a)
-      none)
+      (stuck_more streams p.rising (take n acts) s kept.counts.items p.passed a none)
 
-  pub undone_at : (f : StepFault) → IsUndone s (Common a) f
+  pub undone_at : (f : StepFault) → IsUndone s a f
       → IsStopOnNode streams (take (n + 1) acts) (stop_by f)
   undone_at fault.Memory is = tt
   undone_at fault.Unknown none = stuck_at none
 
-  pub unlisted_at : AllByRecursion (λ q. pid_eq q (actor a) ≡ false) (pids_of streams)
+  pub unlisted_at : AllByRecursion (λ q. pid_eq q (node_actor a) ≡ false) (pids_of streams)
       → IsStopOnNode streams (take (n + 1) acts) stop.Stuck
-  unlisted_at apart = stuck_at (no_actor s a (unlisted kept.processes (actor a) kept_at apart))
+  unlisted_at apart =
+      stuck_at (no_actor s a (unlisted kept.processes (node_actor a) kept_at apart))
 
   module _ (told : Option Event) (new : Processes) (place : ℕ) (me : Pid)
       (done : IsDone (pids_of streams) n a told kept.processes new)
-      (at : slice_get (pids_of streams) place ≡ Some me) (own : actor a ≡ me) where
+      (at : slice_get (pids_of streams) place ≡ Some me) (own : node_actor a ≡ me) where
     -- it passes
     pub passes_at : (later : Progress) → later.processes ≡ new
         → later.counts.items ≡ counts_after kept.counts.items place told
@@ -105,12 +111,12 @@ module _ (streams : List Stream) (acts : List Act) (n : ℕ) (a : Act) (kept : P
           subst (λ xs. IsPassedOnNode streams xs (kept_state (pids_of streams) later.processes)
           later.counts.items) more
           (subst (λ (y : Processes).
-          IsPassedOnNode streams (in_common (take n acts) ++ Common a ∷ [])
+          IsPassedOnNode streams (take n acts ++ a ∷ [])
           (kept_state (pids_of streams) y) later.counts.items) (sym same)
-          (subst (IsPassedOnNode streams (in_common (take n acts) ++ Common a ∷ [])
+          (subst (IsPassedOnNode streams (take n acts ++ a ∷ [])
           (kept_state (pids_of streams) new)) (sym counts)
-          (passed_more streams p.rising (in_common (take n acts)) s kept.counts.items p.passed
-          (Common a) told (kept_state (pids_of streams) new) done.step place me at own next)));
+          (passed_more streams p.rising (take n acts) s kept.counts.items p.passed
+          a told (kept_state (pids_of streams) new) done.step place me at own next)));
       processes =
           subst (λ k. IsKeptAt (pids_of streams) k later.processes)
           (sym (length-take-le (n + 1) acts (omega arith)))
@@ -123,8 +129,8 @@ module _ (streams : List Stream) (acts : List Act) (n : ℕ) (a : Act) (kept : P
         → IsStopOnNode streams (take (n + 1) acts) stop.Differs
     differs_at other =
         subst (λ xs. IsSome (node_run (pids_of streams) xs) × ¬ PassesOnNode streams xs) more
-        (differs_more streams p.rising (in_common (take n acts)) s kept.counts.items p.passed
-        (Common a) told (kept_state (pids_of streams) new) done.step place me at own other)
+        (differs_more streams p.rising (take n acts) s kept.counts.items p.passed
+        a told (kept_state (pids_of streams) new) done.step place me at own other)
 
 -- THE START
 
@@ -159,40 +165,26 @@ passed_start streams pids kept rising are zero_kept at_zero counts = record {
 
 -- THE VERDICT
 
-common_take : (acts : List Act) (n : ℕ) → in_common (take n acts) ≡ take n (in_common acts)
-common_take acts n = sym (take-map Common n acts)
-
 -- acts pass up to the one that stops
-module _ (streams : List Stream) (acts : List Act) (n : ℕ) (kept : Progress)
+module _ (streams : List Stream) (acts : List NodeAct) (n : ℕ) (kept : Progress)
     (within : n < length acts) (p : HasPassedOnNode streams (take n acts) kept) where
-  within_common : n < length (in_common acts)
-  within_common = let size = length-map acts Common in omega arith
-
-  passes : PassesOnNode streams (take n (in_common acts))
-  passes =
-      subst (PassesOnNode streams) (common_take acts n) (
-        p.passed.outcomes,
-        is_passing streams p.rising (in_common (take n acts))
-            (kept_state (pids_of streams) kept.processes) kept.counts.items p.passed,
-      )
-
-  pub stuck_verdict : IsStopOnNode streams (take (n + 1) acts) stop.Stuck
-      → IsNodeVerdict streams (in_common acts) (verdict.Stuck n)
-  stuck_verdict none = (
-    within_common,
-    passes,
-    subst (λ xs. node_run (pids_of streams) xs ≡ None) (common_take acts (n + 1)) none,
+  passes : PassesOnNode streams (take n acts)
+  passes = (
+    p.passed.outcomes,
+    is_passing streams p.rising (take n acts) (kept_state (pids_of streams) kept.processes)
+        kept.counts.items p.passed,
   )
 
+  pub stuck_verdict : IsStopOnNode streams (take (n + 1) acts) stop.Stuck
+      → IsNodeVerdict streams acts (verdict.Stuck n)
+  stuck_verdict none = (within, passes, none)
+
   pub differs_verdict : IsStopOnNode streams (take (n + 1) acts) stop.Differs
-      → IsNodeVerdict streams (in_common acts) (verdict.Differs n)
-  differs_verdict differs =
-      let other = subst (λ xs. IsSome (node_run (pids_of streams) xs) × ¬ PassesOnNode streams xs)
-      (common_take acts (n + 1)) differs in
-      (within_common, passes, other.0, other.1)
+      → IsNodeVerdict streams acts (verdict.Differs n)
+  differs_verdict differs = (within, passes, differs.0, differs.1)
 
 -- once the loop is through
-module _ (streams : List Stream) (acts : List Act) (kept : Progress) where
+module _ (streams : List Stream) (acts : List NodeAct) (kept : Progress) where
   pub all_passed : (n : ℕ) → length acts ≤ n → HasPassedOnNode streams (take n acts) kept
       → HasPassedOnNode streams acts kept
   all_passed n whole p = subst (λ xs. HasPassedOnNode streams xs kept) (take_all n acts whole) p

@@ -15,7 +15,7 @@ use Rattle.node_check.specs.Steps.{IsNodePart}
 
 pub print_at_part : (r : Process) (p : Pid) (n : Label) (v : ℕ) (t : Token) (l : LocalState)
     (b : List Message) (e : Option Event) → r.local.token ≡ Some t → (t.label.0 == n.0) ≡ true
-    → IsNodePart r (act.Print p v) l b e → IsNodePart r (act.PrintAt p n v) l b e
+    → IsNodePart r (Common (act.Print p v)) l b e → IsNodePart r (Common (act.PrintAt p n v)) l b e
 print_at_part r p n v t l b e is same part =
     let has : has_label n r.local.token ≡ true = ap (has_label n) is ∙ same in
     let acts : node_acted r (Common (act.PrintAt p n v)) ≡ node_acted r (Common (act.Print p v)) =
@@ -28,6 +28,7 @@ print_at_part r p n v t l b e is same part =
 
 -- whose act it is, its part doesn't say
 pub print_of : (r : Process) (p q : Pid) (v : ℕ) (l : LocalState) (b : List Message)
-    (e : Option Event) → IsNodePart r (act.Print p v) l b e → IsNodePart r (act.Print q v) l b e
+    (e : Option Event) → IsNodePart r (Common (act.Print p v)) l b e
+    → IsNodePart r (Common (act.Print q v)) l b e
 print_of r p q v l b e part =
     record { is_local = part.is_local; is_queue = part.is_queue; is_report = part.is_report }

@@ -5,7 +5,6 @@ use Rattle.std.proofs.Common.{slice_get, Option, Some, refl, sym, ◌∙◌, ap,
 use Rattle.std.proofs.lemmas.Bool.{cases_eq}
 use Rattle.std.proofs.lemmas.List.{get_or-set_other, get_or-set_same, get_or_default, length-set}
 use Rattle.std.proofs.lemmas.Option.{slice_get_within}
-use Rattle.st_core.specs.declared.types.Act.{Act}
 use Rattle.st_core.specs.declared.types.Act.TheVariants as act
 use Rattle.st_core.specs.declared.types.Event.{Event}
 use Rattle.st_core.specs.declared.types.Kind.TheVariants as kind
@@ -18,7 +17,7 @@ use Rattle.st_core.specs.State.{LocalState, Process, State}
 use Rattle.st_core.specs.Step.{reached}
 use Rattle.st_core.proofs.ForCallers.{pid_eq-same}
 use Rattle.st_mail.specs.Actor.{process_of}
-use Rattle.node_machine.specs.Node.{Common, after_stamp}
+use Rattle.node_machine.specs.Node.{after_stamp, Common, machine_act, NodeAct}
 use Rattle.node_check.specs.declared.processes.NodeMark.{NodeMark}
 use Rattle.node_check.specs.declared.processes.Processes.{Processes}
 use Rattle.node_check.specs.declared.processes.Row.{Row}
@@ -40,8 +39,8 @@ module _ {pids : List Pid} {number : ℕ} {old x : Processes} (new : Processes) 
     (other : ℕ) (to : Pid) (value : ℕ) (rising : IsRising pids)
     (at : slice_get pids place ≡ Some me) (to_at : slice_get pids other ≡ Some to)
     (ready : IsRefreshed pids number place me old x) (to_fresh : IsFresh x other to) where
-  abbrev pub a : Act
-  a = act.Send me to value
+  abbrev pub a : NodeAct
+  a = Common (act.Send me to value)
 
   abbrev pub marks : List NodeMark
   marks = x.nodes.items
@@ -131,7 +130,7 @@ module _ {pids : List Pid} {number : ℕ} {old x : Processes} (new : Processes) 
       ready.kept.queues_len)) rising
 
   abbrev pub reach : Process → Process
-  reach = reached a stamped.token
+  reach = reached (machine_act a) stamped.token
 
   reaches : map reach between ≡ set between other (record second { queue = more })
   reaches =
@@ -167,7 +166,7 @@ module _ {pids : List Pid} {number : ℕ} {old x : Processes} (new : Processes) 
         let step = step_is (kept_state pids x) place first a first_rising first_at refl to_first
         receiver_there (kept_state pids new) leads in
         record {
-          step = subst (λ s. IsStepOnNode s (Common a) told (kept_state pids new)) ready.same step;
+          step = subst (λ s. IsStepOnNode s a told (kept_state pids new)) ready.same step;
           kept = kept_after (number + 1) new place row2 ready.kept (omega arith)
               (slice_get_within pids place me at) (omega arith) rows
               (ap length queues ∙ length-set x.queues.boxes other more) nodes;

@@ -15,6 +15,7 @@ use Rattle.st_core.specs.Pid.{IsRising, node_eq}
 use Rattle.st_core.specs.State.{LocalState, Process, State, process}
 use Rattle.st_core.specs.Step.{reached, untraced}
 use Rattle.st_mail.specs.Actor.{process_of}
+use Rattle.node_machine.specs.Node.{Common}
 use Rattle.node_check.specs.declared.processes.NodeMark.{NodeMark}
 use Rattle.node_check.specs.declared.processes.Processes.{Processes}
 use Rattle.node_check.specs.declared.processes.Row.{Row}
@@ -203,7 +204,7 @@ module _ {pids : List Pid} {number : ℕ} {old : Processes} (new : Processes) (p
       → new.nodes.items
       ≡ set old.nodes.items me.node
       (record (node_mark_of old.nodes.items me) { reset = number + 1 })
-      → IsDone pids number (act.Reset me) None old new
+      → IsDone pids number (Common (act.Reset me)) None old new
   done_reset node nodes =
       let mark = record (node_mark_of old.nodes.items me) { reset = number + 1 } in
       let len = kept.nodes_len in
@@ -217,7 +218,7 @@ module _ {pids : List Pid} {number : ℕ} {old : Processes} (new : Processes) (p
       let back = ap (map (reached (act.Reset me) first.local.token))
       (set_back s place first first_at) in
       record {
-        step = step_is s place first (act.Reset me) s_rising first_at refl first there
+        step = step_is s place first (Common (act.Reset me)) s_rising first_at refl first there
             (kept_state pids new) (back ∙ sym after);
         kept = marks_kept mark node (omega arith) nodes;
       }
@@ -225,7 +226,7 @@ module _ {pids : List Pid} {number : ℕ} {old : Processes} (new : Processes) (p
   pub done_trace : (on : Bool) → me.node < 2 ^ 16
       → new.nodes.items
       ≡ set old.nodes.items me.node (record (node_mark_of old.nodes.items me) { traced = on })
-      → IsDone pids number (act.Tracer me on) None old new
+      → IsDone pids number (Common (act.Tracer me on)) None old new
   done_trace on node nodes =
       let mark = record (node_mark_of old.nodes.items me) { traced = on } in
       let len = kept.nodes_len in
@@ -239,7 +240,7 @@ module _ {pids : List Pid} {number : ℕ} {old : Processes} (new : Processes) (p
       let back = ap (map (reached (act.Tracer me on) first.local.token))
       (set_back s place first first_at) in
       record {
-        step = step_is s place first (act.Tracer me on) s_rising first_at refl first there
+        step = step_is s place first (Common (act.Tracer me on)) s_rising first_at refl first there
             (kept_state pids new) (back ∙ sym after);
         kept = marks_kept mark node (let early = kept.reset me.node in omega arith) nodes;
       }
@@ -254,7 +255,7 @@ module _ {pids : List Pid} {number : ℕ} {old : Processes} (new : Processes) (p
   pub done_reset_by : (k : ℕ) (m : NodeMark) → k ≡ me.node → k < length old.nodes.items
       → m ≡ get_or old.nodes.items k m
       → new.nodes.items ≡ set old.nodes.items k (record m { reset = number + 1 })
-      → IsDone pids number (act.Reset me) None old new
+      → IsDone pids number (Common (act.Reset me)) None old new
   done_reset_by k m k_is within is nodes =
       let len = kept.nodes_len in
       done_reset (omega arith)
@@ -265,7 +266,7 @@ module _ {pids : List Pid} {number : ℕ} {old : Processes} (new : Processes) (p
   pub done_trace_by : (on : Bool) (k : ℕ) (m : NodeMark) → k ≡ me.node
       → k < length old.nodes.items → m ≡ get_or old.nodes.items k m
       → new.nodes.items ≡ set old.nodes.items k (record m { traced = on })
-      → IsDone pids number (act.Tracer me on) None old new
+      → IsDone pids number (Common (act.Tracer me on)) None old new
   done_trace_by on k m k_is within is nodes =
       let len = kept.nodes_len in
       done_trace on (omega arith)

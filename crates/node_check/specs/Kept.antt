@@ -3,7 +3,6 @@
 -- its queue, are stale, and count as wiped.
 use Rattle.std.specs.Prelude.{◌≡◌, ℕ, ◌+◌, ◌≤◌, ◌^◌, nat_lt, Bool, false, List, [], ◌∷◌, length}
 use Rattle.std.specs.Prelude.{map, if◌then◌else◌, slice_index_or, Option, None}
-use Rattle.st_core.specs.declared.types.Act.{Act}
 use Rattle.st_core.specs.declared.types.Event.{Event}
 use Rattle.st_core.specs.declared.types.Message.{Message}
 use Rattle.st_core.specs.declared.types.Pid.{Pid}
@@ -11,7 +10,7 @@ use Rattle.st_core.specs.Local.{wiped}
 use Rattle.st_core.specs.State.{LocalState, State, zero_local}
 use Rattle.st_core.specs.Step.{untraced}
 use Rattle.st_mail.specs.Actor.{process_of}
-use Rattle.node_machine.specs.Node.{Common, NodeAct, node_step}
+use Rattle.node_machine.specs.Node.{NodeAct, node_step}
 use Rattle.node_check.specs.declared.processes.NodeMark.{NodeMark}
 use Rattle.node_check.specs.declared.processes.Processes.{Processes}
 use Rattle.node_check.specs.declared.processes.Row.{Row}
@@ -77,9 +76,9 @@ pub record IsRefreshed (pids : List Pid) (number place : ℕ) (p : Pid)
   pub others : (j : ℕ) (q : Pid) → IsFresh old j q → IsFresh new j q
 
 -- the act of this number was done: it has a step from the one state to the other
-pub record IsDone (pids : List Pid) (number : ℕ) (a : Act) (report : Option Event)
+pub record IsDone (pids : List Pid) (number : ℕ) (a : NodeAct) (report : Option Event)
     (old new : Processes) : Type 0 where
-  pub step : IsStepOnNode (kept_state pids old) (Common a) report (kept_state pids new)
+  pub step : IsStepOnNode (kept_state pids old) a report (kept_state pids new)
   pub kept : IsKeptAt pids (number + 1) new
 
 -- why an act wasn't done: memory ran out, or it has no step

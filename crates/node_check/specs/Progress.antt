@@ -1,7 +1,6 @@
 -- The tables that are kept while acts pass, and why the next one doesn't.
 use Rattle.std.specs.Prelude.{◌≡◌, ℕ, ◌+◌, ◌<◌, ◌≤◌, IsSome, slice_get, List, [], ◌∷◌, length}
 use Rattle.std.specs.Prelude.{slice_set, slice_index, take, Option, Some, None}
-use Rattle.st_core.specs.declared.types.Act.{Act}
 use Rattle.st_core.specs.declared.types.Event.{Event}
 use Rattle.st_core.specs.declared.types.Pid.{Pid}
 use Rattle.st_core.specs.Pid.{IsRising}
@@ -17,7 +16,7 @@ use Rattle.node_check.specs.declared.progress.Progress.{Progress}
 use Rattle.node_check.specs.declared.progress.Stop.{Stop}
 use Rattle.node_check.specs.declared.progress.Stop.TheVariants as stop
 use Rattle.node_check.specs.Kept.{kept_state, IsKeptAt}
-use Rattle.node_check.specs.Verdict.{in_common, PassesOnNode}
+use Rattle.node_check.specs.Verdict.{PassesOnNode}
 
 -- the state after these outcomes in a row, from s on
 abbrev pub state_behind : State → List Outcome → State
@@ -41,12 +40,12 @@ pub record IsPassedOnNode (streams : List Stream) (acts : List NodeAct) (s : Sta
       → IsMatchedOnNode streams acts outcomes p (slice_index counts k)
 
 -- these acts passed, by what is kept of them
-pub record HasPassedOnNode (streams : List Stream) (acts : List Act) (kept : Progress) : Type 0
-  where
-    pub rising : IsRising (pids_of streams)
-    pub passed : IsPassedOnNode streams (in_common acts) (kept_state (pids_of streams) kept.processes)
-        kept.counts.items
-    pub processes : IsKeptAt (pids_of streams) (length acts) kept.processes
+pub record HasPassedOnNode (streams : List Stream) (acts : List NodeAct)
+    (kept : Progress) : Type 0 where
+  pub rising : IsRising (pids_of streams)
+  pub passed : IsPassedOnNode streams acts (kept_state (pids_of streams) kept.processes)
+      kept.counts.items
+  pub processes : IsKeptAt (pids_of streams) (length acts) kept.processes
 
 -- the report, if there is one, is the event at this index
 abbrev pub IsNextEvent : List Event → ℕ → Option Event → Type 0
@@ -64,11 +63,11 @@ stop_by fault.Memory = stop.Memory
 stop_by fault.Unknown = stop.Stuck
 
 -- why acts whose last one doesn't pass stop there, as far as it shows
-abbrev pub IsStopOnNode : List Stream → List Act → Stop → Type 0
+abbrev pub IsStopOnNode : List Stream → List NodeAct → Stop → Type 0
 IsStopOnNode streams acts stop.Memory = Unit {0}
-IsStopOnNode streams acts stop.Stuck = node_run (pids_of streams) (in_common acts) ≡ None
+IsStopOnNode streams acts stop.Stuck = node_run (pids_of streams) acts ≡ None
 IsStopOnNode streams acts stop.Differs =
-    IsSome (node_run (pids_of streams) (in_common acts)) × ¬ PassesOnNode streams (in_common acts)
+    IsSome (node_run (pids_of streams) acts) × ¬ PassesOnNode streams acts
 
 -- each of the first n processes reported all its events
 abbrev pub NoneIsLeftBefore : List Stream → List ℕ → ℕ → Type 0

@@ -1,27 +1,28 @@
 //! The checker.
 
-ghost use Rattle.std.specs.Prelude.{IfOk};
-ghost use Rattle.node_check.specs.Verdict.{in_common, IsNodeVerdict, RefutesOnNo};
+ghost use Rattle.std.specs.Prelude.{map, IfOk};
+ghost use Rattle.node_check.specs.Verdict.{IsNodeVerdict, RefutesOnNo};
 
+use crate::acts::ToNodeAct;
 use crate::progress::{Progress, Stop};
 use crate::verdict::{NodeCheckFault, NodeVerdict};
-use st_core::{Act, Streams};
+use st_core::Streams;
 use std::alloc::Global;
 
 /// Whether the acts are a run of a standard node from zero clocks in which each process reports
-/// exactly its stream. The answer that `spawn` waits for isn't among them.
+/// exactly its stream.
 ///
 /// Its time grows with the acts, the events and the walks in the queues, whatever resets and tracer
 /// changes there are. It fails only if there is no memory for its tables, some rows a process and
 /// 1 MB for the nodes, or for the message of a send. An index of a long queue takes memory too, and
 /// is done without if there is none.
-pub fn check_node(
+pub fn check_node<A: ToNodeAct>(
     alloc: Global,
     streams: &Streams,
-    acts: &[Act],
+    acts: &[A],
 ) -> Result<NodeVerdict, NodeCheckFault>
-    ensures verdict { IfOk result (IsNodeVerdict streams.now (in_common acts.now)) }
-    ensures refutes { IfOk result (RefutesOnNo streams.now (in_common acts.now)) }
+    ensures verdict { IfOk result (IsNodeVerdict streams.now (map A.on_node acts.now)) }
+    ensures refutes { IfOk result (RefutesOnNo streams.now (map A.on_node acts.now)) }
 {
     let Ok(mut progress) = Progress::new(alloc, streams) else {
         return Err(NodeCheckFault::Memory);

@@ -1,7 +1,8 @@
 //! Counts of a node: a counter has 64 bits, and a serial shows the lowest 60 of them.
 
-ghost use Rattle.std.specs.Prelude.{◌≡◌, option_map};
-ghost use Rattle.node_machine.specs.Counts.{next_clock, node_token, serial_count, stamp_count};
+ghost use Rattle.std.specs.Prelude.{◌≡◌, ◌<◌, ◌^◌, option_map};
+ghost use Rattle.node_machine.specs.Counts.{answer_count, next_clock, node_token, serial_count};
+ghost use Rattle.node_machine.specs.Counts.{stamp_count};
 
 use st_core::{Serial, Token};
 
@@ -10,7 +11,8 @@ const SERIAL_END: u64 = 1 << 60;
 
 /// The part of a number that a serial shows.
 pub(crate) fn shown(number: u64) -> u64
-    ensures { result ≡ serial_count number }
+    ensures value { result ≡ serial_count number }
+    ensures below { result < 2 ^ 60 }
 {
     number % SERIAL_END
 }
@@ -27,6 +29,14 @@ pub(crate) fn count_after(clock: u64) -> u64
     ensures { result ≡ stamp_count clock }
 {
     clock.wrapping_add(1) % SERIAL_END
+}
+
+/// The count that the answer to a spawn leaves, if its serial shows this one.
+pub(crate) fn answer_count(this: u64) -> u64
+    requires { this < 2 ^ 60 }
+    ensures { result ≡ answer_count this }
+{
+    16 * this + 15
 }
 
 /// The token as a node holds it.

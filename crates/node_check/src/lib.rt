@@ -4,6 +4,7 @@
 //! node, and compares what each reports with its stream.
 #![tactic(auto)]
 
+mod acts;
 mod checking;
 mod counts;
 pub mod laws;
@@ -14,5 +15,6 @@ mod progress;
 mod tests;
 mod verdict;
 
+pub use acts::{NodeAct, ToNodeAct};
 pub use checking::check_node;
 pub use verdict::{NodeCheckFault, NodeVerdict};

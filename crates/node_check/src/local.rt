@@ -1,11 +1,14 @@
 //! The tracing state of one process of a standard node, without its queue, and what an act of its
 //! own does to it.
 
-ghost use Rattle.std.specs.Prelude.{◌≡◌, true, List};
+ghost use Rattle.std.specs.Prelude.{◌≡◌, ℕ, true, option_map, List};
 ghost use Rattle.node_check.specs.Steps.{IsNodePart};
-ghost use Rattle.node_machine.specs.Node.{after_put_back, after_set, after_stamp};
+ghost use Rattle.node_machine.specs.Counts.{node_token};
+ghost use Rattle.node_machine.specs.Node.{after_answer, after_put_back, after_set, after_stamp};
+ghost use Rattle.node_machine.specs.Node.{Answer, Common};
 ghost use Rattle.st_core.specs.declared.types.Message.{Message as MessageValue};
 ghost use Rattle.st_core.specs.declared.types.Want.{Want as WantValue};
+ghost use Rattle.st_core.specs.declared.types.Want.TheVariants.{Place};
 ghost use Rattle.st_core.specs.Pick.{pick};
 ghost use Rattle.st_core.specs.Local.{received, wiped};
 ghost use Rattle.st_core.specs.State.{zero_local};
@@ -13,7 +16,7 @@ ghost use Rattle.st_core.specs.Step.{actor};
 ghost use Rattle.st_mail.specs.Actor.{is_inner, process_of};
 ghost use Rattle.st_mail.specs.Mail.{queue_without};
 
-use crate::counts::{clock_after, count_after, held, held_if_any, shown};
+use crate::counts::{answer_count, clock_after, count_after, held, held_if_any, shown};
 use st_core::{Act, Component, Event, Kind, Label, Message, Pid, Serial, Token};
 use st_mail::actor::event;
 use std::marker::Model;
@@ -104,6 +107,16 @@ impl Local {
         self.token = token;
     }
 
+    /// Takes over the counts of the answer to a spawn, if its message had a token. The token stays.
+    fn meet_answer(&mut self, token: Option<Token>)
+        ensures { self.new ≡ after_answer self.old (option_map node_token token) }
+    {
+        if let Some(token) = token {
+            self.clock = answer_count(shown(token.serial.this));
+            self.last = shown(self.clock);
+        }
+    }
+
     /// Sets a component of the token, and makes a token first if there is none.
     fn set(&mut self, me: Pid, component: Component)
         ensures { self.new ≡ after_set me component self.old }
@@ -156,7 +169,7 @@ impl Local {
     /// A print: the stamp, with the flag or without, and its event.
     fn print(&mut self, me: Pid, value: u64) -> Option<Event>
         ensures { (queue : List MessageValue) → IsNodePart (process_of me self.old queue)
-            (Act.Print me value) self.new queue result }
+            (Common (Act.Print me value)) self.new queue result }
     {
         self.stamp(me);
         event(self.traced, Kind::Print, self.token, None, value)
@@ -165,7 +178,7 @@ impl Local {
     /// A print if the token has this label, and else nothing.
     fn print_at(&mut self, me: Pid, label: Label, value: u64) -> Option<Event>
         ensures { (queue : List MessageValue) → IsNodePart (process_of me self.old queue)
-            (Act.PrintAt me label value) self.new queue result }
+            (Common (Act.PrintAt me label value)) self.new queue result }
     {
         let token = self.token;
         match token {
@@ -177,7 +190,7 @@ impl Local {
     /// A receive, for the message that it took with its place. Returns its report.
     pub(crate) fn take(&mut self, me: Pid, taken: Option<(u64, Message)>) -> Option<Event>
         ensures { (queue : List MessageValue) (want : WantValue) → taken ≡ pick want queue
-            → IsNodePart (process_of me self.old queue) (Act.Receive me want) self.new
+            → IsNodePart (process_of me self.old queue) (Common (Act.Receive me want)) self.new
             (queue_without taken queue) result }
     {
         let (_, message) = taken?;
@@ -186,12 +199,29 @@ impl Local {
         event(self.traced, Kind::Receive, token, Some(me), message.value)
     }
 
+    /// The end of a spawn, for the message that it took with its place. Returns its report.
+    pub(crate) fn take_answer(&mut self, me: Pid, taken: Option<(u64, Message)>) -> Option<Event>
+        ensures { (queue : List MessageValue) (at : ℕ) → taken ≡ pick (Place at) queue
+            → IsNodePart (process_of me self.old queue) (Answer me at) self.new
+            (queue_without taken queue) result }
+    {
+        let (_, message) = taken?;
+        self.meet_answer(message.token);
+        event(
+            self.traced,
+            Kind::Receive,
+            held_if_any(message.token),
+            Some(me),
+            message.value,
+        )
+    }
+
     /// An act that leaves all queues: no send, receive, reset or tracer change. Returns its report.
     pub(crate) fn act(&mut self, me: Pid, act: &Act) -> Option<Event>
         requires inner { is_inner act.now ≡ true }
         requires me { actor act.now ≡ me }
-        ensures { (queue : List MessageValue) → IsNodePart (process_of me self.old queue) act.now
-            self.new queue result }
+        ensures { (queue : List MessageValue) → IsNodePart (process_of me self.old queue)
+            (Common act.now) self.new queue result }
     {
         match *act {
             Act::Print(_, value) => self.print(me, value),

@@ -7,7 +7,8 @@ ghost use Rattle.std.specs.Prelude.{◌≡◌, ℕ, ◌<◌, ◌+◌, ◌^◌, t
 ghost use Rattle.std.specs.Prelude.{if◌then◌else◌, replicate, IfErr, IfOk, List, Some};
 ghost use Rattle.node_check.specs.Kept.{kept_state, local_by, no_mark, zero_row, IsKeptAt, IsDone};
 ghost use Rattle.node_check.specs.Kept.{IsRefreshed, IsUndone};
-ghost use Rattle.node_machine.specs.Node.{Common};
+ghost use Rattle.node_check.specs.Acts.{node_act};
+ghost use Rattle.node_machine.specs.Node.{Answer, Common, node_actor};
 ghost use Rattle.st_core.specs.declared.types.Pid.{Pid as PidValue};
 ghost use Rattle.st_core.specs.Pid.{IsRising};
 ghost use Rattle.st_core.specs.Run.{pids_of};
@@ -16,6 +17,7 @@ ghost use Rattle.st_core.specs.Step.{actor, untraced};
 ghost use Rattle.st_mail.specs.Actor.{is_inner};
 ghost use Rattle.st_mail.specs.Mail.{queue_in};
 
+use crate::acts::NodeAct;
 use crate::local::Local;
 use st_core::{Act, Event, Kind, Message, Pid, Streams, Want};
 use st_mail::Mailboxes;
@@ -160,7 +162,7 @@ impl Processes {
         requires me { actor act.now ≡ me }
         ensures { (pids : List PidValue) → IsRising pids → IsKeptAt pids number self.old
             → slice_get pids place ≡ Some me
-            → IsDone pids number act.now result self.old self.new }
+            → IsDone pids number (Common act.now) result self.old self.new }
     {
         self.refresh(place, me, number);
         self.rows[place].local.act(me, act)
@@ -173,11 +175,25 @@ impl Processes {
         requires nodes { length self.old.nodes.items ≡ 2 ^ 16 }
         ensures { (pids : List PidValue) → IsRising pids → IsKeptAt pids number self.old
             → slice_get pids place ≡ Some me
-            → IsDone pids number (Act.Receive me want.now) result self.old self.new }
+            → IsDone pids number (Common (Act.Receive me want.now)) result self.old self.new }
     {
         self.refresh(place, me, number);
         let taken = self.queues.take(place, want);
         self.rows[place].local.take(me, taken)
+    }
+
+    /// The end of a spawn, which takes the answer from this place of the queue. Returns its report.
+    fn answer(&mut self, place: usize, me: Pid, number: u64, at: u64) -> Option<Event>
+        requires rows { place < length self.old.rows.items }
+        requires queues { place < length self.old.queues.boxes }
+        requires nodes { length self.old.nodes.items ≡ 2 ^ 16 }
+        ensures { (pids : List PidValue) → IsRising pids → IsKeptAt pids number self.old
+            → slice_get pids place ≡ Some me
+            → IsDone pids number (Answer me at) result self.old self.new }
+    {
+        self.refresh(place, me, number);
+        let taken = self.queues.take(place, &Want::Place(at));
+        self.rows[place].local.take_answer(me, taken)
     }
 
     /// A send. Returns its report. The message carries the stamped token.
@@ -198,7 +214,7 @@ impl Processes {
         ensures { IfOk result (λ report. (pids : List PidValue) → IsRising pids
             → IsKeptAt pids number self.old → slice_get pids place ≡ Some me
             → slice_get pids other ≡ Some to
-            → IsDone pids number (Act.Send me to value) report self.old self.new) }
+            → IsDone pids number (Common (Act.Send me to value)) report self.old self.new) }
     {
         self.refresh(other, to, number);
         self.refresh(place, me, number);
@@ -221,10 +237,10 @@ impl Processes {
     /// A reset of the node of `me`.
     fn reset(&mut self, me: Pid, number: u64)
         requires nodes { length self.old.nodes.items ≡ 2 ^ 16 }
-        requires few { number < 2 ^ 63 }
+        requires few { number + 1 < 2 ^ 64 }
         ensures { (pids : List PidValue) (place : ℕ) → IsRising pids → IsKeptAt pids number self.old
             → slice_get pids place ≡ Some me
-            → IsDone pids number (Act.Reset me) None self.old self.new }
+            → IsDone pids number (Common (Act.Reset me)) None self.old self.new }
     {
         self.nodes[usize::from(me.node())].reset = number + 1;
     }
@@ -234,15 +250,15 @@ impl Processes {
         requires nodes { length self.old.nodes.items ≡ 2 ^ 16 }
         ensures { (pids : List PidValue) (place : ℕ) → IsRising pids → IsKeptAt pids number self.old
             → slice_get pids place ≡ Some me
-            → IsDone pids number (Act.Tracer me on) None self.old self.new }
+            → IsDone pids number (Common (Act.Tracer me on)) None self.old self.new }
     {
         self.nodes[usize::from(me.node())].traced = on;
     }
 
-    /// Does the act of this number, whose actor is at this place of the pids, and returns its
-    /// report.
+    /// Does the act of this number, one in common with the machine of the manual, whose actor is at
+    /// this place of the pids. Returns its report.
     #[inline]
-    pub(crate) fn step(
+    fn common_step(
         &mut self,
         streams: &Streams,
         place: usize,
@@ -252,9 +268,9 @@ impl Processes {
         requires rising { IsRising (pids_of streams.now) }
         requires kept { IsKeptAt (pids_of streams.now) number self.old }
         requires at { slice_get (pids_of streams.now) place ≡ Some (actor act.now) }
-        requires few { number < 2 ^ 63 }
-        ensures done { IfOk result (λ report. IsDone (pids_of streams.now) number act.now report
-            self.old self.new) }
+        requires few { number + 1 < 2 ^ 64 }
+        ensures done { IfOk result (λ report. IsDone (pids_of streams.now) number (Common act.now)
+            report self.old self.new) }
         ensures undone { IfErr result
             (IsUndone (kept_state (pids_of streams.now) self.old) (Common act.now)) }
     {
@@ -283,6 +299,31 @@ impl Processes {
             | Act::Clear(me)
             | Act::Restore(me, _)
             | Act::Look(me) => Ok(self.inner(place, me, number, act)),
+        }
+    }
+
+    /// Does the act of this number, whose actor is at this place of the pids. Returns its report.
+    #[inline]
+    pub(crate) fn step(
+        &mut self,
+        streams: &Streams,
+        place: usize,
+        number: u64,
+        act: &NodeAct,
+    ) -> Result<Option<Event>, StepFault>
+        requires rising { IsRising (pids_of streams.now) }
+        requires kept { IsKeptAt (pids_of streams.now) number self.old }
+        requires at { slice_get (pids_of streams.now) place
+            ≡ Some (node_actor (node_act act.now)) }
+        requires few { number + 1 < 2 ^ 64 }
+        ensures done { IfOk result (λ report. IsDone (pids_of streams.now) number
+            (node_act act.now) report self.old self.new) }
+        ensures undone { IfErr result
+            (IsUndone (kept_state (pids_of streams.now) self.old) (node_act act.now)) }
+    {
+        match *act {
+            NodeAct::Common(act) => self.common_step(streams, place, number, &act),
+            NodeAct::Answer(me, at) => Ok(self.answer(place, me, number, at)),
         }
     }
 }

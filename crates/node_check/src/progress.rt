@@ -1,16 +1,18 @@
 //! Acts that pass one by one: the state that they lead to, and how far each stream was matched.
 
-ghost use Rattle.std.specs.Prelude.{◌≡◌, ◌<◌, ◌+◌, ◌↔◌, [], length, slice_get, slice_index, take};
+ghost use Rattle.std.specs.Prelude.{◌≡◌, ◌<◌, ◌+◌, ◌^◌, ◌↔◌, [], length, map, slice_get};
+ghost use Rattle.std.specs.Prelude.{slice_index, take};
 ghost use Rattle.std.specs.Prelude.{IsTrue, IfErr, IfNone, IfOk, IfSome, List, OnOk, Some};
 ghost use Rattle.node_check.specs.Progress.{counts_after, stop_by, HasPassedOnNode, IsLeftAt};
 ghost use Rattle.node_check.specs.Progress.{IsNextEvent, IsStopOnNode, NoneIsLeftBefore};
-ghost use Rattle.node_check.specs.Verdict.{in_common, IsNodeVerdict};
-ghost use Rattle.st_core.specs.declared.types.Act.{Act as ActValue};
+ghost use Rattle.node_check.specs.Verdict.{IsNodeVerdict};
+ghost use Rattle.node_machine.specs.Node.{NodeAct as NodeActValue};
 ghost use Rattle.st_core.specs.Run.{pids_of};
 
+use crate::acts::ToNodeAct;
 use crate::processes::{Processes, StepFault};
 use crate::verdict::NodeVerdict;
-use st_core::{Act, Event, Pid, Streams};
+use st_core::{Event, Pid, Streams};
 use std::alloc::{AllocError, Global};
 
 /// The state of a check while acts pass.
@@ -93,24 +95,27 @@ impl Progress {
 
     /// Takes the act of this number if it passes.
     #[inline]
-    pub(crate) fn advance(
+    pub(crate) fn advance<A: ToNodeAct>(
         &mut self,
         streams: &Streams,
-        acts: &[Act],
+        acts: &[A],
         number: usize,
     ) -> Result<(), Stop>
         requires within { number < length acts.now }
-        requires passed { HasPassedOnNode streams.now (take number acts.now) self.old }
+        requires few { number + 1 < 2 ^ 64 }
+        requires passed { HasPassedOnNode streams.now (take number (map A.on_node acts.now))
+            self.old }
         ensures passed { OnOk result
-            (HasPassedOnNode streams.now (take (number + 1) acts.now) self.new) }
-        ensures stop { IfErr result (IsStopOnNode streams.now (take (number + 1) acts.now)) }
+            (HasPassedOnNode streams.now (take (number + 1) (map A.on_node acts.now)) self.new) }
+        ensures stop { IfErr result
+            (IsStopOnNode streams.now (take (number + 1) (map A.on_node acts.now))) }
     {
-        let act = &acts[number];
+        let act = acts[number].to_node_act();
         let me = act.actor();
         let Some(place) = streams.place_of(me) else {
             return Err(Stop::Stuck);
         };
-        let report = match self.processes.step(streams, place, number as u64, act) {
+        let report = match self.processes.step(streams, place, number as u64, &act) {
             Ok(report) => report,
             Err(fault) => return Err(stop_by(fault)),
         };
@@ -140,8 +145,8 @@ impl Progress {
     /// The verdict of the acts so far.
     pub(crate) fn verdict(&self, streams: &Streams) -> NodeVerdict
         requires { length self.now.counts.items ≡ length (pids_of streams.now) }
-        ensures { (acts : List ActValue) → HasPassedOnNode streams.now acts self.now
-            → IsNodeVerdict streams.now (in_common acts) result }
+        ensures { (acts : List NodeActValue) → HasPassedOnNode streams.now acts self.now
+            → IsNodeVerdict streams.now acts result }
     {
         match self.first_left(streams) {
             Some(pid) => NodeVerdict::Left(pid),

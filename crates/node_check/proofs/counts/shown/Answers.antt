@@ -1,8 +1,8 @@
--- A serial shows the rest.
+-- A serial shows the rest, which is below the divisor.
 use Rattle.std.proofs.Common.{refl}
 use Rattle.node_machine.specs.Counts.{serial_count}
 use Rattle.node_check.proofs.counts.shown.Goals as goal
 
-pub returns : goal.returns
+pub returns-clause-value : goal.returns-clause-value
 unfolding serial_count
-returns c = refl
+returns-clause-value c = refl
