@@ -1,14 +1,15 @@
 #!/usr/bin/env python3
-"""Compares `seqtool check --node` with the slow model of a standard node on random bundles.
+"""Compares `seqtool check --node`, or gemshowal's, with the slow model of a standard node on random bundles.
 
-    node_checks.py SEQTOOL COUNT [FIRST]
+    node_checks.py PROGRAM COUNT [FIRST]
 
 Each number from FIRST (1) on makes a random run of the node, in which tokens are put back, also
-with counts about to wrap, components are set on no token, and nodes are reset; and five bundles of
-it: as it is, with its acts tampered with, with an event changed, with one dropped, and with its last
-acts dropped. The program
-must write just what the model says. Of 100 numbers or more each verdict must have come."""
+with counts about to wrap, components are set on no token, and nodes are reset; for gemshowal also
+spawns end, which only a text of version 3 has. It makes five bundles: the run as it is, with its
+acts tampered with, with an event changed, with one dropped, and with its last acts dropped. The
+program must say just what the model says. Of 100 numbers or more each verdict must have come."""
 
+import json
 import random
 import subprocess
 import sys
@@ -39,8 +40,24 @@ def unsigned(event):
 
 def step(world, acts, number):
     """Does the act of this number, and returns its report, None if it has none."""
+    word, pid, *rest = acts[number]
+    if word == "answer":
+        one = world.of[model.parse_pid(pid)]
+        return answer(one, lambda: step(world, acts[:number] + [["receive", pid, "place", *rest]], number))
     reports = machine.do_act(world, acts, number, RULES)[1]
     return unsigned(reports[0]) if reports else None
+
+
+def answer(one, receive):
+    """The end of a spawn: a receive that leaves the token, and sets both counts if the message has one."""
+    kept, waiting = replace(one), list(one.queue)
+    report = receive()
+    one.token, one.clock, one.last = kept.token, kept.clock, kept.last
+    taken = next((message for message, left in zip(waiting, [*one.queue, None]) if message is not left), None)
+    if taken and taken[2]:
+        one.clock = 16 * taken[2].this + 15
+        one.last = one.clock % machine.SERIAL
+    return report
 
 
 class NodeRun(Run):
@@ -62,6 +79,15 @@ class NodeRun(Run):
 
     def count(self):
         return self.chosen.choice(COUNTS)
+
+
+class SpawnRun(NodeRun):
+    """One in which spawns end, too: that takes any message."""
+
+    def any_act(self):
+        super().any_act()
+        if self.chosen.random() < 0.2:
+            self.act("answer", self.chosen.choice(self.pids), self.chosen.choice([0, 0, 0, 1]))
 
 
 def verdict(streams, acts):
@@ -98,10 +124,10 @@ def lacking(chosen, streams):
     return streams | {pid: streams[pid][:-1]}
 
 
-def bundles(number):
+def bundles(number, kind):
     """The bundles of a number, each as its streams and its acts."""
     chosen = random.Random(number)
-    run = NodeRun(chosen, number % 2 == 0)
+    run = kind(chosen, number % 2 == 0)
     yield run.streams, run.acts
     yield run.streams, run.tampered()
     yield changed(chosen, run.streams), run.acts
@@ -109,15 +135,37 @@ def bundles(number):
     yield run.streams, run.acts[:chosen.randint(1, len(run.acts))]
 
 
+def ask_seqtool(program, streams, acts):
+    """What the program says of a bundle, with its text."""
+    given = text(model.write(streams, acts)).encode()
+    done = subprocess.run([program, "check", "--node"], input=given, capture_output=True, check=False)
+    return done.returncode, done.stdout.decode().rstrip("\n"), given
+
+
+def ask_gemshowal(program, streams, acts):
+    """The same, of a text of version 3."""
+    shown = {pid: [replace(event, prev=machine.signed(event.prev), this=machine.signed(event.this)) for event in events]
+             for pid, events in streams.items()}
+    given = text(["seqtrace 3", *list(model.write(shown, acts))[1:]]).encode()
+    done = subprocess.run([program, "--json", "check", "--node"], input=given, capture_output=True, check=False)
+    said = json.loads(done.stdout or '{"result": "nothing"}')
+    if said["result"] == "yes":
+        return done.returncode, "yes", given
+    place = f"left {said.get('process')}" if said.get("act") is None else f"differs {said['act']}"
+    return done.returncode, f"{said['result']} {place}", given
+
+
 def compare(program, number):
     """The verdicts of the bundles of a number, which the program gave too."""
+    has_spawns = Path(program).name == "gemshowal"
+    kind, ask = (SpawnRun, ask_gemshowal) if has_spawns else (NodeRun, ask_seqtool)
     said = []
-    for streams, acts in bundles(number):
+    for streams, acts in bundles(number, kind):
+        if has_spawns:
+            streams = {pid: list(map(unsigned, events)) for pid, events in streams.items()}
         wanted = verdict(streams, acts)
-        given = text(model.write(streams, acts)).encode()
-        done = subprocess.run([program, "check", "--node"], input=given, capture_output=True, check=False)
-        got = (done.returncode, done.stdout.decode())
-        assert got == (int(wanted != "yes"), wanted + "\n"), (number, given.decode(), wanted, got)
+        status, got, given = ask(program, streams, acts)
+        assert (status, got) == (int(wanted != "yes"), wanted), (number, given.decode(), wanted, status, got)
         said.append("yes" if wanted == "yes" else " ".join(wanted.split()[:2]))
     return said
 

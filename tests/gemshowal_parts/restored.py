@@ -176,7 +176,10 @@ def written_acts(program):
         said, acts = acts_of(program, given, *options)
         yield Check(f"audit --acts of a trace {name}", None if acts is None and f"No acts are written: {reason}.\n" in said else said)
     said, acts = acts_of(program, SPAWN, terms=SPAWNED)
-    yield Check("audit --acts of a spawn", None if acts is None and "No acts are written: the answer of a spawn has no act.\n" in said else said)
+    is_right = acts and acts.startswith(b"seqtrace 3\n") and b"\nanswer <0.30.0> 0\n" in acts
+    yield Check("audit --acts of a spawn", None if is_right else f"{said}\n{acts}")
+    got = program.run(("check", "--node"), acts or b"")
+    yield Check("check --node of the acts of a spawn", None if got.status == 0 and got.output.startswith(b"yes: ") else str(got))
     said, acts = acts_of(program, SAID[0][1])
     yield Check("audit --acts of a token that was put back", None if acts and b"\nrestore <0.30.0> 1 true true true 0 1 <0.30.0>\nsend " in acts else said)
     if not os.environ.get("SEQTOOL"):

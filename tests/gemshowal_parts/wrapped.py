@@ -3,11 +3,16 @@ out by hand, and random runs of a node, judged by a slow model (`tests/models/sl
 
 import json
 import random
+import subprocess
+import sys
+import tempfile
+from pathlib import Path
 
 import slow_node
 from hostile_use.program import Check
 
 RUNS = 60
+TOP = Path(__file__).resolve().parents[2]
 SERIAL = slow_node.SERIAL
 
 PARENT, CHILD, OTHER = "<0.30.0>", "<0.31.0>", "<0.32.0>"
@@ -113,10 +118,55 @@ def sentences(program):
         got = program.run(("audit", *words), spawn(other=[line("print", 0, 1, OTHER, label=2)]))
         is_right = got.status == 0 and got.output.startswith(said)
         yield Check(f"audit {words[0]} of a wrapped trace", None if is_right else str(got))
-    for words in (("--acts", "acts.txt"), ("--proved",), ("--second",)):
-        got = program.run(("audit", *words), spawn())
-        is_right = got.status == 2 and b"without --acts, --proved" in got.complaint and not got.output
-        yield Check(f"audit {words[0]} of a wrapped trace", None if is_right else str(got))
+    for word in ("--proved", "--second"):
+        got = program.run(("audit", word), spawn())
+        is_right = got.status == 2 and b"without --proved and --second" in got.complaint and not got.output
+        yield Check(f"audit {word} of a wrapped trace", None if is_right else str(got))
+
+
+# How acts of SPAWN with a print after the answer may be changed, and what is refused then.
+ALTERED = (
+    ("nothing", b"", b"", "yes: "),
+    ("the answer as an ordinary receive", b"answer <0.30.0> 0", b"receive <0.30.0> place 0", "no: act 9, line 20: print <0.30.0> 7\n"),
+    ("an answer at another place", b"answer <0.30.0> 0", b"answer <0.30.0> 1", "no: act 9, line 20: print <0.30.0> 7\n"),
+    ("no print", b"\nprint <0.30.0> 7", b"", "no: the acts end, and <0.30.0> has events left\n"),
+    ("an answer without a place", b"answer <0.30.0> 0", b"answer <0.30.0>", ""),
+    ("an answer at no place", b"answer <0.30.0> 0", b"answer <0.30.0> first", ""),
+    ("an answer of nobody", b"answer <0.30.0> 0", b"answer <0.39.0> 0", ""),
+)
+
+
+def checks_of_acts(program):
+    """The acts that `audit` writes are confirmed, and altered ones aren't."""
+    with tempfile.TemporaryDirectory() as folder:
+        file = Path(folder, "acts")
+
+        def acts_of(text):
+            file.unlink(missing_ok=True)
+            got = program.run(("audit", "--acts", file), text)
+            return got, file.read_bytes() if file.exists() else b""
+
+        acts = acts_of(spawn([line("print", 47, 48)]))[1]
+        for what, old, new, wanted in ALTERED:
+            got = program.run(("check", "--node"), acts.replace(old, new, 1))
+            is_right = got.output.decode().startswith(wanted) and got.status == (2 if not wanted else int(wanted != "yes: "))
+            yield Check(f"check --node: {what}", None if is_right else f"{acts}\n{got}")
+        confirmed = answered = 0
+        for seed in range(2 * RUNS):
+            rng = random.Random(9000 + seed)
+            text = slow_node.text(slow_node.streams_of(rng, rng.randint(5, 200), hands_over=seed % 3 == 1, lossy=False)).encode()
+            got, acts = acts_of(text)
+            if got.status or not acts:
+                continue
+            again = program.run(("check", "--node"), acts)
+            confirmed, answered = confirmed + 1, answered + (b"\nanswer " in acts)
+            is_right = again.status == 0 and acts.startswith(text)
+            yield Check(f"audit --acts of the wrapped run {seed}", None if is_right else f"{got}\n{again}")
+        yield Check("audit --acts of wrapped runs, most with answers", None if answered > RUNS else f"{answered} of {confirmed}",
+                    note=f"{answered} of {confirmed}")
+    judge = [sys.executable, "-B", TOP / "tests/node_checks.py", program.path, str(RUNS)]
+    done = subprocess.run(judge, capture_output=True, text=True, check=False)
+    yield Check(f"check --node: {RUNS} random runs in which spawns end", None if done.returncode == 0 else done.stderr)
 
 
 def places(told, *keys):

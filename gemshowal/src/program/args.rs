@@ -39,7 +39,7 @@ pub(crate) enum Command {
     Chart(Chart),
     /// Says whether the acts in a text are a run that reports exactly its events
     #[command(after_help = include_str!("../../help/check.txt"))]
-    Check(Inputs),
+    Check(Check),
     /// Adds the unreported events that a run needs, or says why no run reports the trace
     #[command(after_help = include_str!("../../help/complete.txt"))]
     Complete(Complete),
@@ -89,6 +89,16 @@ pub(crate) struct Inputs {
     /// Traces: NAME (of NAME.seqtrace), a file, or - for standard input, which is read without one
     #[arg(value_name = "NAME", default_value = "-", hide_default_value = true)]
     names: Vec<PathBuf>,
+}
+
+#[derive(clap::Args)]
+pub(crate) struct Check {
+    #[command(flatten)]
+    inputs: Inputs,
+    /// Go by the rules of a standard node, as seqtool check --node does; spawns may end by answer
+    /// PID PLACE
+    #[arg(long)]
+    pub(crate) node: bool,
 }
 
 #[derive(clap::Args)]
@@ -334,7 +344,7 @@ impl Command {
         match self {
             Command::Audit(Audit { inputs, .. })
             | Command::Chart(Chart { inputs, .. })
-            | Command::Check(inputs)
+            | Command::Check(Check { inputs, .. })
             | Command::Complete(Complete { inputs, .. })
             | Command::Explain(inputs)
             | Command::Export(Export { inputs, .. })

@@ -2,17 +2,20 @@
 //! its events, and if not why. They make the run again up to the first act that reports something
 //! else than the trace has, and show the act, the event that was due, the report that came, and the
 //! actor's state before it with the messages that wait. If events are left at the end, they show
-//! the state then.
+//! the state then. `check --node` goes by the rules of a standard node, and shows the act alone.
 
+use crate::input::Input;
 use crate::object::Number;
 use crate::view::count;
 use crate::{Failure, Status, Task};
-use gemshowal::{Act, Came, Event, Kind, LineNumbers, OutOfMemory, Pid, Rerun, State, Text, Token};
-use gemshowal::{Trace, Verdict};
+use gemshowal::{
+    Act, Came, Event, Kind, LineNumbers, NodeAct, NodeTrace, NodeVerdict, OutOfMemory,
+};
+use gemshowal::{Pid, Rerun, State, Text, Token, Trace, Verdict};
 use serde::Serialize;
 use std::collections::VecDeque;
 use std::fmt::{self, Display, Formatter};
-use std::io::Write;
+use std::io::{ErrorKind, Write};
 
 /// The greatest number of a queue's messages that are shown.
 const SHOWN: usize = 10;
@@ -50,6 +53,71 @@ pub(crate) fn run(task: Task<'_>) -> Result<Status, Failure> {
         write!(out, "{found}")?;
     }
     Ok(Status::No)
+}
+
+/// Checks by the rules of a standard node, whose acts may be ends of spawns.
+pub(crate) fn run_on_node(task: Task<'_>) -> Result<Status, Failure> {
+    let Task { json, input, out, .. } = task;
+    let (node, acts) = node_acts(input)?;
+    let acts = acts.ok_or_else(|| Failure::NoActs(input.line_name().into()))?;
+    let lines = node.trace().lines()?;
+    let of_act = |number: u64| {
+        let act = acts.get(number as usize);
+        let process = Text(act.map_or(NOBODY, NodeAct::actor));
+        let line = lines.act_line(number);
+        NodeRefusal { process, act: Some(number), line, text: act.map(Text) }
+    };
+    let refusal = match node.check(&acts)? {
+        NodeVerdict::Yes => None,
+        NodeVerdict::Stuck(number) | NodeVerdict::Differs(number) => Some(of_act(number)),
+        NodeVerdict::Left(pid) => {
+            Some(NodeRefusal { process: Text(pid), act: None, line: None, text: None })
+        }
+    };
+    let (word, status) = if refusal.is_none() { ("yes", Status::Yes) } else { ("no", Status::No) };
+    match refusal {
+        refusal if json => out.report(word, &OnNode { law: "node", refusal })?,
+        Some(refusal) => write!(out, "{refusal}")?,
+        None => writeln!(out, "yes: each process of a standard node reports exactly its events")?,
+    }
+    Ok(status)
+}
+
+/// Reads a text of any version with its acts.
+fn node_acts(input: &mut Input) -> Result<(NodeTrace, Option<Vec<NodeAct>>), Failure> {
+    if input.is_wrapped()? {
+        let read = NodeTrace::read_with_acts(input.bytes()?);
+        return read.map_err(|error| input.refused(error, |_| Err(ErrorKind::Unsupported.into())));
+    }
+    let trace = input.trace()?;
+    let acts = trace.acts().map(|acts| acts.iter().copied().map(NodeAct::Common).collect());
+    Ok((NodeTrace::new(trace, Vec::new()), acts))
+}
+
+#[derive(Serialize)]
+struct OnNode<'a> {
+    law: &'static str,
+    #[serde(flatten)]
+    refusal: Option<NodeRefusal<'a>>,
+}
+
+#[derive(Serialize)]
+struct NodeRefusal<'a> {
+    process: Text<Pid>,
+    act: Option<u64>,
+    line: Option<u64>,
+    text: Option<Text<&'a NodeAct>>,
+}
+
+impl Display for NodeRefusal<'_> {
+    fn fmt(&self, f: &mut Formatter<'_>) -> fmt::Result {
+        let process = self.process;
+        let (Some(number), Some(text)) = (self.act, &self.text) else {
+            return writeln!(f, "no: the acts end, and {process} has events left");
+        };
+        writeln!(f, "no: act {number}{}: {text}", on_line(self.line))?;
+        writeln!(f, "it reports something else than the next event of {process}")
+    }
 }
 
 #[derive(Serialize)]

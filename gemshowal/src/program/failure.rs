@@ -39,8 +39,7 @@ pub(crate) enum Failure {
     #[error("{0}{1}; see gemshowal lint")]
     Faulty(String, String),
     #[error(
-        "the counters of {0} have wrapped: such a trace is audited without --acts, --proved and \
-         --second"
+        "the counters of {0} have wrapped: such a trace is audited without --proved and --second"
     )]
     Wrapped(String),
     #[error("{0}")]

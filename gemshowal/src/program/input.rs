@@ -120,7 +120,7 @@ impl Input {
         read.map_err(|error| self.refused(error, |_| bytes))
     }
 
-    fn refused(
+    pub(crate) fn refused(
         &mut self,
         error: ReadError,
         text: impl FnOnce(&mut Input) -> io::Result<Vec<u8>>,

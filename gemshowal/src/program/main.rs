@@ -65,6 +65,7 @@ struct Task<'a> {
 fn run_on(command: &Command, task: Task<'_>) -> Result<Status, Failure> {
     match command {
         Command::Audit(args) => audit::run(args, task),
+        Command::Check(args) if args.node => check::run_on_node(task),
         Command::Check(_) | Command::Explain(_) => check::run(task),
         Command::Complete(args) => complete::run(args, task),
         Command::Cut(args) => cut::run(args, task),

@@ -4,7 +4,7 @@
 
 use super::judged::{event_at, Judged, Verdict};
 use crate::view::Place;
-use gemshowal::{Act, Component, Event, Flags, Kind, Label, NodeTrace, Pid, Token, Want};
+use gemshowal::{Act, Component, Event, Flags, Kind, Label, NodeAct, NodeTrace, Pid, Token, Want};
 use std::collections::HashMap;
 
 /// Each event was reported, so each token has all flags.
@@ -12,10 +12,14 @@ const FLAGS: Flags = Flags { send: true, receive: true, print: true };
 
 /// Returns why there are no acts for a trace that is judged so, unless there are.
 pub(super) fn missing(node: &NodeTrace, judged: &Judged, is_cut: bool) -> Option<&'static str> {
+    let no_run = if node.is_wrapped() {
+        "no run of exactly these events was found"
+    } else {
+        "the manual's machine has no run of it"
+    };
     let reasons = [
-        (judged.verdict() != Verdict::Fits, "the manual's machine has no run of it"),
+        (judged.verdict() != Verdict::Fits, no_run),
         (is_cut, "the rules were asked of the whole trace"),
-        (node.has_answers(), "the answer of a spawn has no act"),
         (!judged.earlier.is_empty(), "counters go on from before the trace"),
         (judged.found.is_some(), "the run that was found has events that nobody reported"),
     ];
@@ -23,12 +27,12 @@ pub(super) fn missing(node: &NodeTrace, judged: &Judged, is_cut: bool) -> Option
 }
 
 /// Builds the acts for a trace that fits, if nothing is missing for that.
-pub(super) fn of(node: &NodeTrace, judged: &Judged) -> Vec<Act> {
+pub(super) fn of(node: &NodeTrace, judged: &Judged) -> Vec<NodeAct> {
     let pids = node.trace().streams().pids();
     let mut run = Run::new(node, judged);
     // A tracer is one of a whole node.
     let nodes = pids.chunk_by(|one, other| one.node() == other.node());
-    run.acts.extend(nodes.map(|own| Act::Tracer(own[0], true)));
+    nodes.for_each(|own| run.act(Act::Tracer(own[0], true)));
     let mut going: Vec<Pid> = pids.iter().rev().copied().collect();
     while let Some(pid) = going.pop() {
         run.go_on(pid, &mut going);
@@ -47,7 +51,7 @@ struct Run<'a> {
     processes: HashMap<Pid, Process>,
     /// The numbers of sent messages, counted for each receiver.
     numbers: HashMap<Place, usize>,
-    acts: Vec<Act>,
+    acts: Vec<NodeAct>,
 }
 
 #[derive(Debug, Default)]
@@ -106,41 +110,49 @@ impl<'a> Run<'a> {
     fn report(&mut self, place: Place, event: &Event) {
         let pid = place.0;
         if let Some(&token) = self.put_back.get(&place) {
-            self.acts.push(Act::Restore(pid, token));
+            self.act(Act::Restore(pid, token));
             self.process(pid).label = Some(token.label);
         }
-        let act = match (event.kind, event.to) {
-            (Kind::Receive, _) => {
-                let number = self.causes.get(&place).and_then(|send| self.numbers.get(send));
-                let number = number.copied().unwrap_or_default();
-                let process = self.process(pid);
-                process.label = Some(event.label);
-                Act::Receive(pid, Want::Place(process.queue.take(number)))
-            }
+        match (event.kind, event.to) {
+            (Kind::Receive, _) => self.receive(place, event.label),
             (Kind::Send, Some(to)) => {
                 self.set_label(pid, event.label);
                 let number = self.process(to).queue.put();
                 self.numbers.insert(place, number);
-                Act::Send(pid, to, event.value)
+                self.act(Act::Send(pid, to, event.value));
             }
             (Kind::Print | Kind::Send, _) => {
                 self.set_label(pid, event.label);
-                Act::Print(pid, event.value)
+                self.act(Act::Print(pid, event.value));
             }
-        };
-        self.acts.push(act);
+        }
+    }
+
+    fn receive(&mut self, place: Place, label: Label) {
+        let number = self.causes.get(&place).and_then(|send| self.numbers.get(send));
+        let number = number.copied().unwrap_or_default();
+        let at = self.process(place.0).queue.take(number);
+        if self.node.is_answer(place) {
+            self.acts.push(NodeAct::Answer(place.0, at));
+        } else {
+            self.process(place.0).label = Some(label);
+            self.act(Act::Receive(place.0, Want::Place(at)));
+        }
+    }
+
+    fn act(&mut self, act: Act) {
+        self.acts.push(NodeAct::Common(act));
     }
 
     /// Gives the process's token a label, and all flags if it makes that token now.
     fn set_label(&mut self, pid: Pid, label: Label) {
         let before = self.process(pid).label.replace(label);
-        let set = |component| Act::Set(pid, component);
         if before != Some(label) {
-            self.acts.push(set(Component::Label(label)));
+            self.act(Act::Set(pid, Component::Label(label)));
         }
         if before.is_none() {
             let flags = [Component::Send(true), Component::Receive(true), Component::Print(true)];
-            self.acts.extend(flags.map(set));
+            flags.into_iter().for_each(|flag| self.act(Act::Set(pid, flag)));
         }
     }
 

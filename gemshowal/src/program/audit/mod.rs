@@ -21,7 +21,9 @@ use crate::output::Output;
 use crate::times::summary;
 use crate::view::{Kept, View};
 use crate::{causes, Failure, Status, Task};
-use gemshowal::{Act, CertificateError, MessageContent, NodeTrace, OutOfMemory, Trace};
+use gemshowal::{
+    in_common, CertificateError, MessageContent, NodeAct, NodeTrace, OutOfMemory, Trace,
+};
 use judged::{Judged, Verdict};
 use missing::Missing;
 use others::Comparison;
@@ -144,9 +146,9 @@ impl Auditor<'_> {
         if let Some(path) = &self.args.acts {
             self.write_acts(&outcome, acts.as_deref(), path)?;
         }
-        let acts = acts.as_deref();
+        let acts = acts.as_deref().and_then(in_common);
         let name = self.input.line_name();
-        let others = others::ask(self.args, self.view.trace, &outcome, acts, name)?;
+        let others = others::ask(self.args, self.view.trace, &outcome, acts.as_deref(), name)?;
         let audited = self.audited(&outcome)?;
         if self.json {
             report::write(self, audited, &others, out)?;
@@ -225,7 +227,7 @@ impl Auditor<'_> {
     }
 
     /// Builds acts of a standard node, if some are asked for and there is no reason against them.
-    fn node_acts(&self, outcome: &Outcome) -> Option<Vec<Act>> {
+    fn node_acts(&self, outcome: &Outcome) -> Option<Vec<NodeAct>> {
         let judged = outcome.judged.as_ref()?;
         let is_asked = self.args.acts.is_some() || self.args.proved;
         (is_asked && self.no_acts(outcome).is_none()).then(|| acts::of(self.node, judged))
@@ -234,7 +236,7 @@ impl Auditor<'_> {
     fn write_acts(
         &self,
         outcome: &Outcome,
-        acts: Option<&[Act]>,
+        acts: Option<&[NodeAct]>,
         path: &Path,
     ) -> Result<(), Failure> {
         let unkept = |reason| Failure::Unkept(path.display().to_string(), reason);
@@ -244,13 +246,12 @@ impl Auditor<'_> {
             error => Failure::of_acts(error, self.input.line_name()),
         };
         let mut file = match &outcome.said {
-            Said::Never(_) => {
+            Said::Never(_) | Said::Nothing => {
                 let Some(acts) = acts else { return Ok(()) };
                 let mut file = file()?;
-                self.view.trace.write_node_acts(&mut file, acts).map_err(failed)?;
+                self.node.write_acts(&mut file, acts).map_err(failed)?;
                 file
             }
-            Said::Nothing => return Err(Failure::Wrapped(self.input.line_name().into())),
             Said::Fits(fits) => {
                 let trace = outcome.ranked.as_ref().unwrap_or(self.view.trace);
                 let mut file = file()?;
@@ -291,7 +292,8 @@ impl Auditor<'_> {
         if others.is_empty() {
             let is_of_node = audited.outcome.judged.is_some() && !audited.outcome.is_never();
             let is_wrapped = self.node.is_wrapped();
-            writeln!(out, "{}", sentences::not_proved(is_wrapped, is_of_node, no_acts.is_none()))?;
+            let are_common = no_acts.is_none() && !self.node.has_answers();
+            writeln!(out, "{}", sentences::not_proved(is_wrapped, is_of_node, are_common))?;
         }
         others.iter().try_for_each(|other| writeln!(out, "{other}"))?;
         Ok(())
