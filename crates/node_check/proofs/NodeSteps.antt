@@ -38,7 +38,7 @@ module _ (s : State) (i : ℕ) (r : Process) (a : NodeAct) (rising : IsRising (p
   abbrev pub done : Acted
   done = node_acted r a
 
-  -- what reaches a process
+  -- the act at a process that it reaches
   abbrev pub reach : Process → Process
   reach = reached (machine_act a) done.local.token
 

@@ -9,7 +9,7 @@ use st_core::{Act, Pid};
 /// An act of a standard node.
 #[derive(Clone, Copy, Debug, PartialEq, Eq)]
 pub enum NodeAct {
-    /// One that it has in common with the machine of the manual.
+    /// An act that it has in common with the machine of the manual.
     Common(Act),
     /// The end of a `spawn`: the process takes the answer from this place of its queue, and keeps
     /// its token.
