@@ -136,14 +136,14 @@ def bundles(number, kind):
 
 
 def ask_seqtool(program, streams, acts):
-    """What the program says of a bundle, with its text."""
+    """Asks seqtool about a bundle: the status, the words, and the text that it got."""
     given = text(model.write(streams, acts)).encode()
     done = subprocess.run([program, "check", "--node"], input=given, capture_output=True, check=False)
     return done.returncode, done.stdout.decode().rstrip("\n"), given
 
 
 def ask_gemshowal(program, streams, acts):
-    """The same, of a text of version 3."""
+    """Asks gemshowal about a bundle in a text of version 3."""
     shown = {pid: [replace(event, prev=machine.signed(event.prev), this=machine.signed(event.this)) for event in events]
              for pid, events in streams.items()}
     given = text(["seqtrace 3", *list(model.write(shown, acts))[1:]]).encode()

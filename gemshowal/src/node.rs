@@ -5,6 +5,7 @@
 //! that the answer of a spawn is `answer` in place of `'receive'`. So it is rewritten as one of
 //! version 2, which the proved reader then reads. The rewriting isn't proved.
 
+use crate::node_acts::put_plain;
 use crate::{Event, Kind, OutOfMemory, Pid, ReadError, Serial, Text, Trace};
 use memchr::{memchr, memchr_iter};
 use node_given::Way;
@@ -393,7 +394,7 @@ impl Rewritten {
         rewritten.text.extend_from_slice(header.as_bytes());
         for (line, number) in lines(body).zip(2..) {
             match std::str::from_utf8(line).ok().and_then(EventLine::of) {
-                None => rewritten.text.extend_from_slice(line),
+                None => put_plain(line, &mut rewritten.text),
                 Some(event) => {
                     let written = event.write_plain(&mut rewritten.text);
                     written.ok_or(ReadFault::Line(number))?;

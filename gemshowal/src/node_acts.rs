@@ -21,10 +21,8 @@ const ANSWER: &[u8] = b"answer ";
 impl NodeTrace {
     /// Reads a text of version 3, and its acts if it has a list of them.
     pub fn read_with_acts(text: Vec<u8>) -> Result<(NodeTrace, Option<Vec<NodeAct>>), ReadError> {
-        let (plain, answers) = without_answers(&text);
-        drop(text);
-        let node = NodeTrace::read(plain)?;
-        let mut answers = answers.into_iter().peekable();
+        let mut answers = answer_numbers(&text).into_iter().peekable();
+        let node = NodeTrace::read(text)?;
         let node_act = |(act, number): (&Act, u64)| match *act {
             Act::Receive(pid, Want::Place(place)) if answers.next_if_eq(&number).is_some() => {
                 NodeAct::Answer(pid, place)
@@ -91,25 +89,24 @@ pub fn in_common(acts: &[NodeAct]) -> Option<Vec<Act>> {
     acts.iter().map(common).collect()
 }
 
-/// Returns the text with each end of a spawn as a receive, and the numbers of these acts.
-fn without_answers(text: &[u8]) -> (Vec<u8>, Vec<u64>) {
-    let lines: Vec<&[u8]> = text.split_inclusive(|&byte| byte == b'\n').collect();
-    let first = lines.iter().position(|&line| line == ACTS).map_or(lines.len(), |at| at + 1);
-    let mut plain = lines[..first].concat();
-    let mut answers = Vec::new();
-    for (line, number) in lines[first..].iter().zip(0..) {
-        let words = line.strip_prefix(ANSWER);
-        let space = words.and_then(|words| words.iter().rposition(|&byte| byte == b' '));
-        match words.zip(space) {
-            Some((words, space)) => {
-                let (pid, place) = words.split_at(space);
-                plain.extend([b"receive ", pid, b" place", place].concat());
-                answers.push(number);
-            }
-            None => plain.extend_from_slice(line),
+/// Returns the numbers of the acts that are ends of spawns.
+fn answer_numbers(text: &[u8]) -> Vec<u64> {
+    let lines = text.split_inclusive(|&byte| byte == b'\n');
+    let acts = lines.skip_while(|&line| line != ACTS).skip(1).zip(0..);
+    acts.filter(|(line, _)| line.starts_with(ANSWER)).map(|(_, number)| number).collect()
+}
+
+/// Writes a line that is no event's as version 2 has it: the end of a spawn is a receive there.
+pub(crate) fn put_plain(line: &[u8], text: &mut Vec<u8>) {
+    let words = line.strip_prefix(ANSWER);
+    let space = words.and_then(|words| words.iter().rposition(|&byte| byte == b' '));
+    match words.zip(space) {
+        Some((words, space)) => {
+            let (pid, place) = words.split_at(space);
+            text.extend([b"receive ", pid, b" place", place].concat());
         }
+        None => text.extend_from_slice(line),
     }
-    (plain, answers)
 }
 
 fn write_event(out: &mut impl Write, event: &Event, is_answer: bool) -> io::Result<()> {

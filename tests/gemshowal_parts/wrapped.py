@@ -151,6 +151,9 @@ def checks_of_acts(program):
             got = program.run(("check", "--node"), acts.replace(old, new, 1))
             is_right = got.output.decode().startswith(wanted) and got.status == (2 if not wanted else int(wanted != "yes: "))
             yield Check(f"check --node: {what}", None if is_right else f"{acts}\n{got}")
+        for words in (("audit",), ("why", "-", PARENT, "2")):
+            plain, got = (program.run(words, text) for text in (acts[:acts.index(b"acts\n")], acts))
+            yield Check(f"{words[0]} of a wrapped trace with acts", None if got == plain and not got.status else f"{plain}\n{got}")
         confirmed = answered = 0
         for seed in range(2 * RUNS):
             rng = random.Random(9000 + seed)
