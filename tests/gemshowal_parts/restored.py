@@ -12,8 +12,12 @@ from pathlib import Path
 import slow_node
 import wrapped
 from hostile_use.program import Answer, Check, Program
+from linted import in_time
 
 RUNS = 60
+# How often a token is sought in two texts. The time may grow so much more than the text does; a time is at least the seconds
+# that a start of the program may take.
+GROWING, MOST_GROWTH, LEAST_SECONDS = (8_000, 32_000), 2, 0.05
 CLIENT, SERVER = "<0.30.0>", "<0.31.0>"
 
 
@@ -201,6 +205,22 @@ def written_acts(program):
         yield Check(f"audit --acts of the run {seed}", None if is_right else f"{told['headline']}\n{said}\n{got}")
     yield Check("audit --acts of runs with tokens put back and handed over", None if judged > RUNS // 2 and handed else f"{judged}, {handed}",
                 note=f"{judged} runs, {handed} with tokens handed over")
+
+
+def sought_tokens(count):
+    """A client that looks for a token again and again of which it is itself an end each time: it prints what nothing gives,
+    and the server sends it that token again and again."""
+    sought = [line("print", 0, 2, value=n) for n in range(count)]
+    sent = [line("send", 0, 1, SERVER, CLIENT, n) for n in range(count)]
+    sends, receives = line("send", 0, 3, value=count), line("'receive'", 0, 3, value=count)
+    return trace([*sought, sends, line("print", 0, 2, value=count), *(it.replace("send", "'receive'") for it in sent)], [receives, *sent])
+
+
+def growth(program):
+    """The time for a token that only its own process had grows as the text does."""
+    least = [min(in_time(program, ("audit", "--json"), sought_tokens(count))[1] for _ in range(3)) for count in GROWING]
+    is_right = least[1] < MOST_GROWTH * GROWING[1] / GROWING[0] * max(least[0], LEAST_SECONDS)
+    yield Check("audit of tokens that are looked for", None if is_right else str(least), note=f"{least[1]:.1f} s for {3 * GROWING[1]:,} events")
 
 
 def partial_runs(program):

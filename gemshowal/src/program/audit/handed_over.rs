@@ -47,19 +47,49 @@ pub(super) fn had_elsewhere(trace: &NodeTrace, stamps: &[Place]) -> HashMap<Plac
     if stamps.is_empty() {
         return HashMap::new();
     }
-    let mut wanted: HashMap<Token, Vec<Place>> = HashMap::new();
-    for (&place, event) in stamps.iter().filter_map(|it| Some((it, event_at(trace, *it)?))) {
-        wanted.entry(token_before(&event)).or_default().push(place);
-    }
-    let mut found = HashMap::new();
+    let token = |&place: &Place| Some(token_before(&event_at(trace, place)?));
+    let mut holders: HashMap<Token, Holders> =
+        stamps.iter().filter_map(token).map(|token| (token, Holders::default())).collect();
     for (of, event) in trace.trace().events() {
         let token = (Some(event.label.0), event.serial.prev, event.serial.this);
-        let Some(wanting) = wanted.get_mut(&token) else { continue };
-        let is_own = |it: &Place| it.0 == of.0 || it.0 == event.from;
-        found.extend(wanting.iter().filter(|it| !is_own(it)).map(|&place| (place, of)));
-        wanting.retain(is_own);
+        if let Some(holders) = holders.get_mut(&token) {
+            holders.note(of, [of.0, event.from]);
+        }
     }
-    found
+    let holder = |place| holders.get(&token(place)?)?.of_others(place.0);
+    stamps.iter().filter_map(|place| Some((*place, holder(place)?))).collect()
+}
+
+/// The first events that have a token. Each has two ends, and a process asks for one of which it is
+/// none.
+#[derive(Debug, Default)]
+struct Holders {
+    first: Option<(Place, [Pid; 2])>,
+    /// For each end of the first one the first event of which that is none.
+    others: [Option<Place>; 2],
+}
+
+impl Holders {
+    fn note(&mut self, place: Place, ends: [Pid; 2]) {
+        let Some((_, of_first)) = self.first else {
+            self.first = Some((place, ends));
+            return;
+        };
+        for (other, end) in self.others.iter_mut().zip(of_first) {
+            if !ends.contains(&end) {
+                other.get_or_insert(place);
+            }
+        }
+    }
+
+    /// Returns the first event of which this process is no end.
+    fn of_others(&self, pid: Pid) -> Option<Place> {
+        let (first, ends) = self.first?;
+        match ends.iter().position(|&end| end == pid) {
+            None => Some(first),
+            Some(at) => self.others[at],
+        }
+    }
 }
 
 /// Returns the token that a stamp made this of.
@@ -136,8 +166,8 @@ struct Walk<'a> {
 /// The events that had a token, and the processes that wait for one.
 #[derive(Debug, Default)]
 struct Wanted {
-    had: Vec<Place>,
-    waiting: Vec<Pid>,
+    holders: Holders,
+    waiting: BTreeSet<Pid>,
 }
 
 impl<'a> Walk<'a> {
@@ -172,8 +202,10 @@ impl<'a> Walk<'a> {
                 if let Some(wanted) =
                     self.tokens.get_mut(&(label, event.serial.prev, event.serial.this))
                 {
-                    wanted.had.push(place);
-                    going.append(&mut wanted.waiting);
+                    // A process's own messages don't hand it a token, nor do those to it: it
+                    // reports their receives.
+                    wanted.holders.note(place, [event.from, event.to.unwrap_or(event.from)]);
+                    going.extend(std::mem::take(&mut wanted.waiting));
                 }
             }
         }
@@ -188,13 +220,8 @@ impl<'a> Walk<'a> {
         }
         let Some(&token) = self.wanted.get(&place) else { return false };
         let wanted = self.tokens.entry(token).or_default();
-        // Its own messages don't hand it a token, nor do those to it: it reports their receives.
-        let is_of_others = |&&of: &&Place| {
-            let event = event_at(self.trace, of);
-            event.is_some_and(|event| event.from != place.0 && event.to != Some(place.0))
-        };
-        let Some(&of) = wanted.had.iter().find(is_of_others) else {
-            wanted.waiting.push(place.0);
+        let Some(of) = wanted.holders.of_others(place.0) else {
+            wanted.waiting.insert(place.0);
             self.stuck.insert(place);
             return true;
         };
