@@ -1,23 +1,25 @@
 //! Says what each event of a trace follows on a standard node, and how sure that is, with the
 //! events that `complete` adds.
 //!
-//! Nothing is found here. What a reported event follows comes from the proved hops, or, where a
-//! token was put back, from the proved origins. Where these stop at an event that wasn't reported,
-//! the hops of the completed trace go on, which say what is so in one run of several: so that is
-//! said with `perhaps`.
+//! What a reported event follows comes from the proved hops, or, where a token was put back, from
+//! the proved origins. Where these stop at an event that wasn't reported, the hops of the completed
+//! trace go on, which say what is so in one run of several: so that is said with `perhaps`. The
+//! completion puts no token back, so nothing is said where a known token may have been.
 
 use crate::audit;
-use crate::messages::{Found, LabelUse, Messages, Source, Sources};
+use crate::messages::{before, last_of_answer, Found, LabelUse, Messages, Source, Sources};
 use crate::names::Names;
 use crate::reason::paired;
 use crate::view::{Kept, Place, Shown, View};
 use crate::Failure;
 use gemshowal::{Answer, Event, EventOrigins, Item, Kind, Never, NodeHop, NodeHops, NodePremises};
-use gemshowal::{Origins, OutOfMemory, Paired, Partner, Pid, ProcessHops, StampOrigin, Trace, Way};
+use gemshowal::{
+    Origins, OutOfMemory, Paired, Partner, Pid, ProcessHops, Serial, StampOrigin, Trace, Way,
+};
 use std::alloc::{handle_alloc_error, Layout};
 use std::borrow::Cow;
-use std::cell::RefCell;
-use std::collections::HashMap;
+use std::cell::{OnceCell, RefCell};
+use std::collections::{HashMap, HashSet};
 
 #[derive(Clone, Copy, Debug, PartialEq, Eq)]
 pub(crate) enum Grade {
@@ -117,10 +119,14 @@ pub(crate) struct Link {
     /// The event of its process since which its counters were moved unseen, or the beginning, if
     /// its counts show that. Its tokens may tell the cause nevertheless.
     pub(crate) moved: Option<Option<Item>>,
+    /// Tells whether no known token can have given it. Where one can, it may rather have been put
+    /// back than a receive not reported.
+    lacks_token: bool,
 }
 
 impl Link {
-    const UNKNOWN: Link = Link { cause: Cause::Unknown, grade: Grade::Certain, moved: None };
+    const UNKNOWN: Link =
+        Link { cause: Cause::Unknown, grade: Grade::Certain, moved: None, lacks_token: false };
 
     fn of(hop: NodeHop, place: Place) -> Link {
         let hop = if is_sent_later(hop, place) { NodeHop::Unsent } else { hop };
@@ -129,7 +135,7 @@ impl Link {
             Cause::Moved(since) => Some(since),
             _ => None,
         };
-        Link { cause, grade: Grade::of(hop), moved }
+        Link { cause, grade: Grade::of(hop), moved, lacks_token: false }
     }
 
     /// Returns this link as the messages to its process tell it, if they do.
@@ -208,6 +214,7 @@ pub(crate) struct Links<'a> {
     hops: ProcessHops<'a>,
     /// The messages, if no receive was reported.
     messages: Option<Messages<'a>>,
+    tokens: OnceCell<HashSet<(u32, u64, u64)>>,
     found: RefCell<HashMap<Pid, Vec<Link>>>,
 }
 
@@ -218,8 +225,8 @@ impl<'a> Links<'a> {
         is_answer: impl Fn(Place) -> bool + 'a,
     ) -> Result<Links<'a>, OutOfMemory> {
         let (hops, messages) = (ProcessHops::of(trace.streams())?, Messages::of(trace, names));
-        let (is_answer, found) = (Box::new(is_answer), RefCell::default());
-        Ok(Links { trace, is_answer, hops, messages, found })
+        let (is_answer, tokens, found) = (Box::new(is_answer), OnceCell::new(), RefCell::default());
+        Ok(Links { trace, is_answer, hops, messages, tokens, found })
     }
 
     pub(crate) fn of_view(view: &View<'a>) -> Result<Links<'a>, OutOfMemory> {
@@ -247,12 +254,46 @@ impl<'a> Links<'a> {
         let mut links = self.by_hops(pid)?;
         let events = self.trace.streams().events(pid);
         Tokens::refine(pid, events, |index| (self.is_answer)((pid, index)), &mut links)?;
+        if links.iter().any(|link| matches!(link.cause, Cause::Moved(_))) {
+            self.note_lacks(events, &mut links);
+        }
         for found in self.messages.iter().flat_map(|messages| messages.found(pid)) {
             if let Some(link) = links.get_mut(found.index as usize) {
                 *link = link.by_messages(found);
             }
         }
         Ok(links)
+    }
+
+    /// Notes which sends and prints no known token can have given. Their process can have had their
+    /// prev as its last by no event before (0, an earlier prev, the count of a receive, or what the
+    /// answer of a spawn leaves), and no process had the token that they succeed.
+    fn note_lacks(&self, events: &[Event], links: &mut [Link]) {
+        let mut lasts = HashSet::from([0]);
+        let mut row = None;
+        for (event, link) in events.iter().zip(links) {
+            let Serial { prev, this } = event.serial;
+            if event.kind == Kind::Receive {
+                lasts.extend([prev, this, last_of_answer(this)]);
+                row = None;
+                continue;
+            }
+            let is_new = lasts.insert(prev);
+            link.lacks_token = match row {
+                Some((of_row, lacks_token)) if of_row == prev => lacks_token,
+                _ => is_new && !self.tokens().contains(&(event.label.0, prev, before(this))),
+            };
+            row = Some((prev, link.lacks_token));
+        }
+    }
+
+    /// Returns the label, prev and count of each token that the events show.
+    fn tokens(&self) -> &HashSet<(u32, u64, u64)> {
+        self.tokens.get_or_init(|| {
+            let events = self.trace.events();
+            let tokens = events.map(|(_, it)| (it.label.0, it.serial.prev, it.serial.this));
+            tokens.collect()
+        })
     }
 
     /// Returns the link of the event at this place. If memory runs out, the program ends, as it
@@ -315,7 +356,7 @@ impl Tokens {
         let cause = if is_asked { self.cause(place) } else { None };
         // An answer that moved them is an event.
         let moved = own.moved.filter(|_| self.is_put_back);
-        cause.map_or(own, |cause| Link { cause, grade: OWN_TOKENS, moved })
+        cause.map_or(own, |cause| Link { cause, grade: OWN_TOKENS, moved, ..own })
     }
 
     /// Returns the cause of a send or print, if the tokens that its process had tell it.
@@ -522,7 +563,9 @@ impl<'a> Causes<'a> {
         let is_send = matches!(own.cause, Cause::After(_));
         match self.completed_cause(item).filter(|_| own.cause.is_open()) {
             Some(cause @ Cause::After(_)) if is_send => Link { cause, ..own },
-            Some(cause @ Cause::After(_)) => Link { cause, grade: Grade::Perhaps, ..own },
+            Some(cause @ Cause::After(_)) if own.lacks_token => {
+                Link { cause, grade: Grade::Perhaps, ..own }
+            }
             _ => Link { cause: own.cause.map(|item| self.in_shown(item)), ..own },
         }
     }

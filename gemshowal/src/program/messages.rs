@@ -202,12 +202,12 @@ impl Mail {
 }
 
 /// Returns the last that the answer of a spawn leaves, if its message has this count.
-fn last_of_answer(this: u64) -> u64 {
+pub(crate) fn last_of_answer(this: u64) -> u64 {
     this.wrapping_mul(16).wrapping_add(15) % COUNTS
 }
 
 /// Returns the count before this one.
-fn before(count: u64) -> u64 {
+pub(crate) fn before(count: u64) -> u64 {
     count.wrapping_sub(1) % COUNTS
 }
 
