@@ -203,6 +203,12 @@ impl Judged {
         part
     }
 
+    /// Returns whether it fits with tokens that were put back or handed over.
+    pub(super) fn puts_back(&self) -> bool {
+        let has_some = !self.put_backs.is_empty() || !self.handed_over.is_empty();
+        has_some && self.verdict() == Verdict::Fits
+    }
+
     pub(super) fn is_unexplained(&self, place: Place) -> bool {
         self.ungiven.contains(&place) || self.unsent.contains(&place)
     }

@@ -246,12 +246,13 @@ impl Auditor<'_> {
             error => Failure::of_acts(error, self.input.line_name()),
         };
         let mut file = match &outcome.said {
-            Said::Never(_) | Said::Nothing => {
+            _ if outcome.judged.is_some() => {
                 let Some(acts) = acts else { return Ok(()) };
                 let mut file = file()?;
                 self.node.write_acts(&mut file, acts).map_err(failed)?;
                 file
             }
+            Said::Never(_) | Said::Nothing => return Ok(()),
             Said::Fits(fits) => {
                 let trace = outcome.ranked.as_ref().unwrap_or(self.view.trace);
                 let mut file = file()?;

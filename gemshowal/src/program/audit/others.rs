@@ -93,6 +93,9 @@ struct Question {
 fn what(outcome: &Outcome) -> &'static str {
     match outcome.said {
         Said::Never(_) if !outcome.is_never() => "That the manual's machine has no run of it",
+        Said::Completed(_) if outcome.judged.is_some() => {
+            "That the manual's machine has a run of it with receives that nobody reported"
+        }
         _ => "This answer",
     }
 }

@@ -5,13 +5,16 @@ use super::missing::Missing;
 use crate::reason::Against;
 use crate::view::{Shown, View};
 use crate::Failure;
-use gemshowal::{Answer, AuditError, CompleteError, Completion, Fits, OutOfMemory, Paired, Trace};
+use gemshowal::{
+    Answer, AuditError, CompleteError, Completion, Event, Fits, Kind, OutOfMemory, Paired, Trace,
+};
 
 pub(super) struct Outcome {
     pub(super) said: Said,
     /// The trace with the ranks of its counts, if acts were found for these alone.
     pub(super) ranked: Option<Trace>,
-    /// The judgement by the rules of a standard node, if no run of the manual's machine was found.
+    /// The judgement by the rules of a standard node, if no run of the manual's machine was found,
+    /// or one with receives that weren't reported in place of tokens that were put back.
     pub(super) judged: Option<Judged>,
 }
 
@@ -25,9 +28,16 @@ pub(super) enum Said {
     Nothing,
 }
 
+/// Returns whether a completion adds receives to a trace in which others were reported.
+fn adds_receives(trace: &Trace, completion: &Completion) -> bool {
+    let is_receive = |event: &Event| event.kind == Kind::Receive;
+    trace.events().any(|(_, event)| is_receive(event))
+        && gemshowal::added(completion).any(|(.., event)| is_receive(&event))
+}
+
 impl Outcome {
-    /// Looks for a run, and if the manual's machine has none asks for the judgement by the rules of
-    /// a standard node.
+    /// Looks for a run, and if the manual's machine has none, or none without receives that weren't
+    /// reported, asks for the judgement by the rules of a standard node.
     pub(super) fn of(
         trace: &Trace,
         is_wrapped: bool,
@@ -35,8 +45,14 @@ impl Outcome {
     ) -> Result<Outcome, Failure> {
         let (said, ranked) =
             if is_wrapped { (Said::Nothing, None) } else { Outcome::by_machine(trace)? };
-        let is_judged = matches!(said, Said::Never(_) | Said::Nothing);
-        let judged = is_judged.then(judged).transpose()?;
+        let judged = match &said {
+            Said::Fits(_) => None,
+            Said::Never(_) | Said::Nothing => Some(judged()?),
+            Said::Completed(completion) if adds_receives(trace, completion) => {
+                Some(judged()?).filter(Judged::puts_back)
+            }
+            Said::Completed(_) => None,
+        };
         Ok(Outcome { said, ranked, judged })
     }
 
@@ -96,11 +112,13 @@ impl Outcome {
     }
 
     pub(super) fn word(&self) -> &'static str {
-        match (&self.said, self.verdict()) {
-            (Said::Completed(_), _) => "completed",
-            (_, Verdict::Fits) => "fits",
-            (_, Verdict::Unexplained) => "unexplained",
-            (_, Verdict::Never) => "never",
+        match (&self.said, &self.judged) {
+            (Said::Completed(_), None) => "completed",
+            _ => match self.verdict() {
+                Verdict::Fits => "fits",
+                Verdict::Unexplained => "unexplained",
+                Verdict::Never => "never",
+            },
         }
     }
 
@@ -113,7 +131,7 @@ impl Outcome {
 
     /// Finds what the trace leaves out of a run of the manual's machine, if that has one.
     pub(super) fn missing(&self, shown: &Shown<'_>) -> Result<Missing, OutOfMemory> {
-        if self.judged.is_some() {
+        if let Said::Never(_) | Said::Nothing = self.said {
             return Ok(Missing::default());
         }
         if matches!(&self.said, Said::Fits(fits) if fits.has_all_ends(shown.view.trace)) {

@@ -50,9 +50,28 @@ impl Sentences<'_> {
             (Said::Never(against), _) if self.outcome.is_never() => {
                 against.headline(self.shown.view)
             }
-            (_, Some(judged)) => of_node(self.node, self.shown.view, judged).headline(),
+            (_, Some(judged)) => {
+                of_node(self.node, self.shown.view, judged).headline() + &self.or_not_received()
+            }
             _ if self.shown.view.trace.streams().total() == 0 => EMPTY.into(),
             _ => format!("fits: {}{}", size(self.shown.view), self.left_out()),
+        }
+    }
+
+    /// Says of a trace in which tokens were put back how many receives may be missing instead.
+    fn or_not_received(&self) -> String {
+        let is_receive = |lack: &&Lack| match **lack {
+            Lack::Added((pid, index), _) => {
+                let event = self.shown.streams.event(pid, index);
+                event.is_some_and(|event| event.kind == Kind::Receive)
+            }
+            Lack::Unreceived(..) => true,
+            Lack::Hidden(_) => false,
+        };
+        match self.missing.lacks.iter().filter(is_receive).count() as u64 {
+            0 => String::new(),
+            1 => ", or 1 receive wasn't reported".into(),
+            more => format!(", or {} weren't reported", count(more, "receive")),
         }
     }
 
@@ -173,7 +192,7 @@ impl Sentences<'_> {
                 return node.write(self.outcome, out);
             }
             node.write(self.outcome, out)?;
-            let Some(against) = against else { return Ok(()) };
+            let Some(against) = against else { return self.write_instead(out) };
             let event = self.shown.event(against.place);
             let word = against.word();
             return write!(
@@ -199,6 +218,14 @@ impl Sentences<'_> {
             )?;
         }
         Ok(())
+    }
+
+    /// Lists what wasn't reported if no token was put back.
+    fn write_instead(&self, out: &mut Output) -> io::Result<()> {
+        let lacks: Vec<&Lack> = self.missing.lacks.iter().collect();
+        let nobody = self.what_nobody_reported();
+        let heading = format!("{nobody} if no token was put back, in the run that was found");
+        self.write_list(out, &heading, &lacks)
     }
 
     fn write_lacks(&self, out: &mut Output) -> io::Result<()> {
