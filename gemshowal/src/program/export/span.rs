@@ -112,7 +112,8 @@ impl<'a> Spans<'a> {
     }
 
     /// Finds the span of a send: to the receive of the reply if that is known, else to the end of
-    /// the work that the message gave. A reply is the end of its call.
+    /// the work that the message gave, or to the last event that follows it. A reply is the end of
+    /// its call.
     fn message(&self, place: Place, event: &Event) -> Option<(About, i64, i64)> {
         let receive = match self.scene.partner(place, event) {
             Partner::Receive(pid, index) => Some((pid, index)),
@@ -124,7 +125,8 @@ impl<'a> Spans<'a> {
         let got = receive.and_then(|receive| self.scene.time(receive));
         let start = self.scene.time(place).or(got)?;
         let work = receive.and_then(|receive| self.works.at(self.scene, receive));
-        let done = work.and_then(|work| self.end(work)).or(got);
+        let follower = || self.scene.time(self.works.follower(place)?);
+        let done = work.and_then(|work| self.end(work)).or(got).or_else(follower);
         let is_call = matches!(role(self.scene, event.value), Some(Role::Request(_)));
         let reply = self.calls.reply(place).and_then(|reply| self.scene.time(reply));
         let about = if is_call { About::Call } else { About::Message };
@@ -150,14 +152,16 @@ impl<'a> Spans<'a> {
     }
 
     /// Returns the span that an event follows directly: for a receive that of its message, for a
-    /// stamp that of the work, and for what follows nothing that of its label.
+    /// stamp that of the work, or of the message if its receive wasn't reported, and for what
+    /// follows nothing that of its label.
     fn natural_parent(&self, place: Place, event: &Event) -> Option<u32> {
-        let before = match self.scene.partner(place, event) {
-            Partner::Send(pid, index) => self.begun((pid, index)),
-            _ => {
-                let work = self.works.at(self.scene, place).filter(|_| event.kind != Kind::Receive);
-                work.and_then(|work| self.begun(work.receive))
-            }
+        let before = match (self.scene.partner(place, event), event.kind) {
+            (Partner::Send(pid, index), _) => self.begun((pid, index)),
+            (_, Kind::Receive) => None,
+            (_, Kind::Send | Kind::Print) => match self.scene.link(place).cause {
+                Cause::Message(send) => self.begun(send.place()),
+                _ => self.works.at(self.scene, place).and_then(|work| self.begun(work.receive)),
+            },
         };
         before.or_else(|| self.labels.get(&event.label.0).copied())
     }

@@ -5,6 +5,7 @@
 //! receive of that reply begins nothing.
 
 use super::scene::{Place, Scene, Table};
+use crate::causes::Cause;
 use gemshowal::{Item, Kind, Pid};
 use std::borrow::Cow;
 use std::collections::HashMap;
@@ -22,11 +23,13 @@ pub(super) struct Work {
 pub(super) struct Works {
     pub(super) all: Vec<Work>,
     of: Table<u32>,
+    /// For each send whose receive wasn't reported the last send or print that follows its message.
+    followers: HashMap<Place, Place>,
 }
 
 impl Works {
     pub(super) fn of(scene: &Scene<'_>, calls: &Calls) -> Works {
-        let mut works = Works { all: Vec::new(), of: Table::of(scene) };
+        let mut works = Works { all: Vec::new(), of: Table::of(scene), followers: HashMap::new() };
         for (place, event) in scene.events() {
             let work = match event.kind {
                 Kind::Receive => works.at_receive(scene, calls, place),
@@ -50,7 +53,11 @@ impl Works {
 
     /// Finds the work that a send or print belongs to: that of the receive that it follows.
     fn at_stamp(&mut self, scene: &Scene<'_>, (pid, index): Place, value: u64) -> Option<u32> {
-        let receive = scene.link((pid, index)).after().map(Item::place)?;
+        let link = scene.link((pid, index));
+        if let Cause::Message(send) = link.cause {
+            self.followers.insert(send.place(), (pid, index));
+        }
+        let receive = link.after().map(Item::place)?;
         let number = self.of.get(scene, receive)?;
         let work = self.all.get_mut(number as usize)?;
         work.last = index;
@@ -62,6 +69,12 @@ impl Works {
             }
         }
         Some(number)
+    }
+
+    /// Returns the last send or print that follows the message of this send, if its receive wasn't
+    /// reported.
+    pub(super) fn follower(&self, send: Place) -> Option<Place> {
+        self.followers.get(&send).copied()
     }
 
     pub(super) fn at(&self, scene: &Scene<'_>, place: Place) -> Option<&Work> {
