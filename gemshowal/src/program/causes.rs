@@ -570,6 +570,20 @@ impl<'a> Causes<'a> {
         }
     }
 
+    /// Returns whether the completion has a receive where a known token may have been put back: then
+    /// the send or print after it isn't said to follow it.
+    pub(crate) fn may_have_put_back(&self) -> bool {
+        let is_stamp = |item| self.event(item).is_some_and(|event| event.kind != Kind::Receive);
+        let is_added = |item| self.reported(item).is_none();
+        let follows_added =
+            |item| matches!(self.completed_cause(item), Some(Cause::After(it)) if is_added(it));
+        let stamps = self.items().filter(|&item| is_stamp(item) && !is_added(item));
+        let mut after_added = stamps.filter(|&item| follows_added(item));
+        // If no receive was reported, it is none that asks for an explanation.
+        let has_receives = self.links.messages.is_none();
+        has_receives && after_added.any(|item| self.link(item).grade != Grade::Perhaps)
+    }
+
     /// Returns what an event follows in the completed trace.
     fn completed_cause(&self, item: Item) -> Option<Cause> {
         let Item::Reported(pid, index) = item else { return None };

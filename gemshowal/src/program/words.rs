@@ -165,7 +165,8 @@ pub(crate) fn headline(causes: &Causes<'_>) -> String {
     let sends = counted(|&(kind, is_known)| kind != Kind::Receive && !is_known, "send");
     let receives = counted(|&(kind, _)| kind == Kind::Receive, "receive");
     let probable: Vec<String> = sends.into_iter().chain(receives).collect();
-    let probable = (!probable.is_empty()).then(|| format!("probably {}", probable.join(" and ")));
+    let how = if causes.may_have_put_back() { "perhaps" } else { "probably" };
+    let probable = (!probable.is_empty()).then(|| format!("{how} {}", probable.join(" and ")));
     let added: Vec<String> = certain.into_iter().chain(probable).collect();
     let with = if added.is_empty() { "" } else { ", with " };
     let behind = if added.is_empty() { "" } else { " that nobody reported" };
