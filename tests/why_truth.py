@@ -1,14 +1,18 @@
 #!/usr/bin/env python3
-"""Judges what `gemshowal why` says of traces whose truth is known: tests/why_truth.py GEMSHOWAL NAME..
+"""Judges what `gemshowal why` says of traces whose truth is known: tests/why_truth.py GEMSHOWAL [--lose SEED] NAME..
 
 NAME.truth says what each process did (erlang/test/seqaudit_truth.erl), and messages carry the number of the message
 whose token their sender had. Where no message says it, a process has the token that it received last. Each event is
 asked about, with all that follows it at once. No sentence may be false if the premises hold that it names, and no event
-may be left out. The last line is a row of the table in README.md, whose head is HEAD."""
+may be left out. With --lose copies are judged that lack one receive in twenty. The last line is a row of the table in
+README.md, whose head is HEAD."""
 import json
+import random
 import re
+import shutil
 import subprocess
 import sys
+import tempfile
 from collections import Counter, defaultdict, namedtuple
 from concurrent.futures import ThreadPoolExecutor
 from pathlib import Path
@@ -17,8 +21,9 @@ EVENT = re.compile(r"\{seq_trace,(\d+),\{(send|'receive'|answer|print),\{(-?\d+)
 MARK = re.compile(r"\{m,(\d+),([a-z0-9]+),(true|false)\}")
 SPAWN = re.compile(r"\{<([\d.]+)>,\{(\w+),(\w+)\}\}")
 EITHER = re.compile(r"(?:follows (\S.*?#\d+)|begins this chain) or (?:follows (\S.*?#\d+)|begins this chain), or another event")
-HEAD = ("traces", "doesn't fit", "fits if", "events", "sends and prints", "facts", "several", "perhaps", "moved",
+HEAD = ("traces", "doesn't fit", "fits if", "handed over", "put back or lost", "probably lost", "none lost", "events", "sends and prints", "facts", "several", "perhaps", "moved",
         "false as a premise fails", "neither of several", "perhaps not", "not judged", "false")
+LOST = 0.05  # The share of receives that a copy lacks.
 
 Event = namedtuple("Event", "kind label sender to term")
 # An act of a process: an event that was reported, by its index, or another act, by its word.
@@ -212,8 +217,8 @@ class Judge:
 
     def judge(self):
         """Asks of events until each was said to follow something, and judges each sentence."""
-        said, links = self.run("audit", "--json", self.trace.name), {}
-        self.counted.update({"never": ["doesn't fit"], "unexplained": ["fits if"]}.get(json.loads(said.stdout)["result"], []))
+        links = {}
+        self.judge_audit(json.loads(self.run("audit", "--json", self.trace.name).stdout))
         left = [(pid, i) for pid, events in self.trace.streams.items() for i in range(len(events))]
         for place in left:
             if place not in links:
@@ -228,6 +233,17 @@ class Judge:
                 self.false.append(("left out", place))
             else:
                 self.judge_link(place, links[place])
+
+    def judge_audit(self, told):
+        """Counts what `audit` says, and whether there was a lost receive where it says that there probably was."""
+        is_lost = any(it.word == "unreported receive" for did in self.trace.did.values() for it in did)
+        is_probably_lost = bool(re.search("probably [^,;]*receive", told["headline"]))
+        self.counted["fits if"] += told["result"] == "unexplained"
+        self.counted["doesn't fit"] += told["result"] == "never"
+        self.counted["handed over"] += told["result"] == "fits" and bool(told.get("handed_over"))
+        self.counted["put back or lost"] += bool(re.search(r", or [\d,]+ receive", told["headline"]))
+        self.counted["probably lost"] += is_probably_lost
+        self.counted["none lost"] += is_probably_lost and not is_lost
 
     def judge_link(self, place, link):
         pid, i = place
@@ -282,11 +298,19 @@ class Judge:
         return origin == (after if cause == "after" else "home"), after
 
     def is_as_completed(self, place):
-        """Whether a send or print truly follows the message whose receive the completion adds before it."""
+        """Whether a send or print truly follows the message whose receive the completion adds before it; of an unknown message
+        whether its receive wasn't reported."""
         own = self.trace.mark(self.trace.streams[place[0]][place[1]])
         steps = json.loads(self.run("why", "--json", self.trace.name, "%s#%d" % place).stdout)["events"]
-        added = MARK.search(steps[1]["message"] or "")
-        return None if not own else own[3] == "false" and bool(added) and added[1] == own[2]
+        message = steps[1]["message"]
+        if not own or own[3] == "true" or own[2] == "begins":
+            return False if own else None
+        if message is None:
+            return own[2] == "spawned" or ("receive", int(own[2])) not in self.trace.numbers
+        if own[2] == "spawned":
+            return message.startswith("{spawn_request,")
+        added = MARK.search(message)
+        return bool(added) and added[1] == own[2]
 
     def is_moved(self, place, since):
         """Whether something that moves counters happened between this event of a process and the one at this place, or None
@@ -296,18 +320,32 @@ class Judge:
         return is_moved if is_moved or place[0] in self.trace.did else None
 
 
-def judged(gemshowal, name):
-    """The counts of a trace, and its false sentences."""
-    judge = Judge(gemshowal, name)
-    judge.judge()
+def without_some_receives(name, seed, folder):
+    """The name of a copy that lacks some receives."""
+    copy, rng = str(Path(folder, "copy")), random.Random(f"{seed} {'/'.join(Path(name).parts[-2:])}")
+    for kind in (".terms", ".truth"):
+        shutil.copy(name + kind, copy + kind)
+    lines = Path(name + ".seqtrace").read_text().splitlines(keepends=True)
+    kept = [line for line in lines if "{'receive'," not in line or rng.random() >= LOST]
+    Path(copy + ".seqtrace").write_text("".join(kept))
+    return copy
+
+
+def judged(gemshowal, name, seed=None):
+    """The counts of a trace, or of a copy by this seed, and its false sentences."""
+    with tempfile.TemporaryDirectory() as folder:
+        judge = Judge(gemshowal, name if seed is None else without_some_receives(name, seed, folder))
+        judge.judge()
     judge.counted["false"] = len(judge.false)
     return judge.counted, [(name, *it) for it in judge.false]
 
 
 def main():
-    gemshowal, names = sys.argv[1], sys.argv[2:]
+    gemshowal, names, seed = sys.argv[1], sys.argv[2:], None
+    if names[:1] == ["--lose"]:
+        seed, names = names[1], names[2:]
     with ThreadPoolExecutor() as threads:
-        found = list(threads.map(lambda name: judged(gemshowal, name), names))
+        found = list(threads.map(lambda name: judged(gemshowal, name, seed), names))
     counted = sum((counts for counts, _ in found), Counter())
     for it in [it for _, false in found for it in false][:20]:
         print("false:", *it)

@@ -36,4 +36,4 @@ how("no_print") -> #{flags => ?ALL -- [print], late => false};
 how("late") -> #{flags => ?ALL, late => true};
 how("handed_over") -> (how("all"))#{tokens => handed_over};
 how("none_put_back") -> (how("all"))#{tokens => none};
-how("none_put_back_no_receive") -> (how("no_receive"))#{tokens => none}.
+how("none_put_back_" ++ Row) -> (how(Row))#{tokens => none}.
