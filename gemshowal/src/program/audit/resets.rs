@@ -7,7 +7,7 @@
 //! the other.
 
 use gemshowal::{Event, Kind, MessageContent, Pid, Trace};
-use std::collections::{HashMap, HashSet};
+use std::collections::HashMap;
 
 /// The number of parts after which the total is estimated.
 const ENOUGH: usize = 8;
@@ -50,8 +50,8 @@ fn take(trace: &Trace, begins: &HashMap<Pid, usize>) -> HashMap<Pid, usize> {
     while let Some(pid) = going.pop() {
         run.go_on(pid, &mut going);
     }
-    let longest = run.ends;
-    Keeper::new(trace, begins, &longest).kept()
+    run.keep();
+    run.ends
 }
 
 enum Next {
@@ -63,18 +63,20 @@ enum Next {
 /// Processes that go on side by side as far as they can.
 struct Run<'a> {
     trace: &'a Trace,
+    begins: &'a HashMap<Pid, usize>,
     ends: HashMap<Pid, usize>,
     clocks: HashMap<Pid, u64>,
-    /// The sends and prints that were taken, by process and count.
-    stamps: HashMap<(Pid, u64), Event>,
-    received: HashSet<(Pid, u64)>,
+    /// The places of the events that were taken: of sends and prints by process and count, of
+    /// receives by the sender and the count.
+    stamps: HashMap<(Pid, u64), (Pid, usize)>,
+    received: HashMap<(Pid, u64), (Pid, usize)>,
     /// The number of messages of each kind that are sent and not yet received.
     sends: HashMap<MessageContent, u64>,
     waiting: HashMap<MessageContent, Vec<Pid>>,
 }
 
 impl<'a> Run<'a> {
-    fn new(trace: &'a Trace, begins: &HashMap<Pid, usize>) -> Run<'a> {
+    fn new(trace: &'a Trace, begins: &'a HashMap<Pid, usize>) -> Run<'a> {
         let mut sends = HashMap::new();
         for (pid, events) in trace.processes() {
             let left = events.iter().skip(begins[&pid]);
@@ -84,10 +86,11 @@ impl<'a> Run<'a> {
         }
         Run {
             trace,
+            begins,
             ends: begins.clone(),
             clocks: HashMap::new(),
             stamps: HashMap::new(),
-            received: HashSet::new(),
+            received: HashMap::new(),
             sends,
             waiting: HashMap::new(),
         }
@@ -109,10 +112,10 @@ impl<'a> Run<'a> {
         *clock = (*clock).max(this);
         going.push(pid);
         if event.kind == Kind::Receive {
-            self.received.insert((event.from, this));
+            self.received.insert((event.from, this), (pid, end));
             return;
         }
-        self.stamps.insert((pid, this), *event);
+        self.stamps.insert((pid, this), (pid, end));
         if event.kind == Kind::Send {
             *self.sends.entry(content).or_default() -= 1;
             going.extend(self.waiting.remove(&content).into_iter().flatten());
@@ -123,11 +126,11 @@ impl<'a> Run<'a> {
         let this = event.serial.this;
         if event.kind != Kind::Receive {
             let is_late = this <= self.clocks.get(&pid).copied().unwrap_or(0);
-            let is_known = self.received.contains(&(pid, this));
+            let is_known = self.received.contains_key(&(pid, this));
             return if is_late || is_known { Next::Ends } else { Next::Taken };
         }
-        match self.stamps.get(&(event.from, this)) {
-            _ if self.received.contains(&(event.from, this)) => Next::Ends,
+        match self.stamps.get(&(event.from, this)).map(|&(pid, at)| &self.events(pid)[at]) {
+            _ if self.received.contains_key(&(event.from, this)) => Next::Ends,
             Some(stamp) if stamp.kind == Kind::Send && MessageContent::of(stamp) == content => {
                 Next::Taken
             }
@@ -136,47 +139,16 @@ impl<'a> Run<'a> {
             None => Next::Taken,
         }
     }
-}
-
-/// The number of each process's events that stay in a part. What a process does next may follow a
-/// receive that was taken last; a reset makes a process forget what it received, so that receive
-/// belongs to the next part, with all after it, the send of each of these receives, and the receive
-/// of each of these sends. A send whose message is received after the part belongs to the next part
-/// too.
-struct Keeper<'a> {
-    trace: &'a Trace,
-    begins: &'a HashMap<Pid, usize>,
-    ends: HashMap<Pid, usize>,
-    /// The places of the other ends of the part's messages.
-    stamped: HashMap<(Pid, u64), (Pid, usize)>,
-    received: HashMap<(Pid, u64), (Pid, usize)>,
-}
-
-impl<'a> Keeper<'a> {
-    fn new(
-        trace: &'a Trace,
-        begins: &'a HashMap<Pid, usize>,
-        ends: &HashMap<Pid, usize>,
-    ) -> Keeper<'a> {
-        let (mut stamped, mut received) = (HashMap::new(), HashMap::new());
-        for (pid, events) in trace.processes() {
-            let own = events.iter().enumerate().take(ends[&pid]).skip(begins[&pid]);
-            for (place, event) in own {
-                let this = event.serial.this;
-                match event.kind {
-                    Kind::Receive => received.insert((event.from, this), (pid, place)),
-                    Kind::Send | Kind::Print => stamped.insert((pid, this), (pid, place)),
-                };
-            }
-        }
-        Keeper { trace, begins, ends: ends.clone(), stamped, received }
-    }
 
     fn events(&self, pid: Pid) -> &'a [Event] {
         self.trace.streams().events(pid)
     }
 
-    fn kept(mut self) -> HashMap<Pid, usize> {
+    /// Lowers the ends to what stays in the part. What a process does next may follow a receive that
+    /// was taken last; a reset makes a process forget what it received, so that receive belongs to
+    /// the next part, with all after it, the send of each of these receives, and the receive of each
+    /// of these sends. A send whose message is received after the part belongs to the next part too.
+    fn keep(&mut self) {
         let pids = self.trace.streams().pids();
         let mut cuts: Vec<(Pid, usize)> =
             pids.iter().map(|&pid| (pid, self.caused_from(pid, self.ends[&pid]))).collect();
@@ -189,12 +161,11 @@ impl<'a> Keeper<'a> {
             self.ends.insert(pid, place);
             for event in self.events(pid).iter().take(end).skip(place) {
                 let key = (event.from, event.serial.this);
-                let ends = if event.kind == Kind::Receive { &self.stamped } else { &self.received };
+                let ends = if event.kind == Kind::Receive { &self.stamps } else { &self.received };
                 cuts.extend(ends.get(&key));
             }
             cuts.push((pid, self.caused_from(pid, place)));
         }
-        self.ends
     }
 
     /// Returns the place of the receive that an event follows if only receives are between, else
