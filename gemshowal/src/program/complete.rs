@@ -10,7 +10,7 @@ use crate::{Failure, Status, Task};
 use gemshowal::{Answer, Completion, Event, Kind, Pid, Trace};
 use serde::Serialize;
 use std::collections::{BTreeSet, HashSet};
-use std::io::{self, Write};
+use std::fmt::{self, Display, Formatter};
 
 const NOTHING: &str =
     "adds nothing: the manual's machine has a run with exactly these sends and receives. That is \
@@ -60,16 +60,13 @@ pub(crate) fn run(args: &Complete, task: Task<'_>) -> Result<Status, Failure> {
     let view = View::whole(&trace, &names);
     match gemshowal::complete(&trace)? {
         Answer::Whole(completion) => {
-            match (args.form, json) {
-                (Form::Added, true) => {
-                    let lacks = Lacks::of(&view, &completion);
-                    out.report("completed", &lacks.object())?;
-                }
-                (Form::Added, false) => Lacks::of(&view, &completion).write(out)?,
-                _ if write_text(args.form, &trace, &completion, input.line_name(), out)? => {}
-                _ => notes.say(
+            if args.form == Form::Added {
+                let lacks = Lacks::of(&view, &completion);
+                out.tell(json, "completed", &lacks.completed())?;
+            } else if !write_text(args.form, &trace, &completion, input.line_name(), out)? {
+                notes.say(
                     "note: seqaudit doesn't read so much; seqtool check and gemshowal check do",
-                ),
+                );
             }
             Ok(Status::Yes)
         }
@@ -160,40 +157,17 @@ impl<'a> Lacks<'a> {
         }
     }
 
-    fn write(&self, out: &mut Output) -> io::Result<()> {
-        match self.completion.added() {
-            0 => writeln!(out, "{NOTHING}")?,
-            added => self.write_added(added, out)?,
-        }
-        if !self.certain.lost_on_a_node.is_empty() {
-            writeln!(out, "{LOST_ON_A_NODE}")?;
-        }
-        for lost in self.lost_on_a_node() {
-            writeln!(out, "  {}: count {}, before {}", lost.place.event, lost.count.0, lost.what)?;
-        }
-        self.grades().iter().try_for_each(|grade| writeln!(out, "{}", grade.meaning()))
-    }
-
-    fn write_added(&self, added: u64, out: &mut Output) -> io::Result<()> {
-        let of = match self.completion.unlisted().len() as u64 {
-            0 => String::new(),
-            unlisted => {
-                format!(", with {} that the trace doesn't list", count(unlisted, "process"))
+    fn added(&self) -> impl Iterator<Item = Added> + '_ {
+        gemshowal::added(self.completion).map(|(pid, index, event)| {
+            let grade = self.certainty((pid, index));
+            Added {
+                place: PlaceObject::shown(&self.shown, (pid, index)),
+                fields: Fields::new(self.shown.view.names, event),
+                grade,
+                sender_known: !self.is_invented(event),
+                what: self.sentence(event, grade),
             }
-        };
-        writeln!(out, "adds {}{of}:", count(added, "event"))?;
-        gemshowal::added(self.completion).try_for_each(|(pid, index, event)| {
-            let (name, grade) = (self.shown.event((pid, index)), self.certainty((pid, index)));
-            writeln!(out, "  {name}: {} {}", grade.words(), self.sentence(event, grade))
         })
-    }
-
-    /// Returns the grades of what is written.
-    fn grades(&self) -> BTreeSet<Certainty> {
-        let added = gemshowal::added(self.completion);
-        let added = added.map(|(pid, index, _)| self.certainty((pid, index)));
-        let lost = self.certain.lost_on_a_node.iter().map(|_| Certainty::CertainOnANode);
-        added.chain(lost).collect()
     }
 
     fn lost_on_a_node(&self) -> impl Iterator<Item = Lost> + '_ {
@@ -207,23 +181,12 @@ impl<'a> Lacks<'a> {
         })
     }
 
-    fn object(&self) -> Completed<'_> {
-        let names = self.shown.view.names;
-        let added = move |(pid, index, event): (Pid, u64, &Event)| {
-            let certainty = self.certainty((pid, index));
-            Added {
-                place: PlaceObject::shown(&self.shown, (pid, index)),
-                fields: Fields::new(names, event),
-                grade: certainty,
-                sender_known: !self.is_invented(event),
-                what: self.sentence(event, certainty),
-            }
-        };
+    fn completed(&self) -> Completed<'_> {
         let unlisted = self.completion.unlisted().iter();
         Completed {
             added: Number(self.completion.added()),
             unlisted: unlisted.map(|&pid| gemshowal::Text(pid).to_string()).collect(),
-            events: Sequence::of(move || gemshowal::added(self.completion).map(added)),
+            events: Sequence::of(|| self.added()),
             lost_on_a_node: Sequence::of(|| self.lost_on_a_node()),
         }
     }
@@ -235,6 +198,33 @@ struct Completed<'a> {
     unlisted: Vec<String>,
     events: Sequence<'a, Added>,
     lost_on_a_node: Sequence<'a, Lost>,
+}
+
+impl Display for Completed<'_> {
+    fn fmt(&self, f: &mut Formatter<'_>) -> fmt::Result {
+        let mut grades = BTreeSet::new();
+        match (self.added.0, self.unlisted.len() as u64) {
+            (0, _) => writeln!(f, "{NOTHING}")?,
+            (added, 0) => writeln!(f, "adds {}:", count(added, "event"))?,
+            (added, unlisted) => {
+                let (added, of) = (count(added, "event"), count(unlisted, "process"));
+                writeln!(f, "adds {added}, with {of} that the trace doesn't list:")?;
+            }
+        }
+        for Added { place, grade, what, .. } in self.events.iter() {
+            grades.insert(grade);
+            writeln!(f, "  {}: {} {what}", place.event, grade.words())?;
+        }
+        let mut lost = self.lost_on_a_node.iter().peekable();
+        if lost.peek().is_some() {
+            grades.insert(Certainty::CertainOnANode);
+            writeln!(f, "{LOST_ON_A_NODE}")?;
+        }
+        for Lost { place, count, what } in lost {
+            writeln!(f, "  {}: count {}, before {what}", place.event, count.0)?;
+        }
+        grades.into_iter().try_for_each(|grade| writeln!(f, "{}", grade.meaning()))
+    }
 }
 
 #[derive(Serialize)]

@@ -42,7 +42,7 @@ use crate::input::Input;
 use crate::output::{Notes, Output};
 use serde::Serialize;
 use std::env;
-use std::io::{ErrorKind, Write};
+use std::io::ErrorKind;
 use std::path::Path;
 use std::process::ExitCode;
 
@@ -108,8 +108,7 @@ fn run_on_path(
 fn report(failure: Failure, is_json: bool, out: &mut Output) -> Result<Status, Failure> {
     out.forget();
     match failure {
-        Failure::Never(no) if is_json => out.report("never", &no)?,
-        Failure::Never(no) => write!(out, "{no}")?,
+        Failure::Never(no) => out.tell(is_json, "never", &no)?,
         failure => {
             if is_json && !matches!(failure, Failure::Unwritten(_)) {
                 let failed = Failed { status: failure.status(), error: failure.to_string() };

@@ -41,11 +41,15 @@ impl<'a, T> Sequence<'a, T> {
     pub(crate) fn of<I: Iterator<Item = T> + 'a>(make: impl Fn() -> I + 'a) -> Sequence<'a, T> {
         Sequence(Box::new(move || Box::new(make())))
     }
+
+    pub(crate) fn iter(&self) -> Made<'a, T> {
+        (self.0)()
+    }
 }
 
 impl<T: Serialize> Serialize for Sequence<'_, T> {
     fn serialize<S: Serializer>(&self, serializer: S) -> Result<S::Ok, S::Error> {
-        serializer.collect_seq((self.0)())
+        serializer.collect_seq(self.iter())
     }
 }
 

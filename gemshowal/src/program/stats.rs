@@ -3,32 +3,26 @@
 
 use crate::names::Names;
 use crate::object::Number;
-use crate::output::Output;
 use crate::reason::paired;
-use crate::view::View;
+use crate::view::{Place, View};
 use crate::{Failure, Status, Task};
-use gemshowal::{Event, Kind, Label, NodeHop, NodeHops, Paired, Partner, Pid, Text, Trace};
+use gemshowal::{Event, Kind, Label, NodeHop, NodeHops, OutOfMemory, Paired, Partner};
+use gemshowal::{Pid, Text, Trace};
 use serde::Serialize;
 use std::collections::{BTreeMap, HashMap};
-use std::io::{self, Write};
+use std::fmt::{self, Display, Formatter};
 
 pub(crate) fn run(task: Task<'_>) -> Result<Status, Failure> {
     let Task { json, input, out, notes } = task;
     let (trace, names) = input.read(notes)?;
     let paired = paired(&View::whole(&trace, &names))?;
+    let process = |(pid, events): (Pid, &[Event])| Process::of(pid, events, &names);
     let stats = Stats {
-        processes: trace
-            .processes()
-            .map(|(pid, events)| Process::of(pid, events, &names))
-            .collect(),
+        processes: trace.processes().map(process).collect(),
         pairs: pairs(&trace, &paired, &names),
-        labels: Depths::of(&trace, NodeHops::of(trace.streams())?).labels(&names),
+        labels: labels(&trace, &names)?,
     };
-    if json {
-        out.report("counted", &stats)?;
-    } else {
-        stats.write(out)?;
-    }
+    out.tell(json, "counted", &stats)?;
     Ok(Status::Yes)
 }
 
@@ -73,11 +67,11 @@ struct LabelStats {
     width: u64,
 }
 
-impl Stats {
-    fn write(&self, out: &mut Output) -> io::Result<()> {
+impl Display for Stats {
+    fn fmt(&self, f: &mut Formatter<'_>) -> fmt::Result {
         for Process { process, sends, receives, prints, skipped, .. } in &self.processes {
             writeln!(
-                out,
+                f,
                 "process {process}: sends {sends}, receives {receives}, prints {prints}, counts \
                  skipped {}",
                 skipped.0
@@ -85,13 +79,13 @@ impl Stats {
         }
         for Pair { from, to, messages, unreceived, unsent, .. } in &self.pairs {
             writeln!(
-                out,
+                f,
                 "messages from {from} to {to}: {messages}, without a reported receive \
                  {unreceived}, without a reported send {unsent}"
             )?;
         }
         for LabelStats { term, events, depth, width, .. } in &self.labels {
-            writeln!(out, "label {term}: events {events}, depth {depth}, width {width}")?;
+            writeln!(f, "label {term}: events {events}, depth {depth}, width {width}")?;
         }
         Ok(())
     }
@@ -149,78 +143,54 @@ fn pairs(trace: &Trace, paired: &Paired<'_>, names: &Names) -> Vec<Pair> {
     pairs.into_iter().map(pair).collect()
 }
 
-/// The depth of each message on its way: one more than that of the message whose receive its send
-/// follows.
-struct Depths<'a> {
-    trace: &'a Trace,
-    hops: NodeHops<'a>,
-    /// The depth of each send, by process and index.
-    sent: HashMap<Pid, Vec<u64>>,
-    /// The number of a label's messages at a depth.
-    widths: HashMap<(u32, u64), u64>,
+fn labels(trace: &Trace, names: &Names) -> Result<Vec<LabelStats>, OutOfMemory> {
+    let mut labels = BTreeMap::<u32, (u64, u64, u64)>::new();
+    for (_, event) in trace.events() {
+        labels.entry(event.label.0).or_default().0 += 1;
+    }
+    for ((label, depth), number) in widths(trace)? {
+        let (_, deepest, widest) = labels.entry(label).or_default();
+        *deepest = (*deepest).max(depth);
+        *widest = (*widest).max(number);
+    }
+    let stats = |(label, (events, depth, width))| {
+        let term = names.label(Label(label)).into_owned();
+        LabelStats { label, term, events, depth, width }
+    };
+    Ok(labels.into_iter().map(stats).collect())
 }
 
-impl<'a> Depths<'a> {
-    /// Takes the sends by rising counts: what a send follows has a lower count.
-    fn of(trace: &'a Trace, hops: NodeHops<'a>) -> Depths<'a> {
-        let sent = trace.processes().map(|(pid, events)| (pid, vec![0; events.len()])).collect();
-        let mut depths = Depths { trace, hops, sent, widths: HashMap::new() };
-        let mut sends = Vec::new();
-        for ((pid, index), event) in trace.events() {
-            match event.kind {
-                Kind::Send => sends.push((event.serial.this, pid, index)),
-                Kind::Receive if depths.hops.hop((pid, index), event) == NodeHop::Unsent => {
-                    *depths.widths.entry((event.label.0, 1)).or_default() += 1;
-                }
-                Kind::Receive | Kind::Print => {}
+/// Counts each label's messages by their depth: one more than that of the message whose receive the
+/// send follows. A message that nobody reported to be sent begins a way.
+fn widths(trace: &Trace) -> Result<HashMap<(u32, u64), u64>, OutOfMemory> {
+    let hops = NodeHops::of(trace.streams())?;
+    let mut widths = HashMap::<(u32, u64), u64>::new();
+    let mut sends = Vec::new();
+    for (place, event) in trace.events() {
+        match event.kind {
+            Kind::Send => sends.push((event.serial.this, place, event)),
+            Kind::Receive if hops.hop(place, event) == NodeHop::Unsent => {
+                *widths.entry((event.label.0, 1)).or_default() += 1;
             }
+            Kind::Receive | Kind::Print => {}
         }
-        sends.sort_unstable();
-        for (_, pid, index) in sends {
-            depths.send(pid, index);
-        }
-        depths
     }
-
-    fn send(&mut self, pid: Pid, index: u64) {
-        let Some(event) = self.trace.streams().event(pid, index) else { return };
-        let depth = match self.hops.hop((pid, index), &event) {
-            NodeHop::After(receive) => 1 + self.received(pid, receive),
-            _ => 1,
+    // What a send follows has a lower count.
+    sends.sort_unstable_by_key(|&(count, place, _)| (count, place));
+    let mut depths = HashMap::<Place, u64>::with_capacity(sends.len());
+    for (_, place, event) in sends {
+        let receive = match hops.hop(place, event) {
+            NodeHop::After(receive) => trace.streams().event(place.0, receive).zip(Some(receive)),
+            _ => None,
         };
-        if let Some(own) = self.sent.get_mut(&pid).and_then(|own| own.get_mut(index as usize)) {
-            *own = depth;
-        }
-        *self.widths.entry((event.label.0, depth)).or_default() += 1;
-    }
-
-    /// Returns the depth of the message of a receive; one that nobody reported to be sent begins a
-    /// way.
-    fn received(&self, pid: Pid, index: u64) -> u64 {
-        let event = self.trace.streams().event(pid, index);
-        match event.map(|event| self.hops.hop((pid, index), &event)) {
-            Some(NodeHop::Sent(from, send)) => {
-                let own = self.sent.get(&from).and_then(|own| own.get(send as usize));
-                own.copied().unwrap_or(1)
-            }
-            _ => 1,
-        }
-    }
-
-    fn labels(self, names: &Names) -> Vec<LabelStats> {
-        let mut labels = BTreeMap::<u32, (u64, u64, u64)>::new();
-        for (_, event) in self.trace.events() {
-            labels.entry(event.label.0).or_default().0 += 1;
-        }
-        for ((label, depth), number) in self.widths {
-            let (_, deepest, widest) = labels.entry(label).or_default();
-            *deepest = (*deepest).max(depth);
-            *widest = (*widest).max(number);
-        }
-        let stats = |(label, (events, depth, width))| {
-            let term = names.label(Label(label)).into_owned();
-            LabelStats { label, term, events, depth, width }
+        let sent = receive.map(|(event, index)| hops.hop((place.0, index), &event));
+        let depth = match sent {
+            None => 1,
+            Some(NodeHop::Sent(pid, send)) => 1 + depths.get(&(pid, send)).copied().unwrap_or(0),
+            Some(_) => 2,
         };
-        labels.into_iter().map(stats).collect()
+        depths.insert(place, depth);
+        *widths.entry((event.label.0, depth)).or_default() += 1;
     }
+    Ok(widths)
 }

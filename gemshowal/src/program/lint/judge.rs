@@ -1,21 +1,24 @@
 //! The mistakes of a text, line by line. After a mistake a line is judged as if the intended text
 //! stood above, so that no mistake is named twice.
 
-use super::grammar::{read, Above, Pid, Scan, Sort, Wanted};
+use super::grammar::{read, Above, Scan, Sort, Wanted};
 use super::mend::{can_only_end, mended_line, mends};
 use super::remedy::{remedy_of, remedy_of_text};
 use super::text::{lines, Kind, Line};
-use gemshowal::LIMITS;
+use gemshowal::{Pid, LIMITS};
+use serde::Serialize;
 use std::collections::{HashMap, HashSet};
 use std::fmt::{self, Display, Formatter};
 
 /// The mistakes of a text: how many there are, and the first ones.
-#[derive(Debug, Default)]
+#[derive(Debug, Default, Serialize)]
 pub(super) struct Findings<'a> {
-    pub(super) named: Vec<Mistake<'a>>,
+    #[serde(rename = "mistakes")]
     pub(super) count: u64,
     pub(super) by_fix: u64,
+    pub(super) named: Vec<Mistake<'a>>,
     /// The first one for which the reader refuses the text.
+    #[serde(skip)]
     pub(super) first_refused: Option<Mistake<'a>>,
 }
 
@@ -72,7 +75,9 @@ impl<'a> Judge<'a> {
     fn take(&mut self, line: Line<'a>) {
         self.is_remote |= names_remote(line.bytes);
         let (scan, read) = read(line.bytes, self.above);
-        if let Some(&(column, _)) = scan.pids.iter().find(|(_, pid)| pid.0 > 0 && !self.is_wide) {
+        if let Some(&(column, _)) =
+            scan.pids.iter().find(|(_, pid)| pid.node() > 0 && !self.is_wide)
+        {
             let remedy = "a bundle that names a pid of another node begins with seqtrace 2";
             let wanted = Wanted::Words("node 0 under seqtrace 1");
             self.add(Mistake::new(line, column + 1, wanted, remedy).by_fix(true));
@@ -266,7 +271,6 @@ impl<'a> Mistake<'a> {
         Mistake { is_by_fix, ..self }
     }
 
-    /// Says where the mistake is, and what could be there.
     pub(super) fn place(&self) -> String {
         let Mistake { line, column, wanted, .. } = self;
         format!("line {}, column {}: expected {wanted}", line.number, column + 1)

@@ -19,7 +19,6 @@ use judge::{Findings, Mistake};
 use serde::ser::{SerializeMap, Serializer};
 use serde::Serialize;
 use std::fmt::{self, Display, Formatter};
-use std::io::Write;
 
 pub(crate) fn run(args: &Lint, task: Task<'_>) -> Result<Status, Failure> {
     let Task { json, input, out, notes } = task;
@@ -27,17 +26,17 @@ pub(crate) fn run(args: &Lint, task: Task<'_>) -> Result<Status, Failure> {
     if args.fix {
         return mend::run(&bytes, out, notes);
     }
-    let judged = Judged::of(&bytes, args.most)?;
-    match (&judged, json) {
-        (Judged::Good(trace), false) => write!(out, "{}", Counts::of(trace))?,
-        (Judged::Good(trace), true) => out.report("ok", &Counts::of(trace))?,
-        (Judged::Impossible(findings) | Judged::Faulty(findings), false) => {
-            write!(out, "{findings}")?
+    match judge(&bytes, args.most)? {
+        Ok(trace) => {
+            out.tell(json, "ok", &Counts::of(&trace))?;
+            Ok(Status::Yes)
         }
-        (Judged::Impossible(findings), true) => out.report("unfit", findings)?,
-        (Judged::Faulty(findings), true) => out.report("faulty", findings)?,
+        Err((status, findings)) => {
+            let result = if status == Status::No { "unfit" } else { "faulty" };
+            out.tell(json, result, &findings)?;
+            Ok(status)
+        }
     }
-    Ok(judged.status())
 }
 
 /// Describes the first mistake for which the reader refuses a text, to be said after its name.
@@ -53,35 +52,19 @@ pub(crate) type Pids = ArrayVec<Pid, { grammar::MOST_PIDS }>;
 pub(crate) fn read_act(line: &[u8]) -> Option<(Pids, usize)> {
     let (scan, sort) = grammar::read(line, Above::Acts);
     let listed = if sort.ok()? == Sort::SendAct { 2 } else { 1 };
-    let pid = |&(_, grammar::Pid(node, number)): &_| Pid::on(node as u16, number as u16);
-    Some((scan.pids.iter().map(pid).collect(), listed))
+    Some((scan.pids.iter().map(|&(_, pid)| pid).collect(), listed))
 }
 
-enum Judged<'a> {
-    Good(Trace),
-    /// A trace of which no run reports some events.
-    Impossible(Findings<'a>),
-    Faulty(Findings<'a>),
-}
-
-impl<'a> Judged<'a> {
-    /// Judges the text of these bytes; at most this number of mistakes is to be named.
-    fn of(bytes: &'a [u8], most: usize) -> Result<Judged<'a>, OutOfMemory> {
-        match Trace::read(bytes) {
-            Ok(trace) if has_unrising(&trace) => Ok(Judged::Impossible(Findings::of(bytes, most))),
-            Ok(trace) => Ok(Judged::Good(trace)),
-            Err(ReadError::Memory(error)) => Err(error),
-            Err(_) => Ok(Judged::Faulty(Findings::of(bytes, most))),
-        }
-    }
-
-    fn status(&self) -> Status {
-        match self {
-            Judged::Good(_) => Status::Yes,
-            Judged::Impossible(_) => Status::No,
-            Judged::Faulty(_) => Status::Faulty,
-        }
-    }
+/// Judges a text, of which at most this number of mistakes is to be named. Of a text with mistakes
+/// the status says whether it is a trace.
+fn judge(bytes: &[u8], most: usize) -> Result<Result<Trace, (Status, Findings<'_>)>, OutOfMemory> {
+    let status = match Trace::read(bytes) {
+        Ok(trace) if !has_unrising(&trace) => return Ok(Ok(trace)),
+        Ok(_) => Status::No,
+        Err(ReadError::Memory(error)) => return Err(error),
+        Err(_) => Status::Faulty,
+    };
+    Ok(Err((status, Findings::of(bytes, most))))
 }
 
 /// Returns whether no run reports some event, since its serial doesn't rise.
@@ -122,11 +105,8 @@ struct Counts {
 
 impl Counts {
     fn of(trace: &Trace) -> Counts {
-        Counts {
-            processes: trace.streams().pids().len(),
-            events: Number(trace.streams().total()),
-            acts: trace.acts().map(<[_]>::len),
-        }
+        let (streams, acts) = (trace.streams(), trace.acts().map(<[_]>::len));
+        Counts { processes: streams.pids().len(), events: Number(streams.total()), acts }
     }
 }
 
@@ -138,13 +118,6 @@ impl Display for Counts {
             None => writeln!(f, "no acts"),
             Some(acts) => writeln!(f, "acts {acts}"),
         }
-    }
-}
-
-impl Serialize for Findings<'_> {
-    fn serialize<S: Serializer>(&self, serializer: S) -> Result<S::Ok, S::Error> {
-        let Findings { named, count, by_fix, .. } = self;
-        object!(serializer, "mistakes": count, "by_fix": by_fix, "named": named)
     }
 }
 
