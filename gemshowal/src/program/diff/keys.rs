@@ -63,7 +63,7 @@ pub(super) fn all_keys(sides: [&Side<'_>; 2], ranks: Option<&[Ranks; 2]>) -> Key
         sides.map(|side| (0..side.len()).map(|place| key(side, place)).collect())
     };
     let kinds = of_all(&|side, place| side.events(place).iter().fold(1, kind));
-    let first = of_all(&|side, place| side.items(place).first().map_or(0, |&item| item.into()));
+    let first = of_all(&|side, place| side.items[place].first().map_or(0, |&item| item.into()));
     let first_kind =
         of_all(&|side, place| side.events(place).first().map_or(0, |it| it.kind as u64));
     keys.extend([(Ground::Kinds, kinds), (Ground::First, first), (Ground::FirstKind, first_kind)]);
@@ -84,7 +84,7 @@ fn key_of_events(
     place: usize,
     named: &mut [(u32, u64)],
 ) -> u64 {
-    let events = side.events(place).iter().zip(side.items(place)).zip(side.peers(place));
+    let events = side.events(place).iter().zip(&side.items[place]).zip(&side.peers[place]);
     let mut key = 0;
     for (index, ((event, &item), &peer)) in (0..).zip(events) {
         let ranks = ranks.map_or([0, 0], |ranks| ranks.of_serial(event.serial));
@@ -104,7 +104,7 @@ fn refined(side: &Side<'_>, keys: &[u64]) -> Vec<u64> {
     let mut told = vec![0_u64; keys.len()];
     let mut next = keys.to_vec();
     for (place, &key) in keys.iter().enumerate() {
-        for (index, &peer) in side.peers(place).iter().enumerate() {
+        for (index, &peer) in side.peers[place].iter().enumerate() {
             if let Some(&of_peer) = keys.get(peer as usize) {
                 told[peer as usize] = told[peer as usize].wrapping_add(mix(key, index as u64));
                 next[place] = mix(next[place], of_peer);

@@ -13,26 +13,23 @@ use crate::names::Names;
 use serde::Serialize;
 use std::collections::{HashMap, VecDeque};
 
-pub(super) type Mate = (usize, usize, Ground);
-
 /// Finds the processes that are called alike: by one name, and then by one pid.
 pub(super) fn called_alike(
-    [first, second]: [&Side<'_>; 2],
-    [ones, others]: [&Names; 2],
+    sides: [&Side<'_>; 2],
+    names: [&Names; 2],
     has_names: bool,
-) -> Vec<Mate> {
+) -> Vec<Pair> {
     let mut mates = Vec::new();
     if has_names {
-        let (ones, others) = (by_name(first, ones), by_name(second, others));
-        let alike = ones.iter().filter_map(|(name, &one)| Some((one?, (*others.get(name)?)?)));
-        mates.extend(alike.map(|(one, other)| (one, other, Ground::Name)));
-        mates.sort_unstable_by_key(|mate| mate.0);
+        let [ones, others] = [0, 1].map(|it| by_name(sides[it], names[it]));
+        let alike = ones.iter().filter_map(|(name, &one)| Some([one?, (*others.get(name)?)?]));
+        mates.extend(alike.map(|places| Pair { places, ground: Ground::Name }));
+        mates.sort_unstable_by_key(|mate| mate.places);
     }
-    for (place, &pid) in first.pids().iter().enumerate() {
-        let is_other = has_names && ones.process(pid) != others.process(pid);
-        if let Some(other) = second.place_of(pid).filter(|_| !is_other) {
-            mates.push((place, other, Ground::Pid));
-        }
+    for (place, &pid) in sides[0].pids().iter().enumerate() {
+        let is_other = has_names && names[0].process(pid) != names[1].process(pid);
+        let other = sides[1].place_of(pid).filter(|_| !is_other);
+        mates.extend(other.map(|other| Pair { places: [place, other], ground: Ground::Pid }));
     }
     mates
 }
@@ -50,17 +47,12 @@ fn by_name<'a>(side: &Side<'_>, names: &'a Names) -> HashMap<&'a str, Option<usi
 }
 
 /// Matches the processes of two traces, these to begin with.
-pub(super) fn by_keys(sides: [&Side<'_>; 2], mates: &[Mate], keys: &Keys) -> Pairs {
-    let mut search = Search {
-        sides,
-        order: sides.map(Side::order),
-        pairs: Pairs::new(sides[0].len(), sides[1].len()),
-        followed: 0,
-        budget: Budget::of(sides[0].total() + sides[1].total()),
-    };
-    for &(one, other, ground) in mates {
-        search.pairs.add(one, other, ground);
-    }
+pub(super) fn by_keys(sides: [&Side<'_>; 2], mates: &[Pair], keys: &Keys) -> Pairs {
+    let numbers = sides.map(|side| vec![NOBODY; side.len()]);
+    let pairs = Pairs { all: Vec::new(), numbers };
+    let (order, budget) = (sides.map(Side::order), Budget::of(sides));
+    let mut search = Search { sides, order, pairs, followed: 0, budget };
+    mates.iter().for_each(|&mate| search.pairs.add(mate));
     search.follow();
     for (ground, keys) in keys {
         search.match_only(keys, *ground);
@@ -73,6 +65,9 @@ pub(super) fn by_keys(sides: [&Side<'_>; 2], mates: &[Mate], keys: &Keys) -> Pai
     search.pairs
 }
 
+/// The processes of a trace by their keys, in their order.
+type Groups = HashMap<u64, VecDeque<usize>>;
+
 struct Search<'a> {
     sides: [&'a Side<'a>; 2],
     /// The processes of each trace by when they first report something.
@@ -84,38 +79,40 @@ struct Search<'a> {
 }
 
 impl Search<'_> {
-    /// Groups the processes without a match that report something by their keys.
-    fn groups(&self, which: Which, keys: &[u64]) -> HashMap<u64, VecDeque<usize>> {
-        let (side, order) = (self.sides[which as usize], &self.order[which as usize]);
-        let mut groups = HashMap::<u64, VecDeque<usize>>::new();
-        let is_open =
-            |place: usize| self.pairs.is_free(which, place) && !side.items(place).is_empty();
-        for &place in order.iter().filter(|&&place| is_open(place)) {
+    /// Returns whether a process has no match, and reports something.
+    fn is_open(&self, which: usize, place: usize) -> bool {
+        self.pairs.is_free(which, place) && !self.sides[which].items[place].is_empty()
+    }
+
+    fn groups(&self, which: usize, keys: &[u64]) -> Groups {
+        let mut groups = Groups::new();
+        for &place in self.order[which].iter().filter(|&&place| self.is_open(which, place)) {
             groups.entry(keys[place]).or_default().push_back(place);
         }
         groups
     }
 
-    fn match_only(&mut self, [ones, others]: &[Vec<u64>; 2], ground: Ground) {
-        let groups = [self.groups(Which::First, ones), self.groups(Which::Second, others)];
+    fn match_only(&mut self, keys: &[Vec<u64>; 2], ground: Ground) {
+        let groups = [0, 1].map(|it| self.groups(it, &keys[it]));
         for &place in &self.order[0] {
-            let [one, other] = groups.each_ref().map(|groups| only(groups, ones[place]));
-            if let Some((one, other)) = one.zip(other) {
-                self.pairs.add(one, other, ground);
+            let group = groups.each_ref().map(|groups| groups.get(&keys[0][place]));
+            if let [Some(ones), Some(others)] = group {
+                if ones.len() == 1 && others.len() == 1 {
+                    self.pairs.add(Pair { places: [ones[0], others[0]], ground });
+                }
             }
         }
         self.follow();
     }
 
     /// Matches processes of one key in the order of both, and follows the messages of each.
-    fn guess(&mut self, [ones, others]: &[Vec<u64>; 2], ground: Ground) {
-        let mut groups = self.groups(Which::Second, others);
+    fn guess(&mut self, keys: &[Vec<u64>; 2], ground: Ground) {
+        let mut groups = self.groups(1, &keys[1]);
         for place in self.order[0].clone() {
-            let Some(group) = groups.get_mut(&ones[place]) else { continue };
-            while self.pairs.is_free(Which::First, place) && !self.sides[0].items(place).is_empty()
-            {
+            let Some(group) = groups.get_mut(&keys[0][place]) else { continue };
+            while self.is_open(0, place) {
                 let Some(other) = group.pop_front() else { break };
-                self.pairs.add(place, other, ground);
+                self.pairs.add(Pair { places: [place, other], ground });
                 self.follow();
             }
         }
@@ -123,48 +120,39 @@ impl Search<'_> {
 
     /// Matches the processes that report nothing, and that no matched one tells of, in their order.
     fn match_silent(&mut self) {
-        let silent = [Which::First, Which::Second].map(|which| {
-            let side = self.sides[which as usize];
+        let silent = [0, 1].map(|which| {
+            let (side, pairs) = (self.sides[which], &self.pairs);
             let is_silent =
-                |&place: &usize| side.items(place).is_empty() && self.pairs.is_free(which, place);
+                |&place: &usize| side.items[place].is_empty() && pairs.is_free(which, place);
             (0..side.len()).filter(is_silent).collect::<Vec<_>>()
         });
         for (&one, &other) in silent[0].iter().zip(&silent[1]) {
-            self.pairs.add(one, other, Ground::Silent);
+            self.pairs.add(Pair { places: [one, other], ground: Ground::Silent });
         }
     }
 
     /// Matches the processes at the other ends of the messages of pairs that weren't followed yet.
     /// A message to a process that is matched goes with one to its partner alone.
     fn follow(&mut self) {
-        while let Some(&pair) = self.pairs.all.get(self.followed) {
+        while let Some(&Pair { places, .. }) = self.pairs.all.get(self.followed) {
             self.followed += 1;
-            let [first, second] = self.sides;
-            let number = |which| move |pairs: &Pairs, peer: u32| pairs.number(which, peer as usize);
-            let [of_first, of_second] = [Which::First, Which::Second].map(number);
-            let ones = first.items_with(pair.first, |peer| of_first(&self.pairs, peer));
-            let others = second.items_with(pair.second, |peer| of_second(&self.pairs, peer));
-            let peers = (first.peers(pair.first), second.peers(pair.second));
+            let (sides, pairs) = (self.sides, &self.pairs);
+            let items = |it: usize| {
+                sides[it].items_with(places[it], |peer| pairs.number(it, peer as usize))
+            };
+            let [ones, others] = [0, 1].map(items);
+            let peers = [0, 1].map(|it| &sides[it].peers[places[it]]);
             for run in align(&ones, &others, &mut self.budget).runs {
-                let peers = peers.0[run.first..].iter().zip(&peers.1[run.second..]);
+                let peers = peers[0][run.at[0]..].iter().zip(&peers[1][run.at[1]..]);
                 for (&one, &other) in peers.take(run.len) {
                     if one != NOBODY && other != NOBODY {
-                        self.pairs.add(one as usize, other as usize, Ground::Message);
+                        let places = [one as usize, other as usize];
+                        self.pairs.add(Pair { places, ground: Ground::Message });
                     }
                 }
             }
         }
     }
-}
-
-fn only(groups: &HashMap<u64, VecDeque<usize>>, key: u64) -> Option<usize> {
-    groups.get(&key).filter(|group| group.len() == 1)?.front().copied()
-}
-
-#[derive(Clone, Copy, Debug, PartialEq, Eq)]
-pub(super) enum Which {
-    First,
-    Second,
 }
 
 /// The ground for which two processes are taken for the same.
@@ -211,8 +199,8 @@ impl Ground {
 
 #[derive(Clone, Copy, Debug)]
 pub(super) struct Pair {
-    pub(super) first: usize,
-    pub(super) second: usize,
+    /// The places of a process of each trace.
+    pub(super) places: [usize; 2],
     pub(super) ground: Ground,
 }
 
@@ -224,29 +212,26 @@ pub(super) struct Pairs {
 }
 
 impl Pairs {
-    pub(super) fn new(first: usize, second: usize) -> Pairs {
-        Pairs { all: Vec::new(), numbers: [vec![NOBODY; first], vec![NOBODY; second]] }
-    }
-
     /// Returns the number of the pair of a process, or `NOBODY`.
-    pub(super) fn number(&self, which: Which, place: usize) -> u32 {
-        self.numbers[which as usize].get(place).copied().unwrap_or(NOBODY)
+    pub(super) fn number(&self, which: usize, place: usize) -> u32 {
+        self.numbers[which].get(place).copied().unwrap_or(NOBODY)
     }
 
-    pub(super) fn is_free(&self, which: Which, place: usize) -> bool {
+    pub(super) fn is_free(&self, which: usize, place: usize) -> bool {
         self.number(which, place) == NOBODY
     }
 
     pub(super) fn of_first(&self, place: usize) -> Option<Pair> {
-        self.all.get(self.number(Which::First, place) as usize).copied()
+        self.all.get(self.number(0, place) as usize).copied()
     }
 
-    /// Matches two processes, unless one of them is in a pair.
-    pub(super) fn add(&mut self, first: usize, second: usize, ground: Ground) {
-        if self.is_free(Which::First, first) && self.is_free(Which::Second, second) {
+    /// Adds a pair, unless one of its processes is in another.
+    fn add(&mut self, pair: Pair) {
+        let [first, second] = pair.places;
+        if self.is_free(0, first) && self.is_free(1, second) {
             let number = self.all.len() as u32;
             (self.numbers[0][first], self.numbers[1][second]) = (number, number);
-            self.all.push(Pair { first, second, ground });
+            self.all.push(pair);
         }
     }
 }

@@ -16,7 +16,7 @@ use crate::input::Input;
 use crate::{Failure, Status, Task};
 use changes::Changes;
 use keys::{all_keys, Keys, Ranks};
-use matching::{Ground, Mate, Pairs};
+use matching::{Ground, Pair, Pairs};
 use report::{Moved, Report, Text};
 use side::{Side, Vocabulary};
 use std::cell::LazyCell;
@@ -33,16 +33,16 @@ pub(crate) fn run(task: Task<'_>, mut other: Input) -> Result<Status, Failure> {
     let sides = sides.each_ref();
     let found = compare(sides, &matching::called_alike(sides, [&ones, &others], has_terms));
     let texts = [
-        Text::new(input.line_name(), &first, &ones)?,
-        Text::new(other.line_name(), &second, &others)?,
+        Text { name: input.line_name(), names: &ones, lines: first.lines()? },
+        Text { name: other.line_name(), names: &others, lines: second.lines()? },
     ];
     let report = Report { sides, texts: &texts, found: &found };
-    if json {
-        out.report(if report.is_same() { "same" } else { "different" }, &report.object())?;
-    } else {
-        report.write(out)?;
-    }
-    Ok(if report.is_same() { Status::Yes } else { Status::No })
+    let (result, status) = match report.is_same() {
+        true => ("same", Status::Yes),
+        false => ("different", Status::No),
+    };
+    out.tell(json, result, &report)?;
+    Ok(status)
 }
 
 #[derive(Debug)]
@@ -58,13 +58,13 @@ struct Found {
 /// Compares two traces by the match that leaves fewest changes, of several the first: by keys that
 /// tell the ranks of counts, by all processes that are called alike, by those alone that have one
 /// name, or by none.
-fn compare(sides: [&Side<'_>; 2], mates: &[Mate]) -> Found {
+fn compare(sides: [&Side<'_>; 2], mates: &[Pair]) -> Found {
     let [first, second] = sides;
     let ranks = LazyCell::new(|| sides.map(Ranks::of));
     let has_one_size = first.len() == second.len() && first.total() == second.total();
     let with_ranks = has_one_size.then(|| all_keys(sides, Some(&ranks))).filter(keys::are_alike);
     let may_be_same = with_ranks.is_some();
-    let found = |mates: &[Mate], keys: &Keys| {
+    let found = |mates: &[Pair], keys: &Keys| {
         let pairs = matching::by_keys(sides, mates, keys);
         let changes = Changes::find(sides, &pairs);
         let has_changes = changes.len() > 0 || pairs.all.len() < first.len().max(second.len());
@@ -76,7 +76,8 @@ fn compare(sides: [&Side<'_>; 2], mates: &[Mate]) -> Found {
         Some(with_ranks) => found(&[], with_ranks),
         None => found(mates, &keys),
     };
-    let named: Vec<Mate> = mates.iter().filter(|mate| mate.2 == Ground::Name).copied().collect();
+    let is_named = |mate: &&Pair| mate.ground == Ground::Name;
+    let named: Vec<Pair> = mates.iter().filter(is_named).copied().collect();
     let least = changes::least(sides);
     for (mates, is_other) in
         [(mates, may_be_same), (&named, named.len() < mates.len()), (&[], !named.is_empty())]

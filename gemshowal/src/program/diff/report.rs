@@ -3,31 +3,19 @@
 
 use super::changes::Change;
 use super::keys::Ranks;
-use super::matching::{Ground, Pair, Pairs, Which};
+use super::matching::{Ground, Pair, Pairs};
 use super::side::Side;
 use super::Found;
 use crate::names::Names;
 use crate::object::{kind_word, Fields, Place, Sequence};
-use crate::output::Output;
-use gemshowal::{Event, Kind, LineNumbers, OutOfMemory, Pid, Trace};
-use serde::Serialize;
+use gemshowal::{Event, Kind, LineNumbers, Pid};
+use serde::{Serialize, Serializer};
 use std::fmt::{self, Display, Formatter};
-use std::io::{self, Write};
 
 pub(super) struct Text<'a> {
-    name: &'a str,
-    names: &'a Names,
-    lines: LineNumbers<'a>,
-}
-
-impl<'a> Text<'a> {
-    pub(super) fn new(
-        name: &'a str,
-        trace: &'a Trace,
-        names: &'a Names,
-    ) -> Result<Text<'a>, OutOfMemory> {
-        Ok(Text { name, names, lines: trace.lines()? })
-    }
+    pub(super) name: &'a str,
+    pub(super) names: &'a Names,
+    pub(super) lines: LineNumbers<'a>,
 }
 
 /// An event of two matched processes whose counts have other ranks, the first of them all.
@@ -49,7 +37,7 @@ impl Moved {
     ) -> Option<Moved> {
         let has_same_counts = ones == others;
         let moved = |pair: Pair| {
-            let events = first.events(pair.first).iter().zip(second.events(pair.second));
+            let events = first.events(pair.places[0]).iter().zip(second.events(pair.places[1]));
             let may_move = events
                 .enumerate()
                 .filter(move |(_, (one, other))| !has_same_counts || one.serial != other.serial);
@@ -123,8 +111,8 @@ impl<'a> Report<'a> {
         let (pairs, changes) = (&self.found.pairs.all, &self.found.changes);
         let elsewhere = changes.elsewhere();
         Sums {
-            gone: changes.first.len() - elsewhere,
-            new: changes.second.len() - elsewhere,
+            gone: changes.of[0].len() - elsewhere,
+            new: changes.of[1].len() - elsewhere,
             elsewhere,
             gone_processes: first.len() - pairs.len(),
             new_processes: second.len() - pairs.len(),
@@ -135,33 +123,27 @@ impl<'a> Report<'a> {
 
     fn lines(&self) -> Vec<Line<'a>> {
         let (pairs, changes) = (&self.found.pairs, &self.found.changes);
-        let [first, second] = self.sides;
-        let [ones, others] = self.texts.each_ref().map(|text| text.names);
+        let names = self.texts.each_ref().map(|text| text.names);
         let mut lines = Vec::new();
-        for (place, &pid) in first.pids().iter().enumerate() {
-            let gone = of_process(&changes.first, place);
-            match pairs.of_first(place) {
-                Some(pair) => {
-                    let new = of_process(&changes.second, pair.second);
-                    if !gone.is_empty() || !new.is_empty() {
-                        lines.push(Line::Matched(pair));
-                    }
-                    self.add_in_order(&mut lines, gone, new);
-                }
-                None => {
-                    lines.push(Line::Process { change: "gone process", pid, names: ones });
-                    self.add_in_order(&mut lines, gone, &[]);
-                }
+        for (place, &pid) in self.sides[0].pids().iter().enumerate() {
+            let gone = of_process(&changes.of[0], place);
+            let pair = pairs.of_first(place);
+            let new = pair.map_or(&[][..], |pair| of_process(&changes.of[1], pair.places[1]));
+            match pair {
+                Some(_) if gone.is_empty() && new.is_empty() => {}
+                Some(pair) => lines.push(Line::Matched(pair)),
+                None => lines.push(Line::Process { change: "gone process", pid, names: names[0] }),
             }
+            self.add_in_order(&mut lines, gone, new);
         }
-        for (place, &pid) in second.pids().iter().enumerate() {
-            if pairs.is_free(Which::Second, place) {
-                lines.push(Line::Process { change: "new process", pid, names: others });
-                self.add_in_order(&mut lines, &[], of_process(&changes.second, place));
+        for (place, &pid) in self.sides[1].pids().iter().enumerate() {
+            if pairs.is_free(1, place) {
+                lines.push(Line::Process { change: "new process", pid, names: names[1] });
+                self.add_in_order(&mut lines, &[], of_process(&changes.of[1], place));
             }
         }
         if let Some(Moved { pair, index, .. }) = self.found.moved {
-            let (row, now) = (self.row(0, pair.first, index), self.row(1, pair.second, index));
+            let [row, now] = [0, 1].map(|it| self.row(it, pair.places[it], index));
             lines.extend(row.map(|row| Line::Event { change: "counts", row, now }));
         }
         lines
@@ -179,7 +161,7 @@ impl<'a> Report<'a> {
         for change in gone {
             let before = std::iter::from_fn(|| new.next_if(|other| other.before < change.before));
             lines.extend(before.filter_map(alone));
-            let other = change.elsewhere.and_then(|other| self.found.changes.second.get(other));
+            let other = change.elsewhere.map(|other| self.found.changes.of[1][other]);
             let now = other.and_then(|other| self.row(1, other.process, other.index));
             let word = if now.is_some() { "elsewhere" } else { "gone" };
             let row = self.row(0, change.process, change.index);
@@ -190,47 +172,33 @@ impl<'a> Report<'a> {
 
     fn row(&self, which: usize, process: usize, index: usize) -> Option<Row<'a>> {
         let (side, text) = (self.sides[which], &self.texts[which]);
-        let place = (*side.pids().get(process)?, index as u64);
-        let event = side.events(process).get(index)?;
-        Some(Row { names: text.names, line: text.lines.line(place.0, place.1)?, place, event })
+        let place = (side.pids()[process], index as u64);
+        let (names, event) = (text.names, &side.events(process)[index]);
+        Some(Row { names, line: text.lines.line(place.0, place.1)?, place, event })
     }
 
-    fn pids(&self, pair: Pair) -> Option<(Pid, Pid)> {
-        let [first, second] = self.sides;
-        Some((*first.pids().get(pair.first)?, *second.pids().get(pair.second)?))
+    fn pids(&self, pair: Pair) -> [Pid; 2] {
+        [0, 1].map(|it| self.sides[it].pids()[pair.places[it]])
     }
 
     /// Returns whether there may be fewer changes of a pair.
     fn is_coarse(&self, pair: Pair) -> bool {
-        self.found.changes.is_coarse.get(pair.first).copied().unwrap_or_default()
+        self.found.changes.is_coarse[pair.places[0]]
     }
 
-    pub(super) fn write(&self, out: &mut Output) -> io::Result<()> {
-        if self.is_same() {
-            return writeln!(out, "same");
-        }
-        let sums = self.sums();
-        writeln!(out, "{sums}")?;
-        self.lines().iter().try_for_each(|line| self.write_line(out, line))?;
-        if sums.guesses > 0 {
-            writeln!(out, "gemshowal diff --json has all matches, and which of them are guesses")?;
-        }
-        Ok(())
-    }
-
-    fn write_line(&self, out: &mut Output, line: &Line<'_>) -> io::Result<()> {
+    fn write_line(&self, f: &mut Formatter<'_>, line: &Line<'_>) -> fmt::Result {
         match line {
-            Line::Matched(pair) => self.write_match(out, *pair),
+            Line::Matched(pair) => self.write_match(f, *pair),
             Line::Process { change, pid, names } => {
-                writeln!(out, "{change} {}", names.process(*pid))
+                writeln!(f, "{change} {}", names.process(*pid))
             }
-            Line::Event { change, row, now: None } => writeln!(out, "{change} {row}"),
+            Line::Event { change, row, now: None } => writeln!(f, "{change} {row}"),
             Line::Event { change, row, now: Some(now) } => {
                 let (place, other) = (now.place(), now.other_end());
                 match self.found.moved {
-                    None => writeln!(out, "{change} {row}, now {place}{other}"),
+                    None => writeln!(f, "{change} {row}, now {place}{other}"),
                     Some(Moved { ranks: [[prev, this], [prev_now, this_now]], .. }) => writeln!(
-                        out,
+                        f,
                         "{change} {row}, now {place} {}{other}; the ranks of its counts were \
                          {{{prev},{this}}} and are {{{prev_now},{this_now}}}",
                         gemshowal::Text(now.event.serial)
@@ -241,45 +209,57 @@ impl<'a> Report<'a> {
     }
 
     /// Writes which processes are matched, unless their pid or their name says it all.
-    fn write_match(&self, out: &mut Output, pair: Pair) -> io::Result<()> {
-        let [ones, others] = self.texts.each_ref().map(|text| text.names);
-        let Some((one, other)) = self.pids(pair) else { return Ok(()) };
-        let (one, other) = (ones.process(one), others.process(other));
+    fn write_match(&self, f: &mut Formatter<'_>, pair: Pair) -> fmt::Result {
+        let pids = self.pids(pair);
+        let [one, other] = [0, 1].map(|it| self.texts[it].names.process(pids[it]));
         let (is_guess, is_coarse) = (pair.ground.is_guess(), self.is_coarse(pair));
         if one == other && !is_guess && !is_coarse {
             return Ok(());
         }
-        write!(out, "process {one} is {other}")?;
+        write!(f, "process {one} is {other}")?;
         if is_guess {
-            write!(out, ", a guess: {}", pair.ground.words())?;
+            write!(f, ", a guess: {}", pair.ground.words())?;
         }
         if is_coarse {
-            write!(out, "; compared coarsely, so there may be fewer changes")?;
+            write!(f, "; compared coarsely, so there may be fewer changes")?;
         }
-        writeln!(out)
+        writeln!(f)
     }
+}
 
-    /// Makes the object: the processes that are matched, by rising pid of the first trace's, and
-    /// then what differs.
-    pub(super) fn object(&self) -> impl Serialize + '_ {
+impl Display for Report<'_> {
+    fn fmt(&self, f: &mut Formatter<'_>) -> fmt::Result {
+        if self.is_same() {
+            return writeln!(f, "same");
+        }
+        let sums = self.sums();
+        writeln!(f, "{sums}")?;
+        self.lines().iter().try_for_each(|line| self.write_line(f, line))?;
+        if sums.guesses > 0 {
+            writeln!(f, "gemshowal diff --json has all matches, and which of them are guesses")?;
+        }
+        Ok(())
+    }
+}
+
+impl Serialize for Report<'_> {
+    /// Serializes the processes that are matched, by rising pid of the first trace's, and then what
+    /// differs.
+    fn serialize<S: Serializer>(&self, serializer: S) -> Result<S::Ok, S::Error> {
         let matched = |pair: Pair| {
-            let (process, is) = self.pids(pair)?;
-            Some(Matched {
-                process: gemshowal::Text(process),
-                is: gemshowal::Text(is),
-                because: pair.ground,
-                guess: pair.ground.is_guess(),
-                coarse: self.is_coarse(pair),
-            })
+            let [process, is] = self.pids(pair).map(gemshowal::Text);
+            let (because, coarse) = (pair.ground, self.is_coarse(pair));
+            Matched { process, is, because, guess: because.is_guess(), coarse }
         };
         let pairs = || (0..self.sides[0].len()).filter_map(|it| self.found.pairs.of_first(it));
-        Object {
+        let object = Object {
             other: self.texts[1].name,
             certain: self.is_same() || self.found.is_certain,
             sums: self.sums(),
-            processes: Sequence::of(move || pairs().filter_map(matched)),
+            processes: Sequence::of(move || pairs().map(matched)),
             changes: Sequence::of(|| self.lines().into_iter().filter_map(Difference::of)),
-        }
+        };
+        object.serialize(serializer)
     }
 }
 
@@ -305,10 +285,9 @@ impl Row<'_> {
 
 impl Display for Row<'_> {
     fn fmt(&self, f: &mut Formatter<'_>) -> fmt::Result {
-        let (event, names) = (self.event, self.names);
-        let kind = kind_word(event.kind);
+        let Row { names, event, .. } = self;
         let (label, value) = (names.label(event.label), names.value(event.value));
-        let (place, other) = (self.place(), self.other_end());
+        let (place, kind, other) = (self.place(), kind_word(event.kind), self.other_end());
         let serial = gemshowal::Text(event.serial);
         write!(f, "{place}  {kind:<8} label {label} {serial} {value}{other}")
     }

@@ -86,11 +86,11 @@ fn without_numbers(term: &str) -> Cow<'_, str> {
 #[derive(Debug)]
 pub(super) struct Side<'a> {
     trace: &'a Trace,
-    /// The places at which the events of each process begin, and at which the last ones end.
-    starts: Vec<usize>,
-    items: Vec<Item>,
-    /// The place of the process at the other end of each event's message, or `NOBODY`.
-    peers: Vec<u32>,
+    /// The items of each process.
+    pub(super) items: Vec<Vec<Item>>,
+    /// For each event of each process the place of the process at the other end of its message, or
+    /// `NOBODY`.
+    pub(super) peers: Vec<Vec<u32>>,
 }
 
 impl<'a> Side<'a> {
@@ -99,17 +99,12 @@ impl<'a> Side<'a> {
         names: &'a Names,
         vocabulary: &mut Vocabulary<'a>,
     ) -> Side<'a> {
-        let total = trace.streams().total() as usize;
-        let (mut items, mut peers) = (Vec::with_capacity(total), Vec::with_capacity(total));
-        let mut starts = vec![0];
-        for (_, events) in trace.processes() {
-            for event in events {
-                items.push(vocabulary.item_of(event, names));
-                peers.push(peer_of(trace, event));
-            }
-            starts.push(items.len());
-        }
-        Side { trace, starts, items, peers }
+        let mut process = |(_, events): (Pid, &[Event])| -> (Vec<Item>, Vec<u32>) {
+            let item = |event| (vocabulary.item_of(event, names), peer_of(trace, event));
+            events.iter().map(item).unzip()
+        };
+        let (items, peers) = trace.processes().map(&mut process).unzip();
+        Side { trace, items, peers }
     }
 
     pub(super) fn len(&self) -> usize {
@@ -117,7 +112,7 @@ impl<'a> Side<'a> {
     }
 
     pub(super) fn total(&self) -> usize {
-        self.items.len()
+        self.trace.streams().total() as usize
     }
 
     pub(super) fn pids(&self) -> &'a [Pid] {
@@ -129,29 +124,12 @@ impl<'a> Side<'a> {
     }
 
     pub(super) fn events(&self, place: usize) -> &'a [Event] {
-        self.pids().get(place).map_or(&[], |pid| self.trace.streams().events(*pid))
-    }
-
-    pub(super) fn items(&self, place: usize) -> &[Item] {
-        self.range(place).and_then(|range| self.items.get(range)).unwrap_or_default()
+        self.trace.streams().events(self.pids()[place])
     }
 
     pub(super) fn items_with(&self, place: usize, of_peer: impl Fn(u32) -> u32) -> Vec<u64> {
-        let events = self.items(place).iter().zip(self.peers(place));
+        let events = self.items[place].iter().zip(&self.peers[place]);
         events.map(|(&item, &peer)| u64::from(item) << 32 | u64::from(of_peer(peer))).collect()
-    }
-
-    pub(super) fn all_items(&self) -> &[Item] {
-        &self.items
-    }
-
-    /// Returns the places of the processes at the other ends of the events' messages.
-    pub(super) fn peers(&self, place: usize) -> &[u32] {
-        self.range(place).and_then(|range| self.peers.get(range)).unwrap_or_default()
-    }
-
-    fn range(&self, place: usize) -> Option<std::ops::Range<usize>> {
-        Some(*self.starts.get(place)?..*self.starts.get(place + 1)?)
     }
 
     /// Returns the places of the processes by when they first report something; those that report
