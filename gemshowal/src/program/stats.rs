@@ -4,7 +4,7 @@
 use crate::names::Names;
 use crate::object::Number;
 use crate::reason::paired;
-use crate::view::{Place, View};
+use crate::view::View;
 use crate::{Failure, Status, Task};
 use gemshowal::{Event, Kind, Label, NodeHop, NodeHops, OutOfMemory, Paired, Partner};
 use gemshowal::{Pid, Text, Trace};
@@ -177,7 +177,8 @@ fn widths(trace: &Trace) -> Result<HashMap<(u32, u64), u64>, OutOfMemory> {
     }
     // What a send follows has a lower count.
     sends.sort_unstable_by_key(|&(count, place, _)| (count, place));
-    let mut depths = HashMap::<Place, u64>::with_capacity(sends.len());
+    let depths = trace.processes().map(|(pid, events)| (pid, vec![0; events.len()]));
+    let mut depths: HashMap<Pid, Vec<u64>> = depths.collect();
     for (_, place, event) in sends {
         let receive = match hops.hop(place, event) {
             NodeHop::After(receive) => trace.streams().event(place.0, receive).zip(Some(receive)),
@@ -186,10 +187,12 @@ fn widths(trace: &Trace) -> Result<HashMap<(u32, u64), u64>, OutOfMemory> {
         let sent = receive.map(|(event, index)| hops.hop((place.0, index), &event));
         let depth = match sent {
             None => 1,
-            Some(NodeHop::Sent(pid, send)) => 1 + depths.get(&(pid, send)).copied().unwrap_or(0),
+            Some(NodeHop::Sent(pid, send)) => {
+                1 + depths.get(&pid).map_or(0, |own| own[send as usize])
+            }
             Some(_) => 2,
         };
-        depths.insert(place, depth);
+        depths.entry(place.0).and_modify(|own| own[place.1 as usize] = depth);
         *widths.entry((event.label.0, depth)).or_default() += 1;
     }
     Ok(widths)
