@@ -1,12 +1,13 @@
 //! The command line.
 
 use crate::names::{Names, Time};
-use crate::pieces::Pieces;
 use crate::view::Kept;
 use crate::Failure;
 use clap::error::ErrorKind;
 use clap::{CommandFactory, FromArgMatches, Parser, Subcommand, ValueEnum};
-use gemshowal::{Filter, Row, Span, Trace};
+use gemshowal::{Filter, Pid, Row, Span, Trace};
+use std::collections::BTreeSet;
+use std::ffi::OsString;
 use std::path::{Path, PathBuf};
 
 /// What a trace of Erlang's seq_trace says: whether it could have happened, what it lacks, and what
@@ -254,15 +255,22 @@ impl Conditions {
         if self.are_of_time() && names.times().is_none() {
             return Err(Failure::NoTimes);
         }
-        let label = self.label.as_deref().map(|label| names.find_label(trace, Some(label)));
-        let process =
-            self.process.as_deref().map(|name| names.find_process(trace.streams().pids(), name));
-        Ok(Filter {
-            label: label.transpose()?,
-            process: process.transpose()?,
-            lines: self.lines,
-            counts: self.counts,
-        })
+        let labels = || trace.events().map(|(_, event)| event.label.0).collect();
+        self.filter_among(names, labels, trace.streams().pids())
+    }
+
+    /// Makes the conditions but for times, on events of these labels and processes.
+    pub(crate) fn filter_among(
+        &self,
+        names: &Names,
+        labels: impl FnOnce() -> BTreeSet<u32>,
+        pids: &[Pid],
+    ) -> Result<Filter, Failure> {
+        let label = self.label.as_deref();
+        let label = label.map(|label| names.find_label_among(&labels(), Some(label)));
+        let process = self.process.as_deref().map(|name| names.find_process(pids, name));
+        let (label, process) = (label.transpose()?, process.transpose()?);
+        Ok(Filter { label, process, lines: self.lines, counts: self.counts })
     }
 
     /// Returns whether an event meets the conditions on times.
@@ -337,6 +345,47 @@ impl Why {
     pub(crate) fn most(&self) -> u64 {
         self.depth.unwrap_or(u64::MAX)
     }
+}
+
+#[derive(Subcommand)]
+pub(crate) enum Pieces {
+    /// Says whether any run without a reset has a trace of any size, in one file or many
+    #[command(after_help = include_str!("../../help/verdict.txt"))]
+    Verdict(Verdict),
+    /// Writes the events of a trace for a sort, as the first of three filters
+    #[command(after_help = include_str!("../../help/scatter.txt"))]
+    Scatter(Scatter),
+    /// Judges each process by the sorted lines of scatter, as the second of three filters
+    Judge(Sorted),
+    /// Says the verdict by the sorted lines of judge, as the last of three filters
+    Gather(Sorted),
+}
+
+#[derive(clap::Args)]
+pub(crate) struct Verdict {
+    /// The parts of the trace, in order: files, NAME of NAME.seqtrace, or - for standard input
+    #[arg(value_name = "NAME", default_value = "-")]
+    pub(crate) files: Vec<PathBuf>,
+    /// The most memory that sort may take
+    #[arg(long, value_name = "SIZE", default_value = "1G")]
+    pub(crate) memory: OsString,
+}
+
+#[derive(clap::Args)]
+pub(crate) struct Scatter {
+    /// The parts of the trace, in order: files, NAME of NAME.seqtrace, or - for standard input
+    #[arg(value_name = "NAME", default_value = "-")]
+    pub(crate) files: Vec<PathBuf>,
+    /// The number of the first part, if others are scattered elsewhere
+    #[arg(long, value_name = "N", default_value_t = 0)]
+    pub(crate) part: u16,
+}
+
+#[derive(clap::Args)]
+pub(crate) struct Sorted {
+    /// A file of sorted lines, or - for standard input
+    #[arg(value_name = "FILE", default_value = "-")]
+    pub(crate) file: PathBuf,
 }
 
 impl Command {

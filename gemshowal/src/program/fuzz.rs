@@ -10,7 +10,7 @@ use clap::Parser;
 use gemshowal::{Paired, Partner, Text, Trace};
 use std::cell::RefCell;
 use std::io::{self, Write};
-use std::path::{Path, PathBuf};
+use std::path::Path;
 use std::rc::Rc;
 use std::{env, fs, process};
 
@@ -37,10 +37,10 @@ const COMMANDS: &str = "audit|audit --json|audit --each-label|audit --each-label
     times --json|why IT shop#2|list --label {order,7}";
 
 /// Numbers that look like chance (xorshift).
-pub(crate) struct Chance(pub(crate) u64);
+struct Chance(u64);
 
 impl Chance {
-    pub(crate) fn below(&mut self, most: usize) -> usize {
+    fn below(&mut self, most: usize) -> usize {
         self.0 ^= self.0 << 13;
         self.0 ^= self.0 >> 7;
         self.0 ^= self.0 << 17;
@@ -55,7 +55,12 @@ impl Chance {
             0 => [front, behind(1 + self.below(20))].concat(),
             1 | 2 => [front, self.piece(), behind(self.below(3))].concat(),
             3 => front.to_vec(),
-            4 => self.with_lines_exchanged(text),
+            4 => {
+                let mut lines: Vec<&[u8]> = text.split(|&byte| byte == b'\n').collect();
+                let (one, other) = (self.below(lines.len()), self.below(lines.len()));
+                lines.swap(one, other);
+                lines.join(&b'\n')
+            }
             5 => self.with_number(text),
             _ => [front, &[self.below(256) as u8], behind(1)].concat(),
         }
@@ -64,13 +69,6 @@ impl Chance {
     fn piece(&mut self) -> &'static [u8] {
         let pieces = || PIECES.split(|&byte| byte == b'|');
         pieces().nth(self.below(pieces().count())).unwrap()
-    }
-
-    fn with_lines_exchanged(&mut self, text: &[u8]) -> Vec<u8> {
-        let mut lines: Vec<&[u8]> = text.split(|&byte| byte == b'\n').collect();
-        let (one, other) = (self.below(lines.len()), self.below(lines.len()));
-        lines.swap(one, other);
-        lines.join(&b'\n')
     }
 
     /// Replaces a digit of a text by another: often it is still a trace.
@@ -165,19 +163,14 @@ impl Write for Written {
 
 /// Reads a command line about the text of this file.
 fn command(words: &str, folder: &Path, it: &str) -> Args {
-    let mut words: Vec<PathBuf> =
-        ["gemshowal"].into_iter().chain(words.split(' ')).map(PathBuf::from).collect();
-    if !words.contains(&"IT".into()) {
-        words.push("IT".into());
-    }
-    for word in &mut words {
-        match word.to_str() {
-            Some("IT") => *word = folder.join(it),
-            Some("ALL") => *word = folder.join("all.txt"),
-            _ => {}
-        }
-    }
-    Args::try_parse_from(words).unwrap()
+    let it_last = (!words.contains("IT")).then_some("IT");
+    let path = |word| match word {
+        "IT" => folder.join(it),
+        "ALL" => folder.join("all.txt"),
+        word => word.into(),
+    };
+    let words = ["gemshowal"].into_iter().chain(words.split(' ')).chain(it_last);
+    Args::try_parse_from(words.map(path)).unwrap()
 }
 
 /// Does a command, and returns whether the status is a yes. An object is whole, whatever the

@@ -124,6 +124,9 @@ fn report(failure: Failure, is_json: bool, out: &mut Output) -> Result<Status, F
 
 /// Does the command on one input after the other. The status is that of the worst.
 fn run(word: &str, args: &Args) -> Result<u8, Failure> {
+    if let Command::Pieces(pieces) = &args.command {
+        return pieces::run(pieces, args.quiet);
+    }
     let mut status = 0;
     let files = args.command.files();
     let has_headings = files.len() > 1 && !args.json;
@@ -169,9 +172,6 @@ fn main() -> ExitCode {
         return ExitCode::from(erlang::hand_over(word, words));
     }
     ExitCode::from(match Args::read() {
-        Ok((_, Args { command: Command::Pieces(pieces), quiet, .. })) => {
-            pieces::run(&pieces, quiet)
-        }
         Ok((word, args)) => run(&word, &args).unwrap_or_else(|failure| complain(&failure)),
         Err(error) => print(&error),
     })

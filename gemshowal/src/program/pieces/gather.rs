@@ -104,13 +104,9 @@ impl Gathered {
             let words = "the lines aren't all that scatter wrote, or some are there twice";
             return Err(Failure::Torn(format!("{name}: {words}")));
         }
-        match &self.found {
-            None => self.write_fits(out),
-            Some(found) => self.write_never(found, out),
+        if let Some(found) = &self.found {
+            return self.write_never(found, out);
         }
-    }
-
-    fn write_fits(&self, out: &mut impl Write) -> Result<Status, Failure> {
         let (processes, events) = (self.processes, self.judged.events());
         let unreported = count(self.unreported, "unreported send");
         let sizes = format!("{}, {}", count(processes, "process"), count(events, "event"));

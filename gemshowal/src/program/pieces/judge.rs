@@ -1,7 +1,7 @@
 //! `judge`: the first reason in each piece, and what the verdict needs beside it.
 
+use super::reader::read_event;
 use super::record::{Counts, Line, Place, Rest, COUNTS};
-use super::text::read_event;
 use super::walk_sorted;
 use crate::reason::Against;
 use crate::Failure;
@@ -50,14 +50,14 @@ pub(super) fn judge(
         Ok(kind.map(|kind| totals.lines.count(kind)))
     })?;
     finish(piece, &mut totals, out)?;
-    totals.write(out)?;
+    totals.lines.append_to(Line::default().starting(b"3T")).write(out)?;
+    let mut last = Line::default();
+    last.starting(b"4").number(totals.processes).number(totals.unreported).write(out)?;
     Ok(out.flush()?)
 }
 
 fn finish(piece: Option<Piece>, totals: &mut Totals, out: &mut impl Write) -> io::Result<()> {
-    let Some(piece) = piece else {
-        return Ok(());
-    };
+    let Some(piece) = piece else { return Ok(()) };
     if piece.parts.is_empty() {
         return Line::default().starting(b"0").pid(piece.pid).write(out);
     }
@@ -177,15 +177,11 @@ impl Piece {
         line.starting(b"1").bytes(against.word().as_bytes());
         let places = [Some((found.pid, found.index)), against.other()];
         for (pid, index) in places.into_iter().flatten() {
+            let event = self.event(pid, index).map(|event| Text(event).to_string());
             line.byte(b'\t').pid(pid).number(self.place(pid, index).0).byte(b'\t');
-            self.put_event(pid, index, &mut line);
+            line.bytes(event.unwrap_or_default().as_bytes());
         }
         line.write(out)
-    }
-
-    fn put_event(&self, pid: Pid, index: u64, line: &mut Line) {
-        let text = self.event(pid, index).map(|event| Text(event).to_string());
-        line.bytes(text.unwrap_or_default().as_bytes());
     }
 
     /// Writes how many events of the process are in each part, if it is in others than the first.
@@ -197,12 +193,5 @@ impl Piece {
             let mut line = Line::default();
             line.starting(b"2").pid(self.pid).number(Place::new(part, count).0).write(out)
         })
-    }
-}
-
-impl Totals {
-    fn write(&self, out: &mut impl Write) -> io::Result<()> {
-        self.lines.append_to(Line::default().starting(b"3T")).write(out)?;
-        Line::default().starting(b"4").number(self.processes).number(self.unreported).write(out)
     }
 }

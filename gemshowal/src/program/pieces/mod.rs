@@ -8,16 +8,11 @@ mod judge;
 mod reader;
 mod record;
 mod scatter;
-#[cfg(test)]
-mod split;
-mod text;
 mod verdict;
-mod words;
 
 pub(crate) use self::reader::{walk, Entry, Reported};
-pub(crate) use self::words::Pieces;
 
-use self::words::Scatter;
+use crate::args::Pieces;
 use crate::input::Input;
 use crate::{output, Failure, Status};
 use std::io::{self, BufRead, BufReader, BufWriter, Read, Write};
@@ -33,6 +28,7 @@ const LONGEST: usize = 4096;
 struct Lines<R> {
     input: R,
     line: Vec<u8>,
+    /// The number of lines that were read.
     number: u64,
 }
 
@@ -47,11 +43,6 @@ enum Next<'a> {
 impl<R: BufRead> Lines<R> {
     fn new(input: R) -> Lines<R> {
         Lines { input, line: Vec::new(), number: 0 }
-    }
-
-    /// Returns how many lines were read.
-    fn number(&self) -> u64 {
-        self.number
     }
 
     fn next(&mut self) -> io::Result<Next<'_>> {
@@ -80,7 +71,7 @@ fn walk_sorted(
     let mut lines = Lines::new(input);
     let mut before = Vec::new();
     loop {
-        let number = lines.number() + 1;
+        let number = lines.number + 1;
         let torn = || Failure::Torn(format!("{name}: line {number} is none of {filter}'s, sorted"));
         match lines.next().map_err(|reason| Failure::Unread(name.to_owned(), reason))? {
             Next::Line(line) if line >= &before[..] => {
@@ -108,20 +99,18 @@ fn parts(files: &[PathBuf], first: u16) -> Result<impl Iterator<Item = (&PathBuf
 }
 
 /// Runs one of the commands, and returns the status.
-pub(crate) fn run(pieces: &Pieces, is_quiet: bool) -> u8 {
-    run_command(pieces, is_quiet).map_or_else(
-        |failure| {
-            output::complain(format_args!("error: {failure}\n"));
-            failure.status()
-        },
-        |status| status as u8,
-    )
-}
-
-fn run_command(pieces: &Pieces, is_quiet: bool) -> Result<Status, Failure> {
+pub(crate) fn run(pieces: &Pieces, is_quiet: bool) -> Result<u8, Failure> {
     let mut out = BufWriter::with_capacity(BUFFER, output::device(is_quiet)?);
     let status = match pieces {
-        Pieces::Scatter(args) => scatter_files(args, &mut out)?,
+        Pieces::Scatter(args) => {
+            let mut scatter = scatter::Scatter::new(&mut out);
+            for (file, part) in parts(&args.files, args.part)? {
+                let (name, input) = open(file)?;
+                scatter.take(part, &name, input, |_| ())?;
+            }
+            scatter.finish()?;
+            Status::Yes
+        }
         Pieces::Judge(args) => {
             let (name, input) = open(&args.file)?;
             judge::judge(&name, input, &mut out, |_| ())?;
@@ -134,15 +123,5 @@ fn run_command(pieces: &Pieces, is_quiet: bool) -> Result<Status, Failure> {
         Pieces::Verdict(args) => verdict::verdict(args, &mut out)?,
     };
     out.flush()?;
-    Ok(status)
-}
-
-fn scatter_files(args: &Scatter, out: &mut impl Write) -> Result<Status, Failure> {
-    let mut scatter = scatter::Scatter::new(out);
-    for (file, part) in parts(&args.files, args.part)? {
-        let (name, input) = open(file)?;
-        scatter.take(part, &name, input, |_| ())?;
-    }
-    scatter.finish()?;
-    Ok(Status::Yes)
+    Ok(status as u8)
 }

@@ -1,9 +1,8 @@
 //! A text of a trace, line by line: no more of it is remembered than the next line needs.
 
-use super::text::{read_event, read_process};
 use super::{Lines, Next};
 use crate::{lint, Failure};
-use gemshowal::{Event, Pid, ReadFault};
+use gemshowal::{read_number, read_pid, Event, Kind, Label, Pid, ReadFault, Serial};
 use std::io::BufRead;
 
 /// A line after the header, but for `acts`.
@@ -47,7 +46,7 @@ pub(crate) fn walk(
     let mut text = Text::default();
     let mut lines = Lines::new(input);
     loop {
-        let number = lines.number() + 1;
+        let number = lines.number + 1;
         match lines.next().map_err(|reason| Failure::Unread(name.to_owned(), reason))? {
             Next::Line(line) if number == 1 => text.begin(line).map_err(faulty)?,
             Next::Line(line) if text.has_acts => {
@@ -63,54 +62,27 @@ pub(crate) fn walk(
 }
 
 impl Text {
-    /// Takes the header.
-    fn begin(&mut self, line: &[u8]) -> Result<(), ReadFault> {
-        self.is_wide = line == b"seqtrace 2";
-        if self.is_wide || line == b"seqtrace 1" {
-            Ok(())
-        } else {
-            Err(ReadFault::Line(1))
+    fn begin(&mut self, header: &[u8]) -> Result<(), ReadFault> {
+        self.is_wide = header == b"seqtrace 2";
+        match header {
+            b"seqtrace 1" | b"seqtrace 2" => Ok(()),
+            _ => Err(ReadFault::Line(1)),
         }
     }
 
     /// Refuses a needless header of several nodes.
     fn end(&self) -> Result<(), ReadFault> {
-        if self.is_wide && !self.is_remote {
-            Err(ReadFault::Line(1))
-        } else {
-            Ok(())
+        match (self.is_wide, self.is_remote) {
+            (true, false) => Err(ReadFault::Line(1)),
+            _ => Ok(()),
         }
     }
 
     fn entry<'a>(&mut self, number: u64, line: &'a [u8]) -> Result<Entry<'a>, ReadFault> {
-        if let Some(event) = read_event(line) {
-            let (pid, index) = self.place(number, &event)?;
-            return Ok(Entry::Event(Reported { pid, index, event, line }));
-        }
-        let pid = read_process(line).ok_or(ReadFault::Line(number))?;
-        self.open(number, pid)?;
-        Ok(Entry::Process(pid))
-    }
-
-    fn act(&mut self, number: u64, line: &[u8]) -> Result<(lint::Pids, usize), ReadFault> {
-        let (pids, listed) = lint::read_act(line).ok_or(ReadFault::Line(number))?;
-        pids.iter().try_for_each(|&pid| self.name(number, pid))?;
-        Ok((pids, listed))
-    }
-
-    /// Opens a process.
-    fn open(&mut self, number: u64, pid: Pid) -> Result<(), ReadFault> {
-        self.name(number, pid)?;
-        if self.last.is_some_and(|last| last >= pid) {
-            return Err(ReadFault::Order(number));
-        }
-        self.last = Some(pid);
-        self.index = 0;
-        Ok(())
-    }
-
-    /// Returns the place of the event on the next line.
-    fn place(&mut self, number: u64, event: &Event) -> Result<(Pid, u64), ReadFault> {
+        let Some(event) = read_event(line) else {
+            let pid = line.strip_prefix(b"process ").and_then(read_pid);
+            return self.open(number, pid.ok_or(ReadFault::Line(number))?);
+        };
         self.name(number, event.from)?;
         event.to.map_or(Ok(()), |to| self.name(number, to))?;
         let pid = self.last.ok_or(ReadFault::Line(number))?;
@@ -118,7 +90,22 @@ impl Text {
             return Err(ReadFault::Foreign(number));
         }
         self.index += 1;
-        Ok((pid, self.index - 1))
+        Ok(Entry::Event(Reported { pid, index: self.index - 1, event, line }))
+    }
+
+    fn open(&mut self, number: u64, pid: Pid) -> Result<Entry<'static>, ReadFault> {
+        self.name(number, pid)?;
+        if self.last.replace(pid).is_some_and(|last| last >= pid) {
+            return Err(ReadFault::Order(number));
+        }
+        self.index = 0;
+        Ok(Entry::Process(pid))
+    }
+
+    fn act(&mut self, number: u64, line: &[u8]) -> Result<(lint::Pids, usize), ReadFault> {
+        let (pids, listed) = lint::read_act(line).ok_or(ReadFault::Line(number))?;
+        pids.iter().try_for_each(|&pid| self.name(number, pid))?;
+        Ok((pids, listed))
     }
 
     /// Refuses a pid of another node under the header of one node.
@@ -129,4 +116,25 @@ impl Text {
         }
         Ok(())
     }
+}
+
+/// Reads the line of an event, by the proved readers of its words.
+pub(super) fn read_event(line: &[u8]) -> Option<Event> {
+    let inside = line.strip_prefix(b"{seq_trace,")?.strip_suffix(b"}}")?;
+    let mut words = inside.split(|&byte| byte == b',');
+    let [label, kind, prev, this, from, to, value] =
+        std::array::from_fn(|_| words.next().unwrap_or_default());
+    let (kind, to) = match (kind, to) {
+        (b"{send", _) => (Kind::Send, Some(read_pid(to)?)),
+        (b"{'receive'", _) => (Kind::Receive, Some(read_pid(to)?)),
+        (b"{print", b"[]") => (Kind::Print, None),
+        _ => return None,
+    };
+    let serial = Serial {
+        prev: read_number(prev.strip_prefix(b"{")?)?,
+        this: read_number(this.strip_suffix(b"}")?)?,
+    };
+    let label = Label(read_number(label)?.try_into().ok()?);
+    let (from, value) = (read_pid(from)?, read_number(value)?);
+    words.next().is_none().then_some(Event { label, kind, to, from, serial, value })
 }

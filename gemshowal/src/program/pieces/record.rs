@@ -85,7 +85,6 @@ impl Line {
         self
     }
 
-    /// Writes the line with its end.
     pub(super) fn write(&mut self, out: &mut impl Write) -> io::Result<()> {
         self.0.push(b'\n');
         out.write_all(&self.0)
@@ -119,12 +118,8 @@ impl<'a> Rest<'a> {
     fn hex(&mut self, digits: usize) -> Option<u64> {
         let (front, rest) = self.0.split_at_checked(digits)?;
         self.0 = rest;
-        front.iter().try_fold(0, |number, byte| {
-            let digit = match byte {
-                b'0'..=b'9' => byte - b'0',
-                b'a'..=b'f' => byte - b'a' + 10,
-                _ => return None,
-            };
+        front.iter().try_fold(0, |number, &byte| {
+            let digit = char::from(byte).to_digit(16).filter(|_| !byte.is_ascii_uppercase())?;
             Some(number << 4 | u64::from(digit))
         })
     }
@@ -156,7 +151,6 @@ impl Counts {
         self.0.iter_mut().zip(other.0).for_each(|(sum, count)| *sum += count);
     }
 
-    /// Returns how many events there are.
     pub(super) fn events(&self) -> u64 {
         self.0[1]
     }

@@ -2,8 +2,8 @@
 
 use super::judge::judge;
 use super::scatter::Scatter;
-use super::words::Verdict;
 use super::{gather, open, parts, BUFFER};
+use crate::args::Verdict;
 use crate::view::count;
 use crate::{output, Failure, Status};
 use std::ffi::OsStr;
@@ -58,34 +58,28 @@ impl Progress {
 }
 
 /// A `sort` by bytes.
-struct Sort {
-    child: Child,
-}
+struct Sort(Child);
 
 impl Sort {
     fn start(memory: &OsStr) -> Result<Sort, Failure> {
         let mut sort = Command::new("sort");
         sort.env("LC_ALL", "C").arg("--buffer-size").arg(memory);
-        let started = sort.stdin(Stdio::piped()).stdout(Stdio::piped()).spawn();
-        let child =
-            started.map_err(|error| Failure::Program(format!("sort can't be run: {error}")))?;
-        Ok(Sort { child })
+        let child = sort.stdin(Stdio::piped()).stdout(Stdio::piped()).spawn();
+        child.map(Sort).map_err(|error| Failure::Program(format!("sort can't be run: {error}")))
     }
 
     fn input(&mut self) -> Result<ChildStdin, Failure> {
-        self.child.stdin.take().ok_or_else(failed)
+        self.0.stdin.take().ok_or_else(failed)
     }
 
     fn output(&mut self) -> Result<ChildStdout, Failure> {
-        self.child.stdout.take().ok_or_else(failed)
+        self.0.stdout.take().ok_or_else(failed)
     }
 
     /// Waits for its end.
     fn end(mut self) -> Result<(), Failure> {
-        match self.child.wait() {
-            Ok(status) if status.success() => Ok(()),
-            _ => Err(failed()),
-        }
+        let is_done = self.0.wait().is_ok_and(|status| status.success());
+        is_done.then_some(()).ok_or_else(failed)
     }
 }
 
