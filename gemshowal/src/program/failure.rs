@@ -48,8 +48,8 @@ pub(crate) enum Failure {
     NoActs(String),
     #[error(transparent)]
     Beside(#[from] names::Fault),
-    #[error(transparent)]
-    NotFound(#[from] names::NotFound),
+    #[error("{0}")]
+    NotFound(String),
     #[error("the trace has no times: events need the flag timestamp, and NAME.times beside it")]
     NoTimes,
     #[error("the files' times can't be compared: those of one tell no date")]
@@ -91,7 +91,6 @@ impl Failure {
             | Failure::Beside(names::Fault::Wrong { .. } | names::Fault::Unlike { .. }) => {
                 Status::Faulty as u8
             }
-            Failure::NotFound(names::NotFound::Memory(_)) => 4,
             Failure::NotFound(_) | Failure::NoTimes | Failure::NoDate | Failure::NothingLeft(_) => {
                 Status::No as u8
             }

@@ -115,9 +115,13 @@ impl Input {
             return read.map_err(|error| self.refused(error, Input::again));
         }
         let mut spooled = Spooled::new(&mut self.reader);
-        let read = Trace::read(&mut spooled);
-        let bytes = if read.is_err() { spooled.bytes() } else { Ok(Vec::new()) };
-        read.map_err(|error| self.refused(error, |_| bytes))
+        let error = match Trace::read(&mut spooled) {
+            Ok(trace) => return Ok(trace),
+            Err(error) => error,
+        };
+        let mut bytes = Vec::new();
+        let kept = spooled.kept().and_then(|mut kept| kept.read_to_end(&mut bytes));
+        Err(self.refused(error, |_| kept.map(|_| bytes)))
     }
 
     pub(crate) fn refused(
@@ -225,20 +229,15 @@ pub(crate) struct Spooled<R> {
     reader: R,
     held: Vec<u8>,
     file: io::Result<Option<File>>,
-    is_at_end: bool,
 }
 
 impl<R: Read> Spooled<R> {
     pub(crate) fn new(reader: R) -> Spooled<R> {
-        Spooled { reader, held: Vec::new(), file: Ok(None), is_at_end: false }
+        Spooled { reader, held: Vec::new(), file: Ok(None) }
     }
 
-    /// Reads to the end, and returns a reader of all that was read.
-    pub(crate) fn whole(&mut self) -> io::Result<impl Read + '_> {
-        if !self.is_at_end {
-            io::copy(self, &mut io::sink())?;
-            self.is_at_end = true;
-        }
+    /// Returns a reader of all that was read.
+    pub(crate) fn kept(&mut self) -> io::Result<impl Read + '_> {
         let file = self.file.as_mut().map_err(|error| {
             let words = format!("it can't be kept in {}: {error}", env::temp_dir().display());
             io::Error::new(error.kind(), words)
@@ -253,34 +252,30 @@ impl<R: Read> Spooled<R> {
         Ok(front.chain(&self.held[..]))
     }
 
-    pub(crate) fn bytes(self) -> io::Result<Vec<u8>> {
-        let Some(mut file) = self.file? else { return Ok(self.held) };
-        let mut bytes = Vec::new();
-        file.rewind()?;
-        file.read_to_end(&mut bytes)?;
-        bytes.extend_from_slice(&self.held);
-        Ok(bytes)
+    /// Moves the bytes that are held to the file.
+    fn pour(&mut self) -> io::Result<()> {
+        if let Ok(file @ None) = &mut self.file {
+            *file = Some(nameless()?);
+        }
+        if let Ok(Some(file)) = &mut self.file {
+            file.write_all(&self.held)?;
+        }
+        Ok(())
     }
 }
 
 impl<R: Read> Read for Spooled<R> {
     fn read(&mut self, piece: &mut [u8]) -> io::Result<usize> {
         let taken = self.reader.read(piece)?;
-        if let Ok(file) = &mut self.file {
-            self.held.extend_from_slice(&piece[..taken]);
-            if self.held.len() > IN_MEMORY {
-                self.file = poured(file.take(), &self.held).map(Some);
-                self.held.clear();
+        self.held.extend_from_slice(&piece[..taken]);
+        if self.held.len() > IN_MEMORY {
+            if let Err(error) = self.pour() {
+                self.file = Err(error);
             }
+            self.held.clear();
         }
         Ok(taken)
     }
-}
-
-fn poured(file: Option<File>, bytes: &[u8]) -> io::Result<File> {
-    let mut file = file.map_or_else(nameless, Ok)?;
-    file.write_all(bytes)?;
-    Ok(file)
 }
 
 fn nameless() -> io::Result<File> {

@@ -28,9 +28,9 @@ struct Own {
 #[derive(Default)]
 pub(super) struct Kept {
     processes: BTreeMap<Pid, Own>,
-    events: u64,
+    pub(super) events: u64,
     /// How many receives have a send, and sends a receive, that isn't kept.
-    open: [u64; 2],
+    pub(super) open: [u64; 2],
     /// The places that were asked for, each with the event's index in what is kept.
     places: BTreeMap<Place, u64>,
 }
@@ -40,24 +40,20 @@ impl Ends {
         let mut ends = Ends::default();
         parts.walk(|line, before, entry| {
             let Entry::Event(reported) = entry else { return Ok(()) };
-            if selection.takes(line, before, &reported)? {
-                if selection.is_near() {
-                    ends.stamps.insert(stamp(&reported.event));
-                } else {
-                    ends.choose(&reported.event);
-                }
+            let event = &reported.event;
+            if !selection.takes(line, before, &reported)? {
+                return Ok(());
+            }
+            if !selection.places.is_empty() {
+                ends.stamps.insert(stamp(event));
+            } else if event.kind != Kind::Print {
+                let end = usize::from(event.kind == Kind::Receive);
+                ends.chosen.entry(MessageContent::of(event)).or_default()[end] += 1;
             }
             Ok(())
         })?;
         selection.end()?;
         Ok(ends)
-    }
-
-    fn choose(&mut self, event: &Event) {
-        let end = usize::from(event.kind == Kind::Receive);
-        if event.kind != Kind::Print {
-            self.chosen.entry(MessageContent::of(event)).or_default()[end] += 1;
-        }
     }
 }
 
@@ -77,10 +73,9 @@ impl Kept {
             if selection.takes(line, before, &reported)?
                 || ends.stamps.contains(&stamp(&reported.event))
             {
-                if selection.has_place(reported.pid, before + reported.index) {
-                    kept.add_place(&reported, before);
-                }
-                kept.add(&reported);
+                let now = kept.add(&reported);
+                let place = (reported.pid, before + reported.index);
+                kept.places.extend(selection.places.contains(&place).then_some((place, now)));
             } else {
                 kept.count_open(&reported.event, ends);
             }
@@ -90,7 +85,8 @@ impl Kept {
         Ok(kept)
     }
 
-    fn add(&mut self, reported: &Reported<'_>) {
+    /// Adds an event, and returns its index in what is kept.
+    fn add(&mut self, reported: &Reported<'_>) -> u64 {
         let event = &reported.event;
         for pid in [Some(event.from), event.to].into_iter().flatten() {
             self.processes.entry(pid).or_default();
@@ -100,11 +96,7 @@ impl Kept {
         own.text.extend_from_slice(reported.line);
         own.text.push(b'\n');
         self.events += 1;
-    }
-
-    fn add_place(&mut self, reported: &Reported<'_>, before: u64) {
-        let now = self.processes.get(&reported.pid).map_or(0, |own| own.count);
-        self.places.insert((reported.pid, before + reported.index), now);
+        own.count - 1
     }
 
     /// Counts the chosen ends of a message that this event, which isn't kept, is the other end of.
@@ -117,7 +109,6 @@ impl Kept {
         }
     }
 
-    /// Writes the text of a trace.
     pub(super) fn write(&self, out: &mut impl Write) -> io::Result<()> {
         let is_remote = self.processes.keys().any(|pid| pid.node() > 0);
         writeln!(out, "seqtrace {}", if is_remote { 2 } else { 1 })?;
@@ -125,14 +116,6 @@ impl Kept {
             writeln!(out, "process {}", Text(pid))?;
             out.write_all(&own.text)
         })
-    }
-
-    pub(super) fn events(&self) -> u64 {
-        self.events
-    }
-
-    pub(super) fn open(&self) -> [u64; 2] {
-        self.open
     }
 
     /// Returns the places that were asked for, each with the event's index in what is kept and its

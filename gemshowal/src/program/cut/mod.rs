@@ -31,11 +31,11 @@ pub(crate) fn run(args: &Cut, task: Task<'_>) -> Result<Status, Failure> {
         let [before, now] = [index, now].map(|index| names.event((pid, index)));
         notes.say(format_args!("note: {before} is {now} in what is kept, on line {line}"));
     }
-    let [receives, sends] = kept.open();
+    let [receives, sends] = kept.open;
     notes.say(format_args!(
         "note: {} of {} are kept; the sends of {} and the receives of {} are cut off",
-        grouped(kept.events()),
-        count(survey.events(), "event"),
+        grouped(kept.events),
+        count(survey.events, "event"),
         count(receives, "receive"),
         count(sends, "send")
     ));

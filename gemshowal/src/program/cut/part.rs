@@ -6,8 +6,8 @@ use crate::output::Notes;
 use crate::pieces::{walk, Entry, BUFFER};
 use crate::{lint, Failure};
 use gemshowal::Pid;
-use std::collections::HashMap;
-use std::io::{BufReader, Read};
+use std::collections::{BTreeMap, HashMap};
+use std::io::{self, BufReader, Read};
 use std::path::{Path, PathBuf};
 
 /// The most bytes of a text in which a mistake is described as `lint` describes it. Of a longer
@@ -17,7 +17,7 @@ const DESCRIBED: u64 = 67_108_864;
 pub(super) struct Part {
     /// The file as the command line names it, and as it is found.
     word: PathBuf,
-    path: PathBuf,
+    pub(super) path: PathBuf,
     /// The name on one line.
     name: String,
     /// The bytes, if they can't be read again: those of standard input or of a pipe.
@@ -30,24 +30,20 @@ pub(super) type Line = (usize, u64);
 pub(super) struct Parts(Vec<Part>);
 
 impl Part {
-    fn new(input: &mut Input, word: &Path) -> Part {
+    fn new(input: &mut Input, word: &Path) -> Result<Part, Failure> {
         let (path, name) = (input.path().to_owned(), input.line_name().to_owned());
-        let spooled = if input.is_regular() { None } else { Some(Spooled::new(input.take())) };
-        Part { word: word.to_owned(), path, name, spooled }
+        let mut spooled = (!input.is_regular()).then(|| Spooled::new(input.take()));
+        if let Some(spooled) = &mut spooled {
+            let read = io::copy(spooled, &mut io::sink());
+            read.map_err(|reason| Failure::Unread(name.clone(), reason))?;
+        }
+        Ok(Part { word: word.to_owned(), path, name, spooled })
     }
 
     fn read(&mut self) -> Result<Box<dyn Read + '_>, Failure> {
-        match &mut self.spooled {
-            None => Ok(Input::open(&self.path)?.take()),
-            Some(spooled) => match spooled.whole() {
-                Ok(whole) => Ok(Box::new(whole)),
-                Err(reason) => Err(Failure::Unread(self.name.clone(), reason)),
-            },
-        }
-    }
-
-    pub(super) fn path(&self) -> &Path {
-        &self.path
+        let Some(spooled) = &mut self.spooled else { return Ok(Input::open(&self.path)?.take()) };
+        let kept = spooled.kept().map_err(|reason| Failure::Unread(self.name.clone(), reason))?;
+        Ok(Box::new(kept))
     }
 
     pub(super) fn is_called(&self, word: &str) -> bool {
@@ -68,15 +64,11 @@ impl Part {
 impl Parts {
     /// Takes the first part, which is opened, and the files of the others.
     pub(super) fn new(first: &mut Input, files: &[PathBuf]) -> Result<Parts, Failure> {
-        let mut parts = Vec::new();
-        for file in files {
-            parts.push(if parts.is_empty() {
-                Part::new(first, file)
-            } else {
-                Part::new(&mut Input::open(file)?, file)
-            });
-        }
-        Ok(Parts(parts))
+        let part = |(number, file): (usize, &PathBuf)| match number {
+            0 => Part::new(first, file),
+            _ => Part::new(&mut Input::open(file)?, file),
+        };
+        Ok(Parts(files.iter().enumerate().map(part).collect::<Result<_, _>>()?))
     }
 
     pub(super) fn iter(&self) -> impl ExactSizeIterator<Item = &Part> {
@@ -97,14 +89,23 @@ impl Parts {
     pub(super) fn walk(
         &mut self,
         mut each: impl FnMut(Line, u64, Entry<'_>) -> Result<(), Failure>,
-    ) -> Result<HashMap<Pid, u64>, Failure> {
-        let mut counts = Counts::default();
+    ) -> Result<BTreeMap<Pid, u64>, Failure> {
+        let (mut numbers, mut counts) = (HashMap::<Pid, usize>::new(), Vec::new());
         for at in 0..self.0.len() {
+            let (mut process, mut before) = (0, 0);
             let part = &mut self.0[at];
             let name = part.name.clone();
             let input = BufReader::with_capacity(BUFFER, part.read()?);
             let walked = walk(&name, input, |number, entry| {
-                let before = counts.take(&entry);
+                match &entry {
+                    Entry::Process(pid) => {
+                        process = *numbers.entry(*pid).or_insert(counts.len());
+                        counts.resize(numbers.len(), 0);
+                        before = counts[process];
+                    }
+                    Entry::Event(_) => counts[process] += 1,
+                    Entry::Act(_) => {}
+                }
                 each((at, number), before, entry)
             });
             walked.map_err(|failure| match failure {
@@ -112,7 +113,7 @@ impl Parts {
                 other => other,
             })?;
         }
-        Ok(counts.finish())
+        Ok(numbers.into_iter().map(|(pid, number)| (pid, counts[number])).collect())
     }
 
     /// Refuses a part for these words. The mistakes that `lint` finds are those of a whole trace.
@@ -121,38 +122,5 @@ impl Parts {
             [one] => one.describe(words),
             parts => Failure::Faulty(parts[part].name.clone(), words),
         }
-    }
-}
-
-/// The number of events of each process so far.
-#[derive(Default)]
-struct Counts {
-    all: HashMap<Pid, u64>,
-    /// The process of the last process line, with its events in the parts before and up to here.
-    last: Option<(Pid, u64, u64)>,
-}
-
-impl Counts {
-    /// Counts an event, and returns how many its process has in the parts before.
-    fn take(&mut self, entry: &Entry<'_>) -> u64 {
-        if let &Entry::Process(pid) = entry {
-            self.close();
-            let count = self.all.get(&pid).copied().unwrap_or(0);
-            self.last = Some((pid, count, count));
-        }
-        let Some((_, before, count)) = &mut self.last else { return 0 };
-        *count += u64::from(matches!(entry, Entry::Event(_)));
-        *before
-    }
-
-    fn close(&mut self) {
-        if let Some((pid, _, count)) = self.last.take() {
-            self.all.insert(pid, count);
-        }
-    }
-
-    fn finish(mut self) -> HashMap<Pid, u64> {
-        self.close();
-        self.all
     }
 }

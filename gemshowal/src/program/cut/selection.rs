@@ -3,10 +3,11 @@
 use super::part::{Line, Parts};
 use super::survey::Survey;
 use crate::args::{Conditions, Cut};
-use crate::names::{Names, NotFound, Time, TimesFile};
+use crate::names::{no_event_on, Names, Time, TimesFile};
 use crate::pieces::Reported;
+use crate::view::Place;
 use crate::Failure;
-use gemshowal::{Label, Pid, Span};
+use gemshowal::Filter;
 use std::collections::HashSet;
 
 /// An event near which others are chosen, as the command line names it.
@@ -19,10 +20,14 @@ pub(super) struct NamedEvents<'a>(Vec<NamedEvent<'a>>);
 
 impl<'a> NamedEvents<'a> {
     pub(super) fn read(words: &'a [String], parts: &Parts) -> Result<NamedEvents<'a>, Failure> {
-        let place = |word: &'a String| -> Result<NamedEvent<'a>, NotFound> {
+        let place = |word: &'a String| -> Result<NamedEvent<'a>, Failure> {
             match (word.parse(), word.rsplit_once(':')) {
                 (Ok(line), _) if parts.iter().len() == 1 => return Ok(NamedEvent::Line((0, line))),
-                (Ok(line), _) => return Err(NotFound::NoFile(line)),
+                (Ok(line), _) => {
+                    let line: u64 = line;
+                    let words = format!("line {line} of which file? Write FILE:{line}");
+                    return Err(Failure::NotFound(words));
+                }
                 (_, Some((file, line))) => {
                     let part = parts.iter().position(|part| part.is_called(file));
                     if let (Some(part), Ok(line)) = (part, line.parse()) {
@@ -40,9 +45,11 @@ impl<'a> NamedEvents<'a> {
         self.0.iter().any(|place| matches!(place, &NamedEvent::Line(other) if other == line))
     }
 
-    fn find(&self, survey: &Survey, names: &Names) -> Result<Vec<(Pid, u64)>, NotFound> {
+    fn find(&self, survey: &Survey, names: &Names) -> Result<Vec<Place>, Failure> {
         let find = |place: &NamedEvent<'_>| match *place {
-            NamedEvent::Line(line) => survey.on_line(line).ok_or(NotFound::NoLine(line.1)),
+            NamedEvent::Line(line) => {
+                survey.on_lines.get(&line).copied().ok_or_else(|| no_event_on(line.1))
+            }
             NamedEvent::Name(word) => {
                 names.find_event_among(&survey.pids(), |pid| survey.count(pid), word)
             }
@@ -53,9 +60,9 @@ impl<'a> NamedEvents<'a> {
 
 pub(super) struct Selection<'a> {
     conditions: &'a Conditions,
-    label: Option<Label>,
-    process: Option<Pid>,
-    places: Vec<(Pid, u64)>,
+    filter: Filter,
+    /// The events near which others are chosen, and so the other ends of their messages.
+    pub(super) places: Vec<Place>,
     near: u64,
     times: Option<Times>,
 }
@@ -68,21 +75,20 @@ struct Times {
     /// The part that is read.
     part: Option<usize>,
     /// Its events that happened in the span that is asked for, and weren't met yet.
-    events: HashSet<(Pid, u64)>,
+    events: HashSet<Place>,
 }
 
 impl Times {
     fn new(parts: &Parts) -> Result<Times, Failure> {
         let files: Result<Vec<TimesFile>, Failure> = parts
             .iter()
-            .map(|part| TimesFile::beside(part.path())?.ok_or(Failure::NoTimes))
+            .map(|part| TimesFile::beside(&part.path)?.ok_or(Failure::NoTimes))
             .collect();
         let parts = files?;
-        let begins = || parts.iter().map(TimesFile::begin);
-        if parts.len() > 1 && begins().any(|begin| begin < 0) {
+        let first = parts.iter().map(|part| part.begin).min().unwrap_or(0);
+        if parts.len() > 1 && first < 0 {
             return Err(Failure::NoDate);
         }
-        let first = begins().min().unwrap_or(0);
         Ok(Times { parts, first, part: None, events: HashSet::new() })
     }
 
@@ -91,14 +97,13 @@ impl Times {
         &mut self,
         conditions: &Conditions,
         part: usize,
-        place: (Pid, u64),
+        place: Place,
     ) -> Result<bool, Failure> {
         if self.part != Some(part) {
             self.end()?;
             self.part = Some(part);
-            let first = self.first;
             let file = &self.parts[part];
-            let later = file.begin() - first;
+            let later = file.begin - self.first;
             self.events = file.events(|time| conditions.cover(time.saturating_add(later)))?;
         }
         Ok(self.events.remove(&place))
@@ -108,7 +113,7 @@ impl Times {
     fn end(&mut self) -> Result<(), Failure> {
         match self.part.take() {
             Some(part) if !self.events.is_empty() => {
-                Err(Failure::OtherTimes(self.parts[part].name()))
+                Err(Failure::OtherTimes(self.parts[part].file.display().to_string()))
             }
             _ => Ok(()),
         }
@@ -125,27 +130,14 @@ impl<'a> Selection<'a> {
     ) -> Result<Selection<'a>, Failure> {
         let conditions = &args.conditions;
         let times = if conditions.are_of_time() { Some(Times::new(parts)?) } else { None };
-        let label = conditions.label.as_deref();
-        let label = label.map(|label| names.find_label_among(survey.labels(), Some(label)));
-        let process = conditions.process.as_deref();
-        let process = process.map(|name| names.find_process(&survey.pids(), name));
+        let filter = conditions.filter_among(names, || survey.labels.clone(), &survey.pids())?;
         Ok(Selection {
             conditions,
-            label: label.transpose()?,
-            process: process.transpose()?,
+            filter,
             places: places.find(survey, names)?,
             near: args.near,
             times,
         })
-    }
-
-    /// Returns whether events near places are chosen, and so the other ends of their messages.
-    pub(super) fn is_near(&self) -> bool {
-        !self.places.is_empty()
-    }
-
-    pub(super) fn has_place(&self, pid: Pid, index: u64) -> bool {
-        self.places.contains(&(pid, index))
     }
 
     /// Returns whether the event on a line meets all conditions. The lines come in order.
@@ -156,19 +148,12 @@ impl<'a> Selection<'a> {
         reported: &Reported<'_>,
     ) -> Result<bool, Failure> {
         let &Reported { pid, index, ref event, .. } = reported;
-        let is_in = |span: Option<Span>, number: u64| {
-            span.is_none_or(|span| span.first <= number && number <= span.last)
-        };
         let is_in_time = match &mut self.times {
             None => true,
             Some(times) => times.take(self.conditions, line.0, (pid, index))?,
         };
-        let is_near =
-            |&(of, at): &(Pid, u64)| of == pid && at.abs_diff(before + index) <= self.near;
-        Ok(self.label.is_none_or(|label| event.label == label)
-            && self.process.is_none_or(|process| pid == process)
-            && is_in(self.conditions.lines, line.1)
-            && is_in(self.conditions.counts, event.serial.this)
+        let is_near = |&(of, at): &Place| of == pid && at.abs_diff(before + index) <= self.near;
+        Ok(self.filter.chooses(pid, line.1, event)
             && (self.places.is_empty() || self.places.iter().any(is_near))
             && is_in_time)
     }

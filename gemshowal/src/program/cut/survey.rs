@@ -3,6 +3,7 @@
 use super::part::{Line, Parts};
 use super::selection::NamedEvents;
 use crate::pieces::Entry;
+use crate::view::Place;
 use crate::Failure;
 use gemshowal::{Pid, ReadFault};
 use std::collections::{BTreeMap, BTreeSet, HashMap};
@@ -11,10 +12,10 @@ use std::collections::{BTreeMap, BTreeSet, HashMap};
 pub(super) struct Survey {
     /// The processes that are listed, each with the number of its events.
     processes: BTreeMap<Pid, u64>,
-    labels: BTreeSet<u32>,
+    pub(super) labels: BTreeSet<u32>,
     /// The events on the lines that places name.
-    on_lines: HashMap<Line, (Pid, u64)>,
-    events: u64,
+    pub(super) on_lines: HashMap<Line, Place>,
+    pub(super) events: u64,
 }
 
 impl Survey {
@@ -23,21 +24,22 @@ impl Survey {
         let mut survey = Survey::default();
         let mut named = HashMap::new();
         let mut label = None;
-        let counts = parts.walk(|line, before, entry| {
-            let mut name = |pid| {
-                named.entry(pid).or_insert(line);
-            };
+        let processes = parts.walk(|line, before, entry| {
             let reported = match entry {
                 Entry::Process(_) => return Ok(()),
                 Entry::Act(pids) => {
-                    pids.iter().copied().for_each(name);
+                    for &pid in pids {
+                        named.entry(pid).or_insert(line);
+                    }
                     return Ok(());
                 }
                 Entry::Event(reported) => reported,
             };
             let event = &reported.event;
-            let ends = [Some(event.from), event.to].into_iter().flatten();
-            ends.filter(|&end| end != reported.pid).for_each(&mut name);
+            let others = [Some(event.from), event.to].into_iter().flatten();
+            for pid in others.filter(|&pid| pid != reported.pid) {
+                named.entry(pid).or_insert(line);
+            }
             if label.replace(event.label.0) != Some(event.label.0) {
                 survey.labels.insert(event.label.0);
             }
@@ -47,7 +49,7 @@ impl Survey {
             survey.events += 1;
             Ok(())
         })?;
-        survey.processes = counts.into_iter().collect();
+        survey.processes = processes;
         let unlisted = named.into_iter().filter(|(pid, _)| !survey.processes.contains_key(pid));
         match unlisted.map(|(_, line)| line).min() {
             None => Ok(survey),
@@ -63,17 +65,5 @@ impl Survey {
 
     pub(super) fn count(&self, pid: Pid) -> u64 {
         self.processes.get(&pid).copied().unwrap_or(0)
-    }
-
-    pub(super) fn labels(&self) -> &BTreeSet<u32> {
-        &self.labels
-    }
-
-    pub(super) fn on_line(&self, line: Line) -> Option<(Pid, u64)> {
-        self.on_lines.get(&line).copied()
-    }
-
-    pub(super) fn events(&self) -> u64 {
-        self.events
     }
 }

@@ -97,21 +97,8 @@ pub(super) fn escaped(text: &str) -> Cow<'_, str> {
 }
 
 /// The kinds of facts that tell of a loss. The others say how the trace was made.
-const LOSSES: [&str; 13] = [
-    "nothing",
-    "lost",
-    "unread",
-    "ended",
-    "dropped",
-    "left",
-    "damaged",
-    "newer",
-    "no_events",
-    "pauses",
-    "written_over",
-    "taken",
-    "nameless",
-];
+const LOSSES: &str = "nothing lost unread ended dropped left damaged newer no_events pauses \
+    written_over taken nameless";
 
 /// Returns the losses of the conversion by `NAME.facts`, of which a line is the kind of the fact, a
 /// tab and a sentence; none if there is no file.
@@ -120,7 +107,8 @@ pub(super) fn losses(facts: &Path) -> Result<Vec<String>, Fault> {
     let is_of_kind = |byte: u8| byte.is_ascii_lowercase() || byte == b'_';
     take(facts, "seqaudit facts 1", "an entry of NAME.facts", |line| {
         let (kind, sentence) = line.split_once('\t')?;
-        losses.extend(LOSSES.contains(&kind).then(|| escaped(sentence).into_owned()));
+        let is_loss = LOSSES.split(' ').any(|loss| loss == kind);
+        losses.extend(is_loss.then(|| escaped(sentence).into_owned()));
         (!kind.is_empty() && kind.bytes().all(is_of_kind)).then_some(())
     })?;
     Ok(losses)

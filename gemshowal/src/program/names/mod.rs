@@ -16,7 +16,7 @@ mod which;
 pub(crate) use files::{Fault, Messages};
 pub(crate) use line::Line;
 pub(crate) use times::{Time, Times, TimesFile};
-pub(crate) use which::NotFound;
+pub(crate) use which::no_event_on;
 
 use crate::output::Notes;
 use gemshowal::{Label, Pid, Text, Trace};
@@ -63,9 +63,8 @@ impl Names {
     /// Reads the files next to this file of a trace.
     pub(crate) fn beside(file: &Path, trace: &Trace, notes: &mut Notes) -> Result<Names, Fault> {
         let mut names = Names::without_times(file, notes)?;
-        let Some(file) = beside(file, "times") else { return Ok(names) };
-        if let Some(times) = Times::read(&file)? {
-            names.times = times.of_trace(trace, &file, notes);
+        if let Some(times) = TimesFile::beside(file)? {
+            names.times = Times::read(&times, trace, notes)?;
         }
         Ok(names)
     }

@@ -7,7 +7,7 @@
 //!
 //! A message between two nodes may seem to take less than no time, as far as their clocks differ.
 
-use super::files::{number, open_lines, take, Fault};
+use super::files::{number, open_lines, Fault};
 use crate::output::Notes;
 use crate::view::Place;
 use gemshowal::{Event, Kind, Trace};
@@ -27,10 +27,11 @@ pub(crate) struct Times {
     messages: HashMap<Place, (Place, Time)>,
 }
 
-/// `NAME.times` of a text that isn't read whole: it is read line by line.
+/// `NAME.times`, which is read line by line.
 pub(crate) struct TimesFile {
-    file: PathBuf,
-    begin: Time,
+    pub(crate) file: PathBuf,
+    /// When the first event happened, since 1970; less than 0 if its node told no clock.
+    pub(crate) begin: Time,
 }
 
 /// A line after those of the header and of the first event.
@@ -56,88 +57,61 @@ impl Entry {
     }
 }
 
-/// Reads when the first event happened.
-fn begin(line: &str) -> Option<Time> {
-    time(line.strip_prefix("begin ")?)
-}
-
-fn wrong(file: &Path, line: usize) -> Fault {
-    Fault::Wrong { file: file.into(), line, wanted: WANTED }
-}
-
 impl TimesFile {
     /// Opens the file next to that of a trace, if there is one.
     pub(crate) fn beside(trace: &Path) -> Result<Option<TimesFile>, Fault> {
         let Some(file) = super::beside(trace, "times") else { return Ok(None) };
         let Some(mut lines) = open_lines(&file, HEADER)? else { return Ok(None) };
         let line = lines.next().transpose()?;
-        let begin = line.and_then(|(_, line)| begin(&line)).ok_or_else(|| wrong(&file, 2))?;
-        Ok(Some(TimesFile { file, begin }))
+        match line.as_ref().and_then(|(_, line)| time(line.strip_prefix("begin ")?)) {
+            Some(begin) => Ok(Some(TimesFile { file, begin })),
+            None => Err(Fault::Wrong { file, line: 2, wanted: WANTED }),
+        }
     }
 
-    /// Returns when the first event happened, since 1970; less than 0 if its node told no clock.
-    pub(crate) fn begin(&self) -> Time {
-        self.begin
-    }
-
-    pub(crate) fn name(&self) -> String {
-        self.file.display().to_string()
+    /// Takes each entry by a function, which says whether its subject is new.
+    fn each(&self, mut take: impl FnMut(Entry) -> bool) -> Result<(), Fault> {
+        for line in open_lines(&self.file, HEADER)?.into_iter().flatten().skip(1) {
+            let (line, entry) = line?;
+            if !Entry::read(&entry).is_some_and(&mut take) {
+                return Err(Fault::Wrong { file: self.file.clone(), line, wanted: WANTED });
+            }
+        }
+        Ok(())
     }
 
     /// Returns the events that happened so much later than the first one that it is wanted.
     pub(crate) fn events(&self, is_wanted: impl Fn(Time) -> bool) -> Result<HashSet<Place>, Fault> {
         let mut events = HashSet::new();
-        for line in open_lines(&self.file, HEADER)?.into_iter().flatten().skip(1) {
-            let (number, line) = line?;
-            match Entry::read(&line).ok_or_else(|| wrong(&self.file, number))? {
-                Entry::Event(place, time) if is_wanted(time) && !events.insert(place) => {
-                    return Err(wrong(&self.file, number));
-                }
-                _ => {}
-            }
-        }
+        self.each(|entry| match entry {
+            Entry::Event(place, time) if is_wanted(time) => events.insert(place),
+            _ => true,
+        })?;
         Ok(events)
     }
 }
 
 impl Times {
-    /// Reads a file, if it is there.
-    pub(super) fn read(file: &Path) -> Result<Option<Times>, Fault> {
-        let mut times = None;
-        let is_there = take(file, HEADER, WANTED, |line| match &mut times {
-            Some(times) => Times::add(times, Entry::read(line)?).then_some(()),
-            None => {
-                times = Some(Times { begin: begin(line)?, ..Times::default() });
-                Some(())
+    /// Reads a file, unless its times are of another trace: one in which an event is gone, or was
+    /// moved, has other events at their places.
+    pub(super) fn read(
+        file: &TimesFile,
+        trace: &Trace,
+        notes: &mut Notes,
+    ) -> Result<Option<Times>, Fault> {
+        let mut times = Times { begin: file.begin, ..Times::default() };
+        file.each(|entry| match entry {
+            Entry::Event(place, time) => times.events.insert(place, time).is_none(),
+            Entry::Message { send, receive, time } => {
+                times.messages.insert(receive, (send, time)).is_none()
             }
         })?;
-        if is_there && times.is_none() {
-            return Err(wrong(file, 2));
+        if times.may_be_of(trace) {
+            return Ok(Some(times));
         }
-        Ok(times)
-    }
-
-    /// Adds an entry, and returns whether its subject had no time yet.
-    fn add(&mut self, entry: Entry) -> bool {
-        match entry {
-            Entry::Event(place, time) => self.events.insert(place, time).is_none(),
-            Entry::Message { send, receive, time } => {
-                self.messages.insert(receive, (send, time)).is_none()
-            }
-        }
-    }
-
-    /// Returns the times, unless they are of another trace: one in which an event is gone, or was
-    /// moved, has other events at their places.
-    pub(super) fn of_trace(self, trace: &Trace, file: &Path, notes: &mut Notes) -> Option<Times> {
-        if self.may_be_of(trace) {
-            return Some(self);
-        }
-        notes.say(format_args!(
-            "note: {} is of another trace, so no times are shown",
-            file.display()
-        ));
-        None
+        let file = file.file.display();
+        notes.say(format_args!("note: {file} is of another trace, so no times are shown"));
+        Ok(None)
     }
 
     fn may_be_of(&self, trace: &Trace) -> bool {

@@ -2,52 +2,26 @@
 
 use super::files::number;
 use super::Names;
-use gemshowal::{Label, OutOfMemory, Pid, Trace};
+use crate::view::Place;
+use crate::Failure;
+use gemshowal::{Label, Pid, Trace};
 use std::collections::BTreeSet;
-use thiserror::Error;
 
 /// The greatest number of names that are listed if none is the one that was meant.
 const LISTED: usize = 20;
 
-#[derive(Debug, Error)]
-pub(crate) enum NotFound {
-    #[error(
-        "{0} isn't the name of an event: write shop#2, '<0.81.0> 2', or the number of its line"
-    )]
-    NoEventName(String),
-    #[error("there is no process {0}; the trace has {1}")]
-    NoProcess(String, String),
-    #[error("several processes are called {0}; write one by its pid: {1}")]
-    SeveralProcesses(String, String),
-    #[error("{0} has no event {1}; {2}")]
-    NoEvent(String, u64, String),
-    #[error("there is no event on line {0}")]
-    NoLine(u64),
-    #[error("line {0} of which file? Write FILE:{0}")]
-    NoFile(u64),
-    #[error("there is no label {0}; the trace has {1}")]
-    NoLabel(String, String),
-    #[error("several labels are shown as {0}; write the number of one: {1}")]
-    SeveralLabels(String, String),
-    #[error("the trace has {0} labels; choose one by --label: {1}")]
-    WhichLabel(usize, String),
-    #[error("the trace has no events")]
-    NoEvents,
-    #[error(transparent)]
-    Memory(#[from] OutOfMemory),
+/// The error of a word that names nothing, or no one thing.
+fn not_found<T>(words: String) -> Result<T, Failure> {
+    Err(Failure::NotFound(words))
 }
 
 impl Names {
     /// Finds the place of the event that these words name: `shop#2`, `<0.81.0>#2`, `shop 2`,
     /// `<0.81.0> 2`, or a line of the text.
-    pub(crate) fn find_event(
-        &self,
-        trace: &Trace,
-        words: &[String],
-    ) -> Result<(Pid, u64), NotFound> {
+    pub(crate) fn find_event(&self, trace: &Trace, words: &[String]) -> Result<Place, Failure> {
         let joined = words.join(" ");
         if let Some(line) = number(&joined) {
-            return trace.place(line)?.ok_or(NotFound::NoLine(line));
+            return trace.place(line)?.ok_or_else(|| no_event_on(line));
         }
         let streams = trace.streams();
         self.find_event_among(streams.pids(), |pid| streams.len(pid), &joined)
@@ -60,47 +34,46 @@ impl Names {
         listed: &[Pid],
         count: impl Fn(Pid) -> u64,
         word: &str,
-    ) -> Result<(Pid, u64), NotFound> {
+    ) -> Result<Place, Failure> {
         let parts = word.rsplit_once('#').or_else(|| word.rsplit_once(' '));
         let found = parts.and_then(|(process, index)| Some((process, number(index)?)));
-        let (process, index) = found.ok_or_else(|| NotFound::NoEventName(word.into()))?;
+        let Some((process, index)) = found else {
+            return not_found(format!(
+                "{word} isn't the name of an event: write shop#2, '<0.81.0> 2', or the number of \
+                 its line"
+            ));
+        };
         let pid = self.find_process(listed, process)?;
-        let count = count(pid);
-        if index < count {
-            return Ok((pid, index));
-        }
-        let has = match count {
+        let has = match count(pid) {
+            count if index < count => return Ok((pid, index)),
             0 => "it reported none".into(),
             1 => "it reported one, 0".into(),
-            _ => format!("it reported 0 to {}", count - 1),
+            count => format!("it reported 0 to {}", count - 1),
         };
-        Err(NotFound::NoEvent(process.into(), index, has))
+        not_found(format!("{process} has no event {index}; {has}"))
     }
 
     /// Finds the process of this name or pid among the listed ones, which rise.
-    pub(crate) fn find_process(&self, listed: &[Pid], word: &str) -> Result<Pid, NotFound> {
-        let is_listed = |pid: &Pid| listed.binary_search(pid).is_ok();
+    pub(crate) fn find_process(&self, listed: &[Pid], word: &str) -> Result<Pid, Failure> {
         let named = self.terms.processes_of(word);
-        match (
-            &named[..],
-            gemshowal::read_pid(word).or_else(|| gemshowal::read_pid(format!("<{word}>"))),
-        ) {
-            (_, Some(pid)) if is_listed(&pid) => Ok(pid),
-            ([pid], _) if is_listed(pid) => Ok(*pid),
-            ([_, _, ..], _) => {
-                let pids = named.iter().map(|&pid| gemshowal::Text(pid).to_string());
-                Err(NotFound::SeveralProcesses(word.into(), few(pids)))
-            }
-            _ => Err(NotFound::NoProcess(
-                word.into(),
-                few(listed.iter().map(|&pid| self.process(pid).into_owned())),
-            )),
+        let pid = gemshowal::read_pid(word).or_else(|| gemshowal::read_pid(format!("<{word}>")));
+        let only = if let &[only] = &named[..] { Some(only) } else { None };
+        let mut meant = [pid, only].into_iter().flatten();
+        if let Some(pid) = meant.find(|pid| listed.binary_search(pid).is_ok()) {
+            return Ok(pid);
         }
+        if named.len() > 1 {
+            let pids = few(named.iter().map(|&pid| gemshowal::Text(pid).to_string()));
+            let called = format!("several processes are called {word}");
+            return not_found(format!("{called}; write one by its pid: {pids}"));
+        }
+        let listed = few(listed.iter().map(|&pid| self.process(pid).into_owned()));
+        not_found(format!("there is no process {word}; the trace has {listed}"))
     }
 
     /// Finds the label that is shown as this text, but for blanks, or has this number; without a
     /// text the only label.
-    pub(crate) fn find_label(&self, trace: &Trace, text: Option<&str>) -> Result<Label, NotFound> {
+    pub(crate) fn find_label(&self, trace: &Trace, text: Option<&str>) -> Result<Label, Failure> {
         self.find_label_among(&trace.events().map(|(_, event)| event.label.0).collect(), text)
     }
 
@@ -109,15 +82,16 @@ impl Names {
         &self,
         labels: &BTreeSet<u32>,
         text: Option<&str>,
-    ) -> Result<Label, NotFound> {
-        let shown = |labels: &BTreeSet<u32>| {
-            few(labels.iter().map(|&label| self.label(Label(label)).into_owned()))
-        };
+    ) -> Result<Label, Failure> {
+        let shown = || few(labels.iter().map(|&label| self.label(Label(label)).into_owned()));
         let Some(text) = text else {
             return match (labels.first(), labels.len()) {
-                (None, _) => Err(NotFound::NoEvents),
+                (None, _) => not_found("the trace has no events".into()),
                 (Some(&label), 1) => Ok(Label(label)),
-                (_, count) => Err(NotFound::WhichLabel(count, shown(labels))),
+                (_, count) => {
+                    let labels = format!("the trace has {count} labels");
+                    not_found(format!("{labels}; choose one by --label: {}", shown()))
+                }
             };
         };
         let is_meant =
@@ -127,12 +101,19 @@ impl Names {
         match (&meant[..], numbered) {
             (_, Some(label)) if labels.contains(&label) => Ok(Label(label)),
             (&[label], _) => Ok(Label(label)),
-            ([], _) => Err(NotFound::NoLabel(text.into(), shown(labels))),
+            ([], _) => not_found(format!("there is no label {text}; the trace has {}", shown())),
             (several, _) => {
-                Err(NotFound::SeveralLabels(text.into(), few(several.iter().map(u32::to_string))))
+                let numbers = few(several.iter().map(u32::to_string));
+                let labels = format!("several labels are shown as {text}");
+                not_found(format!("{labels}; write the number of one: {numbers}"))
             }
         }
     }
+}
+
+/// The error of a line on which there is no event.
+pub(crate) fn no_event_on(line: u64) -> Failure {
+    Failure::NotFound(format!("there is no event on line {line}"))
 }
 
 fn few(names: impl ExactSizeIterator<Item = String>) -> String {
