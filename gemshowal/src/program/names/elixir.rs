@@ -6,8 +6,6 @@
 //! their fields, and what funs are called.
 
 use super::files;
-use std::borrow::Cow;
-use std::fmt::{self, Display, Formatter};
 
 /// The beginning of the name of an Elixir module in Erlang.
 const MODULE: &str = "'Elixir.";
@@ -43,7 +41,7 @@ pub(super) fn text(term: &str) -> String {
     let mut reader = Reader { rest: term, depth: 0 };
     while let Some(first) = reader.rest.chars().next() {
         match reader.term() {
-            Some(term) => written += &term.to_string(),
+            Some(term) => written += &term.text,
             None => {
                 written.push(first);
                 reader.rest = &reader.rest[first.len_utf8()..];
@@ -53,29 +51,22 @@ pub(super) fn text(term: &str) -> String {
     written
 }
 
-enum Term<'a> {
-    /// An atom by its name.
-    Atom(Cow<'a, str>),
-    /// A word that Elixir writes as Erlang does, or what is put for it.
-    Word(Cow<'a, str>),
-    Bytes(Vec<u8>),
-    /// A list of characters.
-    Characters(String),
-    Tuple(Parts<'a, Term<'a>>),
-    List(Parts<'a, Term<'a>>),
-    Map(Parts<'a, Pair<'a>>),
+/// A term as Elixir writes it.
+struct Term {
+    text: String,
+    /// The name, if it is an atom.
+    atom: Option<String>,
+    /// The text in a keyword list, if it is a pair of an atom and a term.
+    entry: Option<String>,
 }
 
-/// A key, and its value unless the text was cut before it.
-type Pair<'a> = (Term<'a>, Option<Term<'a>>);
-
 /// The parts between two brackets.
-struct Parts<'a, T> {
+struct Parts<T> {
     parts: Vec<T>,
-    /// The tail of an improper list.
-    tail: Option<Box<Term<'a>>>,
-    /// Tells whether the closing bracket is there.
-    is_whole: bool,
+    /// The text behind the last part: the tail of an improper list, and the closing bracket unless
+    /// the text was cut.
+    end: String,
+    is_proper: bool,
 }
 
 struct Reader<'a> {
@@ -85,25 +76,30 @@ struct Reader<'a> {
 
 impl<'a> Reader<'a> {
     /// Reads a term, if one begins here.
-    fn term(&mut self) -> Option<Term<'a>> {
+    fn term(&mut self) -> Option<Term> {
         if self.depth == DEPTH {
             return None;
         }
-        match self.rest.chars().next()? {
-            '{' => self.parts("{", "}", Reader::term).map(Term::Tuple),
-            '[' => self.parts("[", "]", Reader::term).map(Term::List),
-            '#' => self.sign(),
-            '<' => self.binary().or_else(|| self.pid()),
-            '"' => Some(self.quoted('"').map_or_else(|| self.cut(), Term::Characters)),
-            '\'' => {
-                let name = self.quoted('\'');
-                Some(name.map_or_else(|| self.cut(), |name| Term::Atom(name.into())))
-            }
-            '.' => self.strip("...").then_some(Term::Word("...".into())),
-            'a'..='z' | 'ß'..='ö' | 'ø'..='ÿ' => Some(self.atom_or_function()),
-            '-' | '0'..='9' | 'A'..='Z' | '_' => Some(Term::Word(number(self.word()))),
-            _ => None,
-        }
+        let text = match self.rest.chars().next()? {
+            '{' => return self.tuple(),
+            '[' => self.list()?,
+            '#' if self.rest.starts_with("#{") => self.map()?,
+            '#' => self.reference().or_else(|| self.identified_fun())?,
+            '<' => self.binary().or_else(|| self.pid())?,
+            '"' => self.quoted('"').map_or_else(|| self.cut(), |text| characters(&text)),
+            '\'' => match self.quoted('\'') {
+                Some(name) => return Some(Term::atom(name)),
+                None => self.cut(),
+            },
+            '.' => self.strip("...").then(|| "...".into())?,
+            'a'..='z' | 'ß'..='ö' | 'ø'..='ÿ' => match self.named_fun() {
+                Some(fun) => fun,
+                None => return Some(Term::atom(self.bare().into())),
+            },
+            '-' | '0'..='9' | 'A'..='Z' | '_' => number(self.word()),
+            _ => return None,
+        };
+        Some(Term { text, atom: None, entry: None })
     }
 
     /// Takes this text off, if it is next.
@@ -130,7 +126,7 @@ impl<'a> Reader<'a> {
         open: &str,
         close: &str,
         read: fn(&mut Reader<'a>) -> Option<T>,
-    ) -> Option<Parts<'a, T>> {
+    ) -> Option<Parts<T>> {
         if !self.strip(open) {
             return None;
         }
@@ -142,51 +138,102 @@ impl<'a> Reader<'a> {
                 break;
             }
         }
-        let tail = if self.strip("|") { self.term().map(Box::new) } else { None };
+        let tail = if self.strip("|") { self.term() } else { None };
         self.depth -= 1;
-        Some(Parts { parts, tail, is_whole: self.strip(close) })
+        let is_whole = self.strip(close);
+        let is_proper = is_whole && tail.is_none();
+        let tail = tail.map_or(String::new(), |tail| format!(" | {}", tail.text));
+        Some(Parts { parts, end: tail + if is_whole { close } else { "" }, is_proper })
     }
 
-    /// Reads a map, a reference or a fun.
-    fn sign(&mut self) -> Option<Term<'a>> {
-        if self.rest.starts_with("#{") {
-            return self.parts("#{", "}", Reader::pair).map(Term::Map);
-        }
-        if self.strip("#Ref<") {
-            return Some(Term::Word("#Reference<".into()));
-        }
-        let mut reader = Reader { rest: self.rest.strip_prefix("#Fun<")?, depth: 0 };
-        let module = reader.name();
-        let numbers = reader.numbers().strip_prefix('.')?;
-        self.rest = reader.rest.strip_prefix('>')?;
-        Some(Term::Word(format!("#Function<{numbers} in {}>", Atom(&module)).into()))
+    fn tuple(&mut self) -> Option<Term> {
+        let Parts { parts, end, is_proper } = self.parts("{", "}", Reader::term)?;
+        let entry = match &parts[..] {
+            [key, value] if is_proper => key.key().map(|key| format!("{key} {}", value.text)),
+            _ => None,
+        };
+        let text = format!("{{{}{end}", separated(parts.iter().map(|part| &part.text)));
+        Some(Term { text, atom: None, entry })
     }
 
-    fn pair(&mut self) -> Option<Pair<'a>> {
+    /// Reads a list: of small numbers that are the characters of a text, of pairs, or another.
+    fn list(&mut self) -> Option<String> {
+        let Parts { parts, end, is_proper } = self.parts("[", "]", Reader::term)?;
+        if is_proper && !parts.is_empty() {
+            let bytes = parts.iter().map(|part| part.text.parse::<u8>().ok().map(char::from));
+            let text: Option<String> = bytes.collect();
+            if let Some(text) = text.filter(|text| is_of_characters(text)) {
+                return Some(characters(&text));
+            }
+            let entries = parts.iter().map(|part| part.entry.as_ref());
+            if let Some(entries) = entries.collect::<Option<Vec<_>>>() {
+                return Some(format!("[{}]", separated(entries)));
+            }
+        }
+        Some(format!("[{}{end}", separated(parts.iter().map(|part| &part.text))))
+    }
+
+    /// Reads a map or a struct.
+    fn map(&mut self) -> Option<String> {
+        let Parts { parts, end, .. } = self.parts("#{", "}", Reader::pair)?;
+        let module = parts.iter().find_map(|(key, value)| match (key.name(), value) {
+            (Some("__struct__"), Some(value)) => value.name(),
+            _ => None,
+        });
+        let is_field = |(key, _): &&(Term, _)| {
+            module.is_none() || !matches!(key.name(), Some("__struct__" | "__exception__"))
+        };
+        let shown = || parts.iter().filter(is_field);
+        let has_keys = shown().all(|(key, _)| key.key().is_some());
+        let pair = |(key, value): &(Term, Option<Term>)| {
+            let value = value.as_ref().map_or("", |value| &value.text);
+            match key.key() {
+                Some(key) if has_keys => format!("{key} {value}"),
+                _ => format!("{} => {value}", key.text),
+            }
+        };
+        let name = module.map_or(String::new(), atom);
+        Some(format!("%{name}{{{}{end}", separated(shown().map(pair))))
+    }
+
+    /// Reads a key, and its value unless the text was cut before it.
+    fn pair(&mut self) -> Option<(Term, Option<Term>)> {
         let key = self.term()?;
         Some((key, if self.strip(" => ") { self.term() } else { None }))
     }
 
+    fn reference(&mut self) -> Option<String> {
+        self.strip("#Ref<").then(|| "#Reference<".into())
+    }
+
+    fn identified_fun(&mut self) -> Option<String> {
+        let mut reader = Reader { rest: self.rest.strip_prefix("#Fun<")?, depth: 0 };
+        let module = reader.name();
+        let numbers = reader.take_while(|c| c.is_ascii_digit() || c == '.').strip_prefix('.')?;
+        self.rest = reader.rest.strip_prefix('>')?;
+        Some(format!("#Function<{numbers} in {}>", atom(&module)))
+    }
+
     /// Takes the rest of a text that was cut between quotes.
-    fn cut(&mut self) -> Term<'a> {
-        Term::Word(self.take(self.rest.len()).into())
+    fn cut(&mut self) -> String {
+        self.take(self.rest.len()).into()
     }
 
     /// Reads a binary: of text, of bytes, or with some bits at its end.
-    fn binary(&mut self) -> Option<Term<'a>> {
+    fn binary(&mut self) -> Option<String> {
         let mut reader = Reader { rest: self.rest.strip_prefix("<<")?, depth: 0 };
-        let term = match reader.quoted('"') {
-            Some(text) if reader.strip("/utf8") => Term::Bytes(text.into_bytes()),
-            Some(text) => Term::Bytes(latin1(&text)),
+        let shown = match reader.quoted('"') {
+            Some(text) if reader.strip("/utf8") => bytes(text.as_bytes()),
+            Some(text) => bytes(&latin1(&text)),
             None if reader.rest.starts_with('"') => return Some(self.cut()),
             None => numbered(reader.take_while(|c| c.is_ascii_digit() || ",:".contains(c)))?,
         };
         self.rest = reader.rest.strip_prefix(">>")?;
-        Some(term)
+        Some(shown)
     }
 
     /// Reads a pid. That of a process without an event has the name of its node in front.
-    fn pid(&mut self) -> Option<Term<'a>> {
+    fn pid(&mut self) -> Option<String> {
         let mut reader = Reader { rest: self.rest.strip_prefix('<')?, depth: 0 };
         let pid = reader.take_while(|c| c.is_alphanumeric() || "_@.-".contains(c));
         let rest = reader.rest.strip_prefix('>')?;
@@ -195,12 +242,8 @@ impl<'a> Reader<'a> {
         let is_pid = is_number() && is_number() && numbers.next().is_some_and(|it| !it.is_empty());
         is_pid.then(|| {
             self.rest = rest;
-            Term::Word(format!("#PID<{pid}>").into())
+            format!("#PID<{pid}>")
         })
-    }
-
-    fn numbers(&mut self) -> &'a str {
-        self.take_while(|c| c.is_ascii_digit() || c == '.')
     }
 
     /// Reads the text between two quotes of this kind.
@@ -216,15 +259,15 @@ impl<'a> Reader<'a> {
         Some(unescaped(&inner[..end]))
     }
 
-    fn atom_or_function(&mut self) -> Term<'a> {
+    fn named_fun(&mut self) -> Option<String> {
         if !self.strip("fun ") {
-            return Term::Atom(self.bare().into());
+            return None;
         }
         let module = self.name();
         self.strip(":");
-        let function = Key(&self.name()).to_string();
+        let function = unquoted_if_bare(&self.name());
         let arity = self.take_while(|c| c.is_ascii_digit() || c == '/');
-        Term::Word(format!("&{}.{}{arity}", Atom(&module), function.trim_end_matches(':')).into())
+        Some(format!("&{}.{function}{arity}", atom(&module)))
     }
 
     fn name(&mut self) -> String {
@@ -248,25 +291,21 @@ impl<'a> Reader<'a> {
 }
 
 /// Returns a number as Elixir writes it: without an exponent, if it is whole and not too large.
-fn number(word: &str) -> Cow<'_, str> {
-    match word.parse::<f64>() {
-        Ok(float)
-            if word.contains('e') && (1.0..1e16).contains(&float.abs()) && float.fract() == 0.0 =>
-        {
-            format!("{float:.1}").into()
-        }
+fn number(word: &str) -> String {
+    let is_short = |float: &f64| (1.0..1e16).contains(&float.abs()) && float.fract() == 0.0;
+    match word.parse().ok().filter(is_short) {
+        Some(float) if word.contains('e') => format!("{float:.1}"),
         _ => word.into(),
     }
 }
 
 /// Returns the bytes of a binary by its numbers, or those of its last bits: `1,2:3`.
-fn numbered(words: &str) -> Option<Term<'_>> {
+fn numbered(words: &str) -> Option<String> {
     if let Some((front, size)) = words.split_once(':') {
-        let front = front.replace(',', ", ");
-        return Some(Term::Word(format!("<<{front}::size({size})>>").into()));
+        return Some(format!("<<{}::size({size})>>", front.replace(',', ", ")));
     }
-    let numbers = words.split(',').filter(|it| !it.is_empty());
-    numbers.map(str::parse).collect::<Result<_, _>>().ok().map(Term::Bytes)
+    let numbers = words.split(',').filter(|it| !it.is_empty()).map(str::parse);
+    Some(bytes(&numbers.collect::<Result<Vec<u8>, _>>().ok()?))
 }
 
 /// Returns the bytes of a text without `/utf8`.
@@ -275,19 +314,14 @@ fn latin1(text: &str) -> Vec<u8> {
     bytes.unwrap_or_else(|_| text.into())
 }
 
-/// The characters that both languages escape by a letter. `\a` is Elixir's alone.
-const ESCAPES: [(char, char); 10] = [
-    ('\0', '0'),
-    ('\x07', 'a'),
-    ('\x08', 'b'),
-    ('\x7F', 'd'),
-    ('\x1B', 'e'),
-    ('\x0C', 'f'),
-    ('\n', 'n'),
-    ('\r', 'r'),
-    ('\t', 't'),
-    ('\x0B', 'v'),
-];
+/// The characters that both languages escape, each by the letter at its place.
+const ESCAPED: &str = "\0\x07\x08\x7F\x1B\x0C\n\r\t\x0B";
+const LETTERS: &str = "0abdefnrtv";
+
+/// Returns the letter by which Elixir escapes a character.
+fn letter_of(c: char) -> Option<char> {
+    LETTERS.chars().nth(ESCAPED.chars().position(|escaped| escaped == c)?)
+}
 
 /// Returns the characters that a text of Erlang's between quotes means.
 fn unescaped(text: &str) -> String {
@@ -319,9 +353,12 @@ fn escape(text: &str) -> (char, &str) {
         return (number(&text[..octal], 8), &text[octal..]);
     }
     let mut rest = text.chars();
-    let letter = rest.next().unwrap_or('\\');
-    let found = ESCAPES.iter().find(|&&(_, of)| of == letter && of != 'a');
-    let meant = if letter == 's' { ' ' } else { found.map_or(letter, |&(c, _)| c) };
+    let meant = match rest.next().unwrap_or('\\') {
+        's' => ' ',
+        // Erlang has no such escape.
+        'a' => 'a',
+        letter => ESCAPED.chars().find(|&c| letter_of(c) == Some(letter)).unwrap_or(letter),
+    };
     (meant, rest.as_str())
 }
 
@@ -330,9 +367,8 @@ fn escaped(text: &str) -> String {
     let mut escaped = String::with_capacity(text.len());
     let mut rest = text.chars().peekable();
     while let Some(c) = rest.next() {
-        let letter = ESCAPES.iter().find(|&&(of, _)| of == c);
-        match (c, letter) {
-            (_, Some((_, letter))) => escaped.extend(['\\', *letter]),
+        match (c, letter_of(c)) {
+            (_, Some(letter)) => escaped.extend(['\\', letter]),
             ('"' | '\\', _) => escaped.extend(['\\', c]),
             ('#', _) if rest.peek() == Some(&'{') => escaped.push_str("\\#"),
             _ if c.is_control() => escaped += &format!("\\x{:02X}", u32::from(c)),
@@ -355,7 +391,7 @@ fn is_invisible(c: char) -> bool {
 
 /// Returns whether Elixir writes a binary of these characters as a text.
 fn is_printable(text: &str) -> bool {
-    let is_escaped = |c| c != '\0' && ESCAPES.iter().any(|&(of, _)| of == c);
+    let is_escaped = |c| c != '\0' && letter_of(c).is_some();
     text.chars().all(|c| is_escaped(c) || !c.is_control() && !['\u{FFFE}', '\u{FFFF}'].contains(&c))
 }
 
@@ -372,147 +408,59 @@ fn is_bare(name: &str) -> bool {
     is_name || OPERATORS.split(' ').any(|it| !it.is_empty() && it == name)
 }
 
-/// An atom by its name.
-struct Atom<'a>(&'a str);
-
-impl Display for Atom<'_> {
-    fn fmt(&self, f: &mut Formatter<'_>) -> fmt::Result {
-        let Atom(name) = *self;
-        let is_module = |it: &&str| {
-            it.split('.').all(|part| {
-                part.starts_with(|c: char| c.is_ascii_uppercase())
-                    && part.chars().all(|c| c.is_ascii_alphanumeric() || c == '_')
-            })
-        };
-        match name.strip_prefix(PREFIX).filter(is_module) {
-            Some(module) => f.write_str(module),
-            None if ["nil", "true", "false", "Elixir"].contains(&name) => f.write_str(name),
-            None if is_bare(name) => write!(f, ":{name}"),
-            None => write!(f, ":\"{}\"", escaped(name)),
-        }
+fn unquoted_if_bare(name: &str) -> String {
+    if is_bare(name) {
+        name.into()
+    } else {
+        format!("\"{}\"", escaped(name))
     }
 }
 
-/// An atom as the key of a pair.
-struct Key<'a>(&'a str);
-
-impl Display for Key<'_> {
-    fn fmt(&self, f: &mut Formatter<'_>) -> fmt::Result {
-        match self.0 {
-            name if is_bare(name) => write!(f, "{name}:"),
-            name => write!(f, "\"{}\":", escaped(name)),
-        }
+fn atom(name: &str) -> String {
+    let is_module = |it: &&str| {
+        it.split('.').all(|part| {
+            part.starts_with(|c: char| c.is_ascii_uppercase())
+                && part.chars().all(|c| c.is_ascii_alphanumeric() || c == '_')
+        })
+    };
+    match name.strip_prefix(PREFIX).filter(is_module) {
+        Some(module) => module.into(),
+        None if ["nil", "true", "false", "Elixir"].contains(&name) => name.into(),
+        None => format!(":{}", unquoted_if_bare(name)),
     }
 }
 
-impl Display for Term<'_> {
-    fn fmt(&self, f: &mut Formatter<'_>) -> fmt::Result {
-        match self {
-            Term::Atom(name) => Atom(name).fmt(f),
-            Term::Word(word) => f.write_str(word),
-            Term::Bytes(bytes) => match std::str::from_utf8(bytes) {
-                Ok(text) if is_printable(text) => write!(f, "\"{}\"", escaped(text)),
-                _ => write!(f, "<<{}>>", separated(bytes)),
-            },
-            Term::Characters(text) if is_of_characters(text) => {
-                write!(f, "~c\"{}\"", escaped(text))
-            }
-            Term::Characters(text) => write!(f, "[{}]", separated(text.chars().map(u32::from))),
-            Term::Tuple(parts) => parts.write(f, "{", "}", &separated(&parts.parts)),
-            Term::List(list) => match (list.characters(), list.keyword()) {
-                (Some(text), _) => Term::Characters(text).fmt(f),
-                (None, Some(pairs)) => write!(f, "[{}]", separated(pairs)),
-                (None, None) => list.write(f, "[", "]", &separated(&list.parts)),
-            },
-            Term::Map(map) => {
-                let open = map.structure().map_or("%{".into(), |it| format!("%{}{{", Atom(it)));
-                map.write(f, &open, "}", &separated(map.pairs()))
-            }
-        }
+fn bytes(bytes: &[u8]) -> String {
+    match std::str::from_utf8(bytes) {
+        Ok(text) if is_printable(text) => format!("\"{}\"", escaped(text)),
+        _ => format!("<<{}>>", separated(bytes)),
     }
 }
 
-fn separated<T: Display>(parts: impl IntoIterator<Item = T>) -> String {
+fn characters(text: &str) -> String {
+    if is_of_characters(text) {
+        format!("~c\"{}\"", escaped(text))
+    } else {
+        format!("[{}]", separated(text.chars().map(u32::from)))
+    }
+}
+
+fn separated<T: ToString>(parts: impl IntoIterator<Item = T>) -> String {
     parts.into_iter().map(|it| it.to_string()).collect::<Vec<_>>().join(", ")
 }
 
-impl<T> Parts<'_, T> {
-    fn write(&self, f: &mut Formatter<'_>, open: &str, close: &str, inside: &str) -> fmt::Result {
-        write!(f, "{open}{inside}")?;
-        if let Some(tail) = &self.tail {
-            write!(f, " | {tail}")?;
-        }
-        f.write_str(if self.is_whole { close } else { "" })
+impl Term {
+    fn atom(name: String) -> Term {
+        Term { text: atom(&name), atom: Some(name), entry: None }
     }
 
-    fn is_whole_list(&self) -> bool {
-        self.is_whole && self.tail.is_none() && !self.parts.is_empty()
-    }
-}
-
-impl Parts<'_, Term<'_>> {
-    /// Returns the text as which Elixir writes this list of numbers, if it does.
-    fn characters(&self) -> Option<String> {
-        let character = |term: &Term<'_>| match term {
-            Term::Word(word) => word.parse().ok().map(|byte: u8| char::from(byte)),
-            _ => None,
-        };
-        let text: String = self.parts.iter().map(character).collect::<Option<_>>()?;
-        (self.is_whole_list() && is_of_characters(&text)).then_some(text)
+    fn name(&self) -> Option<&str> {
+        self.atom.as_deref()
     }
 
-    /// Returns the pairs of a keyword list.
-    fn keyword(&self) -> Option<Vec<String>> {
-        let pair = |term: &Term<'_>| match term {
-            Term::Tuple(Parts { parts, tail: None, is_whole: true }) => match &parts[..] {
-                [key, value] => Some(format!("{} {value}", key.key()?)),
-                _ => None,
-            },
-            _ => None,
-        };
-        let pairs = self.parts.iter().map(pair).collect::<Option<_>>()?;
-        self.is_whole_list().then_some(pairs)
-    }
-}
-
-impl Term<'_> {
-    /// Returns the term as a key with a colon, if it is an atom that names no module.
-    fn key(&self) -> Option<Key<'_>> {
-        match self {
-            Term::Atom(name) if !name.starts_with(PREFIX) => Some(Key(name)),
-            _ => None,
-        }
-    }
-
-    fn is_atom(&self, names: &[&str]) -> bool {
-        matches!(self, Term::Atom(name) if names.contains(&&**name))
-    }
-}
-
-impl Parts<'_, Pair<'_>> {
-    /// Returns the name of the struct that the map is.
-    fn structure(&self) -> Option<&str> {
-        self.parts.iter().find_map(|(key, value)| match value {
-            Some(Term::Atom(name)) if key.is_atom(&["__struct__"]) => Some(&**name),
-            _ => None,
-        })
-    }
-
-    /// Returns the pairs of a map, or the fields of a struct.
-    fn pairs(&self) -> Vec<String> {
-        let hidden: &[&str] = match self.structure() {
-            Some(_) => &["__struct__", "__exception__"],
-            None => &[],
-        };
-        let shown = || self.parts.iter().filter(|(key, _)| !key.is_atom(hidden));
-        let has_keys = shown().all(|(key, _)| key.key().is_some());
-        let pair = |(key, value): &Pair<'_>| {
-            let value = value.as_ref().map_or(String::new(), Term::to_string);
-            match key.key() {
-                Some(key) if has_keys => format!("{key} {value}"),
-                _ => format!("{key} => {value}"),
-            }
-        };
-        shown().map(pair).collect()
+    /// Returns the key of a pair, with a colon, if it is an atom that names no module.
+    fn key(&self) -> Option<String> {
+        let name = self.name().filter(|name| !name.starts_with(PREFIX))?;
+        Some(unquoted_if_bare(name) + ":")
     }
 }
