@@ -3,11 +3,11 @@
 
 use crate::args::Chart as Args;
 use crate::causes::{with_each, Causes, Link};
-use crate::object::kind_word;
+use crate::object::{kind_letter, kind_word};
 use crate::output::Output;
 use crate::view::{ends, View};
 use crate::{moment, svg, words, Failure, Status, Task};
-use gemshowal::{Event, Item, Kind, Label, Pid};
+use gemshowal::{Event, Item, Label, Pid};
 use std::collections::BTreeMap;
 use std::io::{self, Write};
 use std::path::{Path, PathBuf};
@@ -44,7 +44,8 @@ pub(crate) fn run(args: &Args, task: Task<'_>) -> Result<Status, Failure> {
     let whole = View::whole(&trace, &names);
     let are_shown = with_each(&whole, |causes, part| {
         let found = Chart::of(causes, label)?;
-        if found.iter().any(Chart::is_long) {
+        let marks = |chart: &Chart| chart.rows.len().saturating_mul(chart.lanes.len());
+        if found.iter().any(|chart| marks(chart) > MOST_MARKS) {
             return Err(Failure::LongChart(input.line_name().into()));
         }
         if let (Some(file), Some(chart)) = (&args.svg, found.first()) {
@@ -74,22 +75,17 @@ fn write(
     charts: &[Chart],
     out: &mut Output,
 ) -> io::Result<()> {
-    match part {
-        None | Some((1, _)) => {
-            for loss in causes.names().losses() {
-                writeln!(out, "this trace isn't whole: {loss}")?;
-            }
-        }
-        Some(_) => writeln!(out)?,
+    if part.is_some_and(|(which, _)| which > 1) {
+        writeln!(out)?;
+    } else {
+        words::losses(causes.names()).try_for_each(|loss| writeln!(out, "{loss}"))?;
     }
     if let Some(part) = part {
         writeln!(out, "{}", words::part(part))?;
     }
     writeln!(out, "{}", words::headline(causes))?;
-    for (chart, number) in charts.iter().zip(0..) {
-        if number > 0 {
-            writeln!(out)?;
-        }
+    for (number, chart) in charts.iter().enumerate() {
+        write!(out, "{}", if number > 0 { "\n" } else { "" })?;
         chart.write(causes, out)?;
     }
     let links = charts.iter().flat_map(|chart| &chart.rows).map(|row| row.link);
@@ -97,10 +93,6 @@ fn write(
 }
 
 impl Chart {
-    fn is_long(&self) -> bool {
-        self.rows.len().saturating_mul(self.lanes.len()) > MOST_MARKS
-    }
-
     /// Makes the charts of this label, or of all labels, by rising label.
     pub(crate) fn of(causes: &Causes<'_>, label: Option<Label>) -> Result<Vec<Chart>, Failure> {
         let mut events: BTreeMap<u32, Vec<(Item, Event)>> = BTreeMap::new();
@@ -124,11 +116,13 @@ impl Chart {
             writeln!(out, "lane {number} {}", causes.process(pid))?;
         }
         let name = |row: &Row| short(&causes.name(row.item), NAME);
+        let time = |row: &Row| {
+            words::time(causes, row.item).map_or(String::new(), |time| format!("  {time}"))
+        };
         let width = self.rows.iter().map(|row| name(row).chars().count()).max().unwrap_or(0);
-        let times: Vec<String> = self.rows.iter().map(|row| time(causes, row.item)).collect();
-        let wide = times.iter().map(|time| time.len()).max().unwrap_or(0);
-        for (row, time) in self.rows.iter().zip(times) {
-            let (marks, name) = (self.marks(causes, row), name(row));
+        let wide = self.rows.iter().map(|row| time(row).len()).max().unwrap_or(0);
+        for row in &self.rows {
+            let (marks, name, time) = (self.marks(causes, row), name(row), time(row));
             let (kind, serial) = (kind_word(row.event.kind), gemshowal::Text(row.event.serial));
             let message = short(&words::message(causes, row.item), MESSAGE);
             let follows =
@@ -143,14 +137,9 @@ impl Chart {
 
     /// Returns the marks of a row; small letters if nobody reported the event.
     fn marks(&self, causes: &Causes<'_>, row: &Row) -> String {
-        let mark = match (row.event.kind, causes.reported(row.item)) {
-            (Kind::Send, Some(_)) => 'S',
-            (Kind::Send, None) => 's',
-            (Kind::Receive, Some(_)) => 'R',
-            (Kind::Receive, None) => 'r',
-            (Kind::Print, Some(_)) => 'P',
-            (Kind::Print, None) => 'p',
-        };
+        let letter = kind_letter(row.event.kind);
+        let is_reported = causes.reported(row.item).is_some();
+        let mark = if is_reported { letter.to_ascii_uppercase() } else { letter };
         let of_lane = |lane| match lane {
             lane if lane == row.lane => mark,
             lane if Some(lane) == row.other => '.',
@@ -174,10 +163,6 @@ pub(crate) fn lanes_and_rows(
     };
     let rows = events.into_iter().map(row).collect();
     (lanes, rows)
-}
-
-fn time(causes: &Causes<'_>, item: Item) -> String {
-    words::time(causes, item).map(|time| format!("  {time}")).unwrap_or_default()
 }
 
 /// Says how long after its send a receive was reported.

@@ -105,6 +105,11 @@ impl Fields {
     }
 }
 
+/// Returns the letter of an event, the first of its word.
+pub(crate) fn kind_letter(kind: Kind) -> char {
+    char::from(kind_word(kind).as_bytes()[0])
+}
+
 pub(crate) fn kind_word(kind: Kind) -> &'static str {
     match kind {
         Kind::Send => "send",

@@ -12,7 +12,7 @@ use crate::object::kind_word;
 use crate::output::keep;
 use crate::view::count;
 use crate::{words, Failure};
-use gemshowal::{Item, Kind, Pid};
+use gemshowal::{Item, Kind};
 use std::collections::HashMap;
 use std::fmt::{self, Display, Formatter, Write};
 use std::path::Path;
@@ -89,10 +89,11 @@ impl<'a> Drawing<'a> {
         self.heading(out)?;
         self.key(out)?;
         self.ground(out)?;
-        for (number, row) in self.numbered() {
+        let rows = || self.chart.rows.iter().enumerate();
+        for (number, row) in rows() {
             self.tipped(out, row, number, |out| self.mark(out, row, number))?;
         }
-        for (number, row) in self.numbered() {
+        for (number, row) in rows() {
             self.tipped(out, row, number, |out| self.text(out, row, number))?;
         }
         (0..=self.chart.rows.len().saturating_sub(1) / ROWS_A_BLOCK)
@@ -102,10 +103,6 @@ impl<'a> Drawing<'a> {
             writeln!(out, r#"<text class="n" x="{x}" y="{y}">{}</text>"#, Xml(&short(name, NAME)))?;
         }
         writeln!(out, "</svg>")
-    }
-
-    fn numbered(&self) -> impl Iterator<Item = (usize, &'a Row)> {
-        self.chart.rows.iter().enumerate()
     }
 
     /// Says what is drawn, what the trace lacks, and that it has no run if so.
@@ -159,23 +156,19 @@ impl<'a> Drawing<'a> {
         let top = y(block * ROWS_A_BLOCK) - ROW / 2 - NAMES + 4;
         for (lane, &pid) in self.chart.lanes.iter().enumerate() {
             let name = self.causes.process(pid);
-            let (x, left, width) = (x(lane), x(lane) - LANE / 2 + 6, LANE - 12);
-            write!(out, "<g><title>{}</title>", Xml(&self.about(pid)))?;
+            let (pid, about) = (gemshowal::Text(pid), self.causes.names().about(pid));
+            let about = format!("{name}\n{pid}\n{}", about.unwrap_or_default());
+            let (x, y, left, width) = (x(lane), top + 16, x(lane) - LANE / 2 + 6, LANE - 12);
+            write!(out, "<g><title>{}</title>", Xml(&about))?;
             write!(
                 out,
                 r#"<rect class="b" x="{left}" y="{top}" width="{width}" height="24" rx="4"/>"#
             )?;
-            let (y, name) = (top + 16, short(&name, NAME));
-            let text = Xml(&name);
+            let text = short(&name, NAME);
+            let text = Xml(&text);
             writeln!(out, r#"<text x="{x}" y="{y}" text-anchor="middle">{text}</text></g>"#)?;
         }
         Ok(())
-    }
-
-    fn about(&self, pid: Pid) -> String {
-        let (name, about) =
-            (self.causes.process(pid), self.causes.names().about(pid).unwrap_or_default());
-        format!("{name}\n{}\n{about}", gemshowal::Text(pid))
     }
 
     /// Puts the marks of a row below the tooltip of the row.
@@ -192,8 +185,8 @@ impl<'a> Drawing<'a> {
             Some(value) => self.causes.names().value(value).into_owned(),
             None => words::message(self.causes, row.item),
         };
-        let name = self.names.get(number).map_or("", |name| name);
-        let tip = format!("{name}: {kind} {serial}, {follows}\n{whole}{}", premises(row.link));
+        let (name, premises) = (&self.names[number], premises(row.link));
+        let tip = format!("{name}: {kind} {serial}, {follows}\n{whole}{premises}");
         write!(out, "<g><title>{}</title>", Xml(&tip))?;
         draw(out)?;
         writeln!(out, "</g>")
@@ -207,7 +200,8 @@ impl<'a> Drawing<'a> {
     /// its send.
     fn is_doubtful(&self, row: &Row) -> bool {
         let may_follow = self.is_reported(row) || row.event.kind == Kind::Send;
-        may_follow && (row.link.grade == Grade::Perhaps || is_unsure(row.link.cause))
+        let causes = matches!(row.link.cause, Cause::Either(..) | Cause::Moved(_) | Cause::Unknown);
+        may_follow && (row.link.grade == Grade::Perhaps || causes)
     }
 
     fn receive(&self, row: &Row) -> Option<(usize, &'a Row)> {
@@ -244,10 +238,9 @@ impl<'a> Drawing<'a> {
             None => ("x", row.other.unwrap_or(row.lane), number),
         };
         let from = (x(row.lane), y(number));
-        let path = if lane == row.lane {
-            bow(from, y(at.max(number + 1)))
-        } else {
-            line(from, (x(lane), y(at)))
+        let path = match lane == row.lane {
+            true => bow(from, y(at.max(number + 1))),
+            false => format!("M{} {}L{} {}", from.0, from.1, x(lane), y(at)),
         };
         write!(out, r#"<g class="{class}"><path d="{path}" marker-end="url(#{end})"/></g>"#)
     }
@@ -259,11 +252,10 @@ impl<'a> Drawing<'a> {
         let message = words::message(self.causes, row.item);
         let (is_right, text, lift) = match row.event.kind {
             Kind::Receive if self.is_reported(row) => return Ok(()),
-            Kind::Receive => (
-                row.other.is_some_and(|other| other < row.lane),
-                "receive not reported".into(),
-                false,
-            ),
+            Kind::Receive => {
+                let is_right = row.other.is_some_and(|other| other < row.lane);
+                (is_right, "receive not reported".into(), false)
+            }
             Kind::Print => (true, message, false),
             Kind::Send => (row.other.is_none_or(|other| other >= row.lane), message, true),
         };
@@ -271,17 +263,9 @@ impl<'a> Drawing<'a> {
         let (x, anchor) = if is_right { (x + 10, "start") } else { (x - 10, "end") };
         let y = if lift { y(number) - 3 } else { y(number) + 4 };
         let text = short(&text, TEXT);
-        write!(
-            out,
-            r#"<text class="t" x="{x}" y="{y}" text-anchor="{anchor}">{}</text>"#,
-            Xml(&text)
-        )
+        let text = Xml(&text);
+        write!(out, r#"<text class="t" x="{x}" y="{y}" text-anchor="{anchor}">{text}</text>"#)
     }
-}
-
-/// Returns whether an event may follow something, and not one event alone is named.
-fn is_unsure(cause: Cause) -> bool {
-    matches!(cause, Cause::Either(..) | Cause::Moved(_) | Cause::Unknown)
 }
 
 /// Returns the lines that say on what a link rests, if it rests on something.
@@ -290,10 +274,6 @@ fn premises(link: Link) -> String {
         Grade::Certain => String::new(),
         _ => words::rests_on([link].into_iter()).iter().map(|line| format!("\n{line}")).collect(),
     }
-}
-
-fn line((x, y): (usize, usize), (to_x, to_y): (usize, usize)) -> String {
-    format!("M{x} {y}L{to_x} {to_y}")
 }
 
 /// Draws a message of a process to itself: a bow to the right.

@@ -3,6 +3,7 @@
 
 use crate::causes::{Cause, Causes, Grade, Link};
 use crate::moment::moment;
+use crate::names::Names;
 use crate::reason::Against;
 use crate::view::count;
 use gemshowal::{Item, Kind};
@@ -171,6 +172,11 @@ pub(crate) fn headline(causes: &Causes<'_>) -> String {
     let with = if added.is_empty() { "" } else { ", with " };
     let behind = if added.is_empty() { "" } else { " that nobody reported" };
     format!("fits: {events} of {processes}{with}{}{behind}", added.join(" and "))
+}
+
+/// Says what the trace lacks by its facts, a line each.
+pub(crate) fn losses(names: &Names) -> impl Iterator<Item = String> + '_ {
+    names.losses().iter().map(|loss| format!("this trace isn't whole: {loss}"))
 }
 
 /// Says which part between supposed resets is looked at.

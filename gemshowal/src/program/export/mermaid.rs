@@ -14,7 +14,7 @@ use std::io::{self, Write};
 
 pub(super) fn write(scene: &Scene<'_>, out: &mut Output) -> Result<(), Failure> {
     let order = scene.in_order()?;
-    let diagram = Diagram { scene, overtaken: overtaken(scene, &order) };
+    let overtaken = overtaken(scene, &order);
     writeln!(out, "sequenceDiagram")?;
     for (&pid, number) in scene.lanes.iter().zip(1..) {
         writeln!(out, "    participant P{number} as {}", called(scene, pid))?;
@@ -23,7 +23,7 @@ pub(super) fn write(scene: &Scene<'_>, out: &mut Output) -> Result<(), Failure> 
         writeln!(out, "    participant U as not reported")?;
     }
     for (place, event) in order {
-        diagram.write_event(out, place, event)?;
+        write_event(scene, &overtaken, out, (place, event))?;
     }
     Ok(())
 }
@@ -43,38 +43,36 @@ fn overtaken(scene: &Scene<'_>, order: &[(Place, &Event)]) -> HashSet<Place> {
     overtaken
 }
 
-struct Diagram<'a> {
-    scene: &'a Scene<'a>,
-    overtaken: HashSet<Place>,
-}
-
-impl Diagram<'_> {
-    /// Writes the line of an event. A send whose arrow is in its place has none.
-    fn write_event(&self, out: &mut Output, place: Place, event: &Event) -> io::Result<()> {
-        let content = plain(&self.scene.content(event));
-        let from = self.scene.lane(event.from);
-        let to = event.to.map_or(0, |to| self.scene.lane(to));
-        match self.scene.partner(place, event) {
-            Partner::Receive(..) if !self.overtaken.contains(&place) => Ok(()),
-            Partner::Nobody | Partner::Receive(..) if event.kind == Kind::Print => {
-                writeln!(out, "    Note over P{from}: print {content}")
-            }
-            Partner::Nobody | Partner::Receive(..) => {
-                let to = event.to.map(|to| called(self.scene, to)).unwrap_or_default();
-                writeln!(out, "    Note over P{from}: sends {content} to {to}")
-            }
-            Partner::NoReceive => {
-                writeln!(out, "    P{from}-xP{to}: {content} (no receive reported)")
-            }
-            Partner::NoSend => {
-                let from = called(self.scene, event.from);
-                writeln!(out, "    U->>P{to}: {content} from {from}")
-            }
-            Partner::Send(pid, sent) if self.overtaken.contains(&(pid, sent)) => {
-                writeln!(out, "    P{from}-->>P{to}: {content} (sent above)")
-            }
-            Partner::Send(..) => writeln!(out, "    P{from}->>P{to}: {content}"),
+/// Writes the line of an event. A send whose arrow is in its place has none.
+fn write_event(
+    scene: &Scene<'_>,
+    overtaken: &HashSet<Place>,
+    out: &mut Output,
+    (place, event): (Place, &Event),
+) -> io::Result<()> {
+    let content = plain(&scene.content(event));
+    let from = scene.lane(event.from);
+    let to = event.to.map_or(0, |to| scene.lane(to));
+    match scene.partner(place, event) {
+        Partner::Receive(..) if !overtaken.contains(&place) => Ok(()),
+        Partner::Nobody | Partner::Receive(..) if event.kind == Kind::Print => {
+            writeln!(out, "    Note over P{from}: print {content}")
         }
+        Partner::Nobody | Partner::Receive(..) => {
+            let to = event.to.map(|to| called(scene, to)).unwrap_or_default();
+            writeln!(out, "    Note over P{from}: sends {content} to {to}")
+        }
+        Partner::NoReceive => {
+            writeln!(out, "    P{from}-xP{to}: {content} (no receive reported)")
+        }
+        Partner::NoSend => {
+            let from = called(scene, event.from);
+            writeln!(out, "    U->>P{to}: {content} from {from}")
+        }
+        Partner::Send(pid, sent) if overtaken.contains(&(pid, sent)) => {
+            writeln!(out, "    P{from}-->>P{to}: {content} (sent above)")
+        }
+        Partner::Send(..) => writeln!(out, "    P{from}->>P{to}: {content}"),
     }
 }
 

@@ -13,7 +13,7 @@ use crate::output::Output;
 use crate::view::short;
 use crate::Failure;
 use gemshowal::{Event, Kind, OutOfMemory, Partner, Pid};
-use std::collections::{BTreeMap, BTreeSet};
+use std::collections::{BTreeMap, BTreeSet, HashMap};
 use std::io::{self, Write};
 
 /// The part of a unit by which the slice of a work begins before its first event and ends after its
@@ -33,7 +33,15 @@ pub(super) fn write(scene: &Scene<'_>, out: &mut Output) -> Result<(), Failure> 
     for (request, reply) in calls.all() {
         of_process.entry(request.0).or_default().push((request.1, reply.1));
     }
-    let writer = Writer::new(scene, clock);
+    let mut next = 0;
+    let process = |(pid, events): (Pid, &[Event])| {
+        let mut quoted = serde_json::Value::from(scene.names.process(pid)).to_string();
+        quoted.pop();
+        next += events.len() as u64;
+        (quoted, next - events.len() as u64)
+    };
+    let processes = scene.trace.processes().map(process).collect();
+    let writer = Writer { scene, clock, processes };
     out.write_all(b"{\"displayTimeUnit\":\"ns\",\"traceEvents\":[")?;
     let lanes = (1..).zip(scene.trace.processes().filter(|(_, events)| !events.is_empty()));
     let mut nodes = BTreeSet::new();
@@ -84,33 +92,27 @@ type Span = (f64, f64);
 struct Writer<'a> {
     scene: &'a Scene<'a>,
     clock: Clock,
-    /// The names of the processes by their places, as JSON but for the last quote.
-    quoted: Vec<String>,
+    /// The name of each process as JSON but for the last quote, so that more may come, and the
+    /// number of its first event among all.
+    processes: Vec<(String, u64)>,
 }
 
 impl Writer<'_> {
-    fn new<'a>(scene: &'a Scene<'a>, clock: Clock) -> Writer<'a> {
-        let quoted = |&pid: &Pid| {
-            let mut quoted = serde_json::Value::from(scene.names.process(pid)).to_string();
-            quoted.pop();
-            quoted
-        };
-        Writer { scene, clock, quoted: scene.trace.streams().pids().iter().map(quoted).collect() }
+    fn process(&self, pid: Pid) -> Option<&(String, u64)> {
+        self.processes.get(self.scene.trace.streams().place_of(pid)?)
     }
 
-    /// Appends the name of a process without the last quote, so that more may come.
+    /// Appends the name of a process without the last quote.
     fn put_process(&self, line: &mut Line<'_>, pid: Pid) {
-        let place = self.scene.trace.streams().place_of(pid);
-        match place.and_then(|place| self.quoted.get(place)) {
-            Some(quoted) => line.text(quoted),
+        match self.process(pid) {
+            Some((quoted, _)) => line.text(quoted),
             None => line.text("\"").process(self.scene.names, pid),
         };
     }
 
     fn put_node(&self, line: &mut Line<'_>, pid: Pid) {
-        let name = self.scene.node(pid);
         line.text("{\"ph\":\"M\",\"name\":\"process_name\",\"pid\":").number(process(pid));
-        line.text(",\"args\":{\"name\":").string(&name).text("}}");
+        line.text(",\"args\":{\"name\":").string(&self.scene.node(pid)).text("}}");
     }
 
     fn write_process(
@@ -137,7 +139,7 @@ impl Writer<'_> {
                 let place = (lane.pid, index);
                 let partner = self.scene.partner(place, event);
                 out.put(|line| {
-                    self.put_event(line, lane, place, event, span, partner);
+                    self.put_event(line, lane, index, event, span, partner);
                     self.put_flow(line, lane, place, partner, span.0);
                 })?;
             }
@@ -146,9 +148,9 @@ impl Writer<'_> {
     }
 
     fn span(&self, times: &[Option<i64>], index: u64) -> Option<Span> {
-        let at = |index: u64| *times.get(index as usize)?;
-        let time = at(index)?;
-        let gap = at(index + 1).map_or(LONGEST, |next| (next - time) as f64 / 2.0);
+        let time = (*times.get(index as usize)?)?;
+        let next = times.get(index as usize + 1).copied().flatten();
+        let gap = next.map_or(LONGEST, |next| (next - time) as f64 / 2.0);
         let longest = if self.clock.is_measured { LONGEST } else { 0.5 };
         Some((time as f64, gap.clamp(0.5, longest)))
     }
@@ -171,12 +173,23 @@ impl Writer<'_> {
             false => kind::handled(self.scene, event.value),
         };
         line.text(",\n{\"ph\":\"X\",\"name\":").string(&name);
+        let span = (start - around, end + len - start + 2.0 * around);
+        self.put_slice(line, lane, cat, span, slice.first);
+        line.text("\"}}");
+    }
+
+    /// Appends what each slice has: its kind, where it is, and the name of its event without the
+    /// last quote.
+    fn put_slice(&self, line: &mut Line<'_>, lane: Lane, cat: &str, span: Span, index: u64) {
         line.text(",\"cat\":\"").text(cat).text("\"");
         put_lane(line, lane);
-        self.put_span(line, (start - around, end + len - start + 2.0 * around));
+        line.text(",\"ts\":");
+        self.put_micros(line, span.0);
+        line.text(",\"dur\":");
+        self.put_micros(line, span.1);
         line.text(",\"args\":{\"event\":");
         self.put_process(line, lane.pid);
-        line.text("#").number(slice.first).text("\"}}");
+        line.text("#").number(index);
     }
 
     /// Appends the slice of an event, with what else the trace tells of it. A reader of JSON may
@@ -185,7 +198,7 @@ impl Writer<'_> {
         &self,
         line: &mut Line<'_>,
         lane: Lane,
-        place: Place,
+        index: u64,
         event: &Event,
         span: Span,
         partner: Partner,
@@ -198,12 +211,8 @@ impl Writer<'_> {
         } else {
             line.text("\"").text(kind).text(" ").number(event.value).text("\"");
         }
-        line.text(",\"cat\":\"").text(kind).text("\"");
-        put_lane(line, lane);
-        self.put_span(line, span);
-        line.text(",\"args\":{\"event\":");
-        self.put_process(line, place.0);
-        line.text("#").number(place.1).text("\",\"label\":").string(&names.label(event.label));
+        self.put_slice(line, lane, kind, span, index);
+        line.text("\",\"label\":").string(&names.label(event.label));
         line.text(",\"serial\":\"").serial(event.serial);
         line.text("\",\"value\":\"").number(event.value).text("\"");
         if has_terms {
@@ -235,18 +244,11 @@ impl Writer<'_> {
         };
         line.text(",\n{\"ph\":\"").text(phase);
         line.text("\",\"name\":\"message\",\"cat\":\"message\",\"id\":");
-        line.number(self.scene.number(sent).unwrap_or_default() as u64);
+        line.number(self.process(sent.0).map_or(0, |(_, first)| first + sent.1));
         put_lane(line, lane);
         line.text(",\"ts\":");
         self.put_micros(line, time);
         line.text(end);
-    }
-
-    fn put_span(&self, line: &mut Line<'_>, (start, len): Span) {
-        line.text(",\"ts\":");
-        self.put_micros(line, start);
-        line.text(",\"dur\":");
-        self.put_micros(line, len);
     }
 
     /// Appends a time in microseconds, with up to four decimals. A unit of ranks is shown as a
@@ -288,20 +290,17 @@ struct Clock {
 impl Clock {
     fn of(scene: &Scene<'_>) -> Result<Clock, OutOfMemory> {
         let is_measured = scene.names.times().is_some();
-        let mut counts: Vec<u64> = Vec::new();
-        if !is_measured {
-            counts.extend(scene.events().map(|(_, event)| event.serial.this));
-            counts.sort_unstable();
-            counts.dedup();
-        }
+        let counts = scene.events().filter(|_| !is_measured).map(|(_, event)| event.serial.this);
+        let mut counts = Vec::from_iter(counts);
+        counts.sort_unstable();
+        counts.dedup();
         let mut clock = Clock { times: Table::of(scene), is_measured };
-        let mut last = vec![i64::MIN; scene.trace.streams().pids().len()];
+        let mut last = HashMap::<Pid, i64>::new();
         for (place, event) in scene.in_order()? {
-            let own = scene.trace.streams().place_of(place.0).and_then(|it| last.get_mut(it));
-            let Some(own) = own else { continue };
-            let earliest = own.saturating_add(1);
+            let earliest =
+                last.get(&place.0).map_or(i64::MIN, |&last: &i64| last.saturating_add(1));
             if let Some(time) = clock.next(scene, place, event, &counts, earliest) {
-                *own = time;
+                last.insert(place.0, time);
                 clock.times.set(scene, place, Some(time));
             }
         }
@@ -320,13 +319,11 @@ impl Clock {
             return scene.time(place).map(|time| time.max(earliest));
         }
         let rank = counts.partition_point(|&other| other < event.serial.this) as i64;
-        let behind_send = match scene.partner(place, event) {
-            Partner::Send(pid, index) => {
-                self.times.get(scene, (pid, index)).map_or(0, |sent| sent + 1)
-            }
-            _ => 0,
+        let sent = match scene.partner(place, event) {
+            Partner::Send(pid, index) => self.times.get(scene, (pid, index)),
+            _ => None,
         };
         let by_count = 2 * rank + i64::from(event.kind == Kind::Receive);
-        Some(by_count.max(behind_send).max(earliest))
+        Some(by_count.max(sent.map_or(0, |sent| sent + 1)).max(earliest))
     }
 }

@@ -11,8 +11,6 @@ pub(super) struct Scene<'a> {
     pub(super) names: &'a Names,
     pub(super) causes: &'a Causes<'a>,
     label: Option<Label>,
-    /// The number of the first event of each process among all events.
-    starts: Vec<usize>,
     /// The processes that an event which is drawn is from or to, by rising pid.
     pub(super) lanes: Vec<Pid>,
     names_labels: bool,
@@ -21,17 +19,10 @@ pub(super) struct Scene<'a> {
 impl<'a> Scene<'a> {
     pub(super) fn new(causes: &'a Causes<'a>, label: Option<Label>) -> Scene<'a> {
         let (trace, names) = (causes.trace(), causes.names());
-        let lengths = trace.processes().map(|(_, events)| events.len());
-        let starts = lengths.scan(0, |next, len| {
-            let start = *next;
-            *next += len;
-            Some(start)
-        });
-        let starts = starts.collect();
         let mut labels = trace.events().map(|(_, event)| event.label);
         let first = labels.next();
         let names_labels = label.is_none() && labels.any(|label| Some(label) != first);
-        let mut scene = Scene { trace, names, causes, label, starts, lanes: vec![], names_labels };
+        let mut scene = Scene { trace, names, causes, label, lanes: vec![], names_labels };
         scene.lanes = ends(scene.events().map(|(_, event)| event));
         scene
     }
@@ -61,12 +52,6 @@ impl<'a> Scene<'a> {
 
     pub(super) fn event(&self, (pid, index): Place) -> Option<&'a Event> {
         self.trace.streams().events(pid).get(usize::try_from(index).ok()?)
-    }
-
-    pub(super) fn number(&self, (pid, index): Place) -> Option<usize> {
-        let streams = self.trace.streams();
-        let start = self.starts.get(streams.place_of(pid)?)?;
-        (index < streams.len(pid)).then_some(start + index as usize)
     }
 
     pub(super) fn partner(&self, place: Place, event: &Event) -> Partner {
@@ -104,7 +89,6 @@ impl<'a> Scene<'a> {
         format!("{} {}{label}", event.value, gemshowal::Text(event.serial))
     }
 
-    /// Returns whether there are terms: a trace without them shows its numbers.
     pub(super) fn has_terms(&self) -> bool {
         self.names.has_terms()
     }
@@ -124,29 +108,27 @@ impl<'a> Scene<'a> {
     }
 }
 
-/// A value for some events of a scene.
+/// A value for some events of a scene, by process.
 #[derive(Debug)]
-pub(super) struct Table<T>(Vec<Option<T>>);
+pub(super) struct Table<T>(Vec<Vec<Option<T>>>);
 
 impl<T: Copy> Table<T> {
     pub(super) fn of(scene: &Scene<'_>) -> Table<T> {
-        Table(vec![None; scene.trace.streams().total() as usize])
+        Table(scene.trace.processes().map(|(_, events)| vec![None; events.len()]).collect())
     }
 
-    pub(super) fn get(&self, scene: &Scene<'_>, place: Place) -> Option<T> {
-        *self.0.get(scene.number(place)?)?
+    pub(super) fn of_process(&self, scene: &Scene<'_>, pid: Pid) -> &[Option<T>] {
+        scene.trace.streams().place_of(pid).map_or(&[], |place| &self.0[place])
     }
 
-    pub(super) fn set(&mut self, scene: &Scene<'_>, place: Place, value: Option<T>) {
-        if let Some(own) = scene.number(place).and_then(|number| self.0.get_mut(number)) {
+    pub(super) fn get(&self, scene: &Scene<'_>, (pid, index): Place) -> Option<T> {
+        *self.of_process(scene, pid).get(index as usize)?
+    }
+
+    pub(super) fn set(&mut self, scene: &Scene<'_>, (pid, index): Place, value: Option<T>) {
+        let own = scene.trace.streams().place_of(pid).map(|place| &mut self.0[place]);
+        if let Some(own) = own.and_then(|own| own.get_mut(index as usize)) {
             *own = value;
         }
-    }
-
-    /// Returns the values of a process's events.
-    pub(super) fn of_process(&self, scene: &Scene<'_>, pid: Pid) -> &[Option<T>] {
-        let own = self.0.get(scene.number((pid, 0)).unwrap_or(self.0.len())..);
-        let count = scene.trace.streams().len(pid) as usize;
-        own.and_then(|own| own.get(..count)).unwrap_or_default()
     }
 }

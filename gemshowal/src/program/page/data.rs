@@ -3,9 +3,10 @@
 use crate::causes::{Cause, Causes, Grade, Link};
 use crate::chart::{lanes_and_rows, Row};
 use crate::names::{Messages, Names, Times};
+use crate::object::kind_letter;
 use crate::times::{self as durations, Durations};
 use crate::words;
-use gemshowal::{Event, Item, Kind, Label, Pid, Text};
+use gemshowal::{Event, Item, Kind, Label, Pid, Text, Trace};
 use serde::Serialize;
 use std::collections::{BTreeMap, BTreeSet, HashMap};
 use std::hash::Hash;
@@ -94,20 +95,15 @@ struct Rows {
     time: Option<Vec<Option<i64>>>,
 }
 
-struct Numbers<T>(HashMap<T, usize>);
+/// Things with their numbers.
+type Numbers<T> = HashMap<T, usize>;
 
-impl<T: Copy + Eq + Hash> Numbers<T> {
-    fn of(things: impl IntoIterator<Item = T>) -> Numbers<T> {
-        Numbers(things.into_iter().zip(0..).collect())
-    }
+fn numbers<T: Eq + Hash>(things: impl IntoIterator<Item = T>) -> Numbers<T> {
+    things.into_iter().zip(0..).collect()
+}
 
-    fn get(&self, thing: T) -> Option<usize> {
-        self.0.get(&thing).copied()
-    }
-
-    fn or_none(&self, thing: Option<T>) -> i64 {
-        thing.and_then(|thing| self.get(thing)).map_or(-1, |number| number as i64)
-    }
+fn or_none<T: Eq + Hash>(numbers: &Numbers<T>, thing: Option<T>) -> i64 {
+    thing.and_then(|thing| numbers.get(&thing)).map_or(-1, |&number| number as i64)
 }
 
 impl Data {
@@ -124,26 +120,22 @@ impl Data {
         let values: BTreeSet<u64> =
             rows.iter().filter_map(|row| causes.message(row.item)).collect();
         let most = messages.most(&values, names, CHARACTERS);
-        let numbers = Numbers::of(labels.iter().copied());
+        let places = numbers(labels.iter().copied());
         Data {
             title: title.into(),
             headline: words::headline(causes),
             fits: causes.never().is_none(),
-            notes: names
-                .losses()
-                .iter()
-                .map(|loss| format!("this trace isn't whole: {loss}"))
-                .collect(),
+            notes: words::losses(names).collect(),
             begin: times.and_then(Times::begin).map(|begin| begin / MICRO),
-            durations: times.map_or_else(Vec::new, |times| tables(causes, names, times)),
+            durations: times.map_or(vec![], |times| tables(causes.trace(), names, times)),
             most,
             limit: CHARACTERS,
             rests_on: words::rests_on(rows.iter().map(|row| row.link)),
             terms: values.iter().map(|&value| Term::of(value, names, messages, most)).collect(),
-            only: only.and_then(|label| numbers.get(label.0)),
+            only: only.and_then(|label| places.get(&label.0).copied()),
             lanes: lanes.iter().map(|&pid| Lane::of(causes, pid)).collect(),
             labels: labels.iter().map(|&label| names.label(Label(label)).into_owned()).collect(),
-            rows: Rows::of(causes, &rows, &numbers, &Numbers::of(values.iter().copied())),
+            rows: Rows::of(causes, &rows, &places, &numbers(values.iter().copied())),
         }
     }
 }
@@ -175,40 +167,31 @@ impl Rows {
         labels: &Numbers<u32>,
         values: &Numbers<u64>,
     ) -> Rows {
-        let places = Numbers::of(chart.iter().map(|row| row.item));
+        let places = numbers(chart.iter().map(|row| row.item));
         let times = causes.names().times();
         let mut rows = Rows { time: times.map(|_| Vec::new()), ..Rows::default() };
         for (number, &Row { item, ref event, link, lane, other }) in chart.iter().enumerate() {
             rows.lane.push(lane);
             rows.other.push(other.map_or(-1, |lane| lane as i64));
-            rows.kind.push(kind(item, event.kind));
+            let is_hidden = matches!(item, Item::Hidden(..));
+            rows.kind.push(if is_hidden { 'h' } else { kind_letter(event.kind) });
             rows.plain.push(if causes.reported(item).is_some() { '1' } else { '0' });
             rows.how.push(how(event.kind, link));
             rows.grade.push(grade(link.grade));
-            rows.label.push(labels.get(event.label.0).unwrap_or_default());
-            rows.term.push(values.or_none(causes.message(item)));
+            rows.label.push(labels.get(&event.label.0).copied().unwrap_or_default());
+            rows.term.push(or_none(values, causes.message(item)));
             rows.serial.push(format!("{},{}", event.serial.prev, event.serial.this));
             rows.at.push(causes.number(item));
-            rows.cause.push(places.or_none(link.follows()));
-            let others: Vec<i64> =
-                others(link.cause).into_iter().map(|other| places.or_none(other)).collect();
-            if !others.is_empty() {
-                rows.others.insert(number, others);
+            rows.cause.push(or_none(&places, link.follows()));
+            let others = others(link.cause).into_iter().map(|other| or_none(&places, other));
+            if others.len() > 0 {
+                rows.others.insert(number, others.collect());
             }
             if let (Some(column), Some(times)) = (&mut rows.time, times) {
                 column.push(causes.place(item).and_then(|place| times.of_event(place)));
             }
         }
         rows
-    }
-}
-
-fn kind(item: Item, kind: Kind) -> char {
-    match (item, kind) {
-        (Item::Hidden(..), _) => 'h',
-        (_, Kind::Send) => 's',
-        (_, Kind::Receive) => 'r',
-        (_, Kind::Print) => 'p',
     }
 }
 
@@ -243,8 +226,7 @@ fn grade(grade: Grade) -> char {
     }
 }
 
-fn tables(causes: &Causes<'_>, names: &Names, times: &Times) -> Vec<Table> {
-    let trace = causes.trace();
+fn tables(trace: &Trace, names: &Names, times: &Times) -> Vec<Table> {
     let tables = [
         ("By processes", durations::by_processes(trace, names, times)),
         ("By kind of message", durations::by_kind(trace, names, times)),

@@ -44,7 +44,9 @@ pub(crate) fn run(args: &Args, task: Task<'_>) -> Result<Status, Failure> {
 /// Fills the frame, which has a word between two at signs for each text. Nothing is put into what
 /// was put in.
 fn page(title: &str, data: &str) -> String {
-    let (nonce, script, data) = (nonce(), script(), in_element(data));
+    // JSON as it may stand in an element: only its strings have these characters.
+    let data = data.replace('<', "\\u003c").replace('>', "\\u003e").replace('&', "\\u0026");
+    let (nonce, script) = (nonce(), script());
     let mut page = String::with_capacity(data.len() + script.len() + STYLE.len() + FRAME.len());
     for part in FRAME.split('@') {
         match part {
@@ -68,11 +70,6 @@ fn nonce() -> String {
         let _ = write!(nonce, "{:016x}", RandomState::new().build_hasher().finish());
     }
     nonce
-}
-
-/// Returns JSON as it may stand in an element: only its strings have these characters.
-fn in_element(json: &str) -> String {
-    json.replace('<', "\\u003c").replace('>', "\\u003e").replace('&', "\\u0026")
 }
 
 fn escape(text: &str, page: &mut String) {
