@@ -12,9 +12,8 @@ use crate::object::kind_word;
 use crate::output::keep;
 use crate::view::count;
 use crate::{words, Failure};
-use gemshowal::{Item, Kind};
+use gemshowal::{Item, Kind, Pid};
 use std::collections::HashMap;
-use std::fmt::{self, Display, Formatter, Write};
 use std::path::Path;
 
 /// A drawing with more rows is no picture for a document; the page shows only what is in sight.
@@ -48,83 +47,63 @@ pub(crate) fn write(file: &Path, causes: &Causes<'_>, chart: &Chart) -> Result<(
     if chart.rows.len() > MOST_ROWS {
         return Err(Failure::TooManyRows(chart.rows.len(), MOST_ROWS));
     }
-    let mut text = String::new();
-    // A string takes all that is written to it.
-    let _ = Drawing::new(causes, chart).draw(&mut text);
-    keep(file, text.as_bytes())
+    let numbers = chart.rows.iter().map(|row| row.item).zip(0..).collect();
+    keep(file, Drawing { causes, chart, numbers }.svg().as_bytes())
 }
 
 struct Drawing<'a> {
     causes: &'a Causes<'a>,
     chart: &'a Chart,
     numbers: HashMap<Item, usize>,
-    names: Vec<String>,
-    width: usize,
-    height: usize,
 }
 
 impl<'a> Drawing<'a> {
-    fn new(causes: &'a Causes<'a>, chart: &'a Chart) -> Drawing<'a> {
-        Drawing {
-            causes,
-            chart,
-            numbers: chart.rows.iter().map(|row| row.item).zip(0..).collect(),
-            names: chart.rows.iter().map(|row| causes.name(row.item)).collect(),
-            width: LEFT + LANE * (chart.lanes.len().max(LEAST_LANES) + 1),
-            height: y(chart.rows.len()) + ROW,
-        }
-    }
-
     /// Draws the texts and names last, so that no arrow hides them.
-    fn draw(&self, out: &mut String) -> fmt::Result {
-        let (width, height) = (self.width, self.height);
-        writeln!(out, r#"<?xml version="1.0" encoding="UTF-8"?>"#)?;
-        writeln!(
-            out,
-            "<svg xmlns=\"http://www.w3.org/2000/svg\" width=\"{width}\" height=\"{height}\" \
-             viewBox=\"0 0 {width} {height}\">"
-        )?;
-        write!(out, "<style>\n{STYLE}</style>\n{ENDS}")?;
-        writeln!(out, "<rect width=\"100%\" height=\"100%\" fill=\"#fff\"/>")?;
-        self.heading(out)?;
-        self.key(out)?;
-        self.ground(out)?;
+    fn svg(&self) -> String {
+        let width = LEFT + LANE * (self.chart.lanes.len().max(LEAST_LANES) + 1);
+        let height = y(self.chart.rows.len()) + ROW;
+        let head = format!(
+            "<?xml version=\"1.0\" encoding=\"UTF-8\"?>\n<svg xmlns=\"http://www.w3.org/2000/svg\" \
+             width=\"{width}\" height=\"{height}\" viewBox=\"0 0 {width} {height}\">\n\
+             <style>\n{STYLE}</style>\n{ENDS}<rect width=\"100%\" height=\"100%\" fill=\"#fff\"/>\n"
+        );
         let rows = || self.chart.rows.iter().enumerate();
-        for (number, row) in rows() {
-            self.tipped(out, row, number, |out| self.mark(out, row, number))?;
-        }
-        for (number, row) in rows() {
-            self.tipped(out, row, number, |out| self.text(out, row, number))?;
-        }
-        (0..=self.chart.rows.len().saturating_sub(1) / ROWS_A_BLOCK)
-            .try_for_each(|block| self.lane_names(out, block))?;
-        for (number, name) in self.names.iter().enumerate() {
-            let (x, y) = (LEFT - 20, y(number) + 4);
-            writeln!(out, r#"<text class="n" x="{x}" y="{y}">{}</text>"#, Xml(&short(name, NAME)))?;
-        }
-        writeln!(out, "</svg>")
+        let marks = rows().map(|(number, row)| self.tipped(row, self.mark(row, number)));
+        let texts = rows().map(|(number, row)| self.tipped(row, self.text(row, number)));
+        let blocks = 0..=self.chart.rows.len().saturating_sub(1) / ROWS_A_BLOCK;
+        let names = rows().map(|(number, row)| {
+            let (x, y, name) = (LEFT - 20, y(number) + 4, short(&self.causes.name(row.item), NAME));
+            format!("<text class=\"n\" x=\"{x}\" y=\"{y}\">{}</text>\n", xml(&name))
+        });
+        let ground = [head, self.heading(), self.key(), self.ground(width, height)].into_iter();
+        let marked = ground.chain(marks).chain(texts).chain(blocks.map(|it| self.lane_names(it)));
+        marked.chain(names).chain(["</svg>\n".into()]).collect()
     }
 
     /// Says what is drawn, what the trace lacks, and that it has no run if so.
-    fn heading(&self, out: &mut String) -> fmt::Result {
-        let (rows, lanes) = (self.chart.rows.len(), self.chart.lanes.len());
+    fn heading(&self) -> String {
+        let (rows, lanes) = (self.chart.rows.len() as u64, self.chart.lanes.len() as u64);
         let label = self.causes.names().label(self.chart.label);
-        let (rows, lanes) = (count(rows as u64, "event"), count(lanes as u64, "process"));
-        let title = format!("label {label}: {rows}, {lanes}");
-        writeln!(out, r#"<text class="h" x="12" y="26">{}</text>"#, Xml(&title))?;
-        let class = if self.causes.never().is_some() { r#"class="w" "# } else { "" };
-        let said = Xml(&short(&words::headline(self.causes), HEADING)).to_string();
-        writeln!(out, r#"<text {class}x="12" y="46">{said}</text>"#)?;
-        let losses = self.causes.names().losses().join("; ");
-        if !losses.is_empty() {
-            let losses = short(&format!("this trace isn't whole: {losses}"), HEADING);
-            writeln!(out, r#"<text class="w" x="12" y="86">{}</text>"#, Xml(&losses))?;
-        }
-        Ok(())
+        let title = format!("label {label}: {}, {}", count(rows, "event"), count(lanes, "process"));
+        let class = if self.causes.never().is_some() { "class=\"w\" " } else { "" };
+        let said = short(&words::headline(self.causes), HEADING);
+        let losses = match self.causes.names().losses().join("; ") {
+            none if none.is_empty() => none,
+            losses => {
+                let losses = short(&format!("this trace isn't whole: {losses}"), HEADING);
+                format!("<text class=\"w\" x=\"12\" y=\"86\">{}</text>\n", xml(&losses))
+            }
+        };
+        format!(
+            "<text class=\"h\" x=\"12\" y=\"26\">{}</text>\n\
+             <text {class}x=\"12\" y=\"46\">{}</text>\n{losses}",
+            xml(&title),
+            xml(&said)
+        )
     }
 
     /// Explains the marks of the drawing that aren't plain.
-    fn key(&self, out: &mut String) -> fmt::Result {
+    fn key(&self) -> String {
         let rows = &self.chart.rows;
         let is_open = |row: &Row| row.event.kind == Kind::Send && self.receive(row).is_none();
         let are_used = [
@@ -132,64 +111,54 @@ impl<'a> Drawing<'a> {
             rows.iter().any(|row| self.is_doubtful(row)),
             rows.iter().any(is_open),
         ];
-        let mut used = KEY.lines().zip(are_used).filter(|(_, is_used)| *is_used);
-        used.try_for_each(|(line, _)| writeln!(out, "{line}"))
+        let used = KEY.lines().zip(are_used).filter(|(_, is_used)| *is_used);
+        used.map(|(line, _)| format!("{line}\n")).collect()
     }
 
     /// Shades every other five rows of the ground, so that the eye keeps the height across many
     /// lanes.
-    fn ground(&self, out: &mut String) -> fmt::Result {
-        for first in (5..self.chart.rows.len()).step_by(10) {
-            let (y, width, height) = (y(first) - ROW / 2, self.width, 5 * ROW);
-            writeln!(out, r#"<rect class="z" x="0" y="{y}" width="{width}" height="{height}"/>"#)?;
-        }
-        for (lane, &pid) in self.chart.lanes.iter().enumerate() {
-            let dashed =
-                if self.causes.is_unlisted(pid) { r#" stroke-dasharray="4 4""# } else { "" };
-            let (x, top, bottom) = (x(lane), TOP - ROW, self.height - ROW);
-            writeln!(out, r#"<path class="l"{dashed} d="M{x} {top}V{bottom}"/>"#)?;
-        }
-        Ok(())
+    fn ground(&self, width: usize, height: usize) -> String {
+        let shades = (5..self.chart.rows.len()).step_by(10).map(|first| {
+            let (y, height) = (y(first) - ROW / 2, 5 * ROW);
+            format!("<rect class=\"z\" x=\"0\" y=\"{y}\" width=\"{width}\" height=\"{height}\"/>\n")
+        });
+        let lines = self.chart.lanes.iter().enumerate().map(|(lane, &pid)| {
+            let is_unlisted = self.causes.is_unlisted(pid);
+            let dashed = if is_unlisted { " stroke-dasharray=\"4 4\"" } else { "" };
+            let (x, top, bottom) = (x(lane), TOP - ROW, height - ROW);
+            format!("<path class=\"l\"{dashed} d=\"M{x} {top}V{bottom}\"/>\n")
+        });
+        shades.chain(lines).collect()
     }
 
-    fn lane_names(&self, out: &mut String, block: usize) -> fmt::Result {
+    fn lane_names(&self, block: usize) -> String {
         let top = y(block * ROWS_A_BLOCK) - ROW / 2 - NAMES + 4;
-        for (lane, &pid) in self.chart.lanes.iter().enumerate() {
+        let name = |(lane, &pid): (usize, &Pid)| {
             let name = self.causes.process(pid);
             let (pid, about) = (gemshowal::Text(pid), self.causes.names().about(pid));
-            let about = format!("{name}\n{pid}\n{}", about.unwrap_or_default());
+            let about = xml(&format!("{name}\n{pid}\n{}", about.unwrap_or_default()));
             let (x, y, left, width) = (x(lane), top + 16, x(lane) - LANE / 2 + 6, LANE - 12);
-            write!(out, "<g><title>{}</title>", Xml(&about))?;
-            write!(
-                out,
-                r#"<rect class="b" x="{left}" y="{top}" width="{width}" height="24" rx="4"/>"#
-            )?;
-            let text = short(&name, NAME);
-            let text = Xml(&text);
-            writeln!(out, r#"<text x="{x}" y="{y}" text-anchor="middle">{text}</text></g>"#)?;
-        }
-        Ok(())
+            let name = xml(&short(&name, NAME));
+            format!(
+                "<g><title>{about}</title>\
+                 <rect class=\"b\" x=\"{left}\" y=\"{top}\" width=\"{width}\" height=\"24\" rx=\"4\"/>\
+                 <text x=\"{x}\" y=\"{y}\" text-anchor=\"middle\">{name}</text></g>\n"
+            )
+        };
+        self.chart.lanes.iter().enumerate().map(name).collect()
     }
 
     /// Puts the marks of a row below the tooltip of the row.
-    fn tipped(
-        &self,
-        out: &mut String,
-        row: &Row,
-        number: usize,
-        draw: impl FnOnce(&mut String) -> fmt::Result,
-    ) -> fmt::Result {
+    fn tipped(&self, row: &Row, marks: String) -> String {
         let (kind, serial) = (kind_word(row.event.kind), gemshowal::Text(row.event.serial));
         let follows = words::follows(self.causes, row.item, "it", row.link);
         let whole = match self.causes.message(row.item) {
             Some(value) => self.causes.names().value(value).into_owned(),
             None => words::message(self.causes, row.item),
         };
-        let (name, premises) = (&self.names[number], premises(row.link));
+        let (name, premises) = (self.causes.name(row.item), premises(row.link));
         let tip = format!("{name}: {kind} {serial}, {follows}\n{whole}{premises}");
-        write!(out, "<g><title>{}</title>", Xml(&tip))?;
-        draw(out)?;
-        writeln!(out, "</g>")
+        format!("<g><title>{}</title>{marks}</g>\n", xml(&tip))
     }
 
     fn is_reported(&self, row: &Row) -> bool {
@@ -209,26 +178,25 @@ impl<'a> Drawing<'a> {
         Some((number, self.chart.rows.get(number)?))
     }
 
-    fn mark(&self, out: &mut String, row: &Row, number: usize) -> fmt::Result {
+    fn mark(&self, row: &Row, number: usize) -> String {
         let (x, y) = (x(row.lane), y(number));
-        if self.is_doubtful(row) {
-            write!(out, r#"<text class="q" x="{}" y="{}">?</text>"#, x - 14, y + 4)?;
-        }
-        let circle = match (row.event.kind, self.is_reported(row)) {
-            (Kind::Print, _) => {
-                return write!(out, r#"<path class="p" d="M{x} {}l5 5l-5 5l-5 -5z"/>"#, y - 5)
-            }
-            (_, false) => "u",
-            (Kind::Receive, true) => "s r",
-            (Kind::Send, true) => "o",
+        let doubt = match self.is_doubtful(row) {
+            true => format!("<text class=\"q\" x=\"{}\" y=\"{}\">?</text>", x - 14, y + 4),
+            false => String::new(),
         };
-        if row.event.kind == Kind::Send {
-            self.arrow(out, row, number)?;
-        }
-        write!(out, r#"<circle class="{circle}" cx="{x}" cy="{y}" r="3.5"/>"#)
+        let (circle, arrow) = match (row.event.kind, self.is_reported(row)) {
+            (Kind::Print, _) => {
+                return format!("{doubt}<path class=\"p\" d=\"M{x} {}l5 5l-5 5l-5 -5z\"/>", y - 5)
+            }
+            (Kind::Receive, true) => ("s r", String::new()),
+            (Kind::Receive, false) => ("u", String::new()),
+            (Kind::Send, true) => ("o", self.arrow(row, number)),
+            (Kind::Send, false) => ("u", self.arrow(row, number)),
+        };
+        format!("{doubt}{arrow}<circle class=\"{circle}\" cx=\"{x}\" cy=\"{y}\" r=\"3.5\"/>")
     }
 
-    fn arrow(&self, out: &mut String, row: &Row, number: usize) -> fmt::Result {
+    fn arrow(&self, row: &Row, number: usize) -> String {
         let receive = self.receive(row);
         let are_reported =
             self.is_reported(row) && receive.is_none_or(|(_, receive)| self.is_reported(receive));
@@ -242,29 +210,27 @@ impl<'a> Drawing<'a> {
             true => bow(from, y(at.max(number + 1))),
             false => format!("M{} {}L{} {}", from.0, from.1, x(lane), y(at)),
         };
-        write!(out, r#"<g class="{class}"><path d="{path}" marker-end="url(#{end})"/></g>"#)
+        format!("<g class=\"{class}\"><path d=\"{path}\" marker-end=\"url(#{end})\"/></g>")
     }
 
-    /// Writes the text next to a mark: for a print its message, for a send the message too, which
+    /// Returns the text next to a mark: for a print its message, for a send the message too, which
     /// begins at the sender and runs towards the receiver. For a receive that nobody reported it is
     /// on the side from which no arrow comes.
-    fn text(&self, out: &mut String, row: &Row, number: usize) -> fmt::Result {
+    fn text(&self, row: &Row, number: usize) -> String {
         let message = words::message(self.causes, row.item);
-        let (is_right, text, lift) = match row.event.kind {
-            Kind::Receive if self.is_reported(row) => return Ok(()),
+        let (is_right, text, y) = match row.event.kind {
+            Kind::Receive if self.is_reported(row) => return String::new(),
             Kind::Receive => {
                 let is_right = row.other.is_some_and(|other| other < row.lane);
-                (is_right, "receive not reported".into(), false)
+                (is_right, "receive not reported".into(), y(number) + 4)
             }
-            Kind::Print => (true, message, false),
-            Kind::Send => (row.other.is_none_or(|other| other >= row.lane), message, true),
+            Kind::Print => (true, message, y(number) + 4),
+            Kind::Send => (row.other.is_none_or(|other| other >= row.lane), message, y(number) - 3),
         };
         let x = x(row.lane);
         let (x, anchor) = if is_right { (x + 10, "start") } else { (x - 10, "end") };
-        let y = if lift { y(number) - 3 } else { y(number) + 4 };
-        let text = short(&text, TEXT);
-        let text = Xml(&text);
-        write!(out, r#"<text class="t" x="{x}" y="{y}" text-anchor="{anchor}">{text}</text>"#)
+        let text = xml(&short(&text, TEXT));
+        format!("<text class=\"t\" x=\"{x}\" y=\"{y}\" text-anchor=\"{anchor}\">{text}</text>")
     }
 }
 
@@ -290,18 +256,8 @@ fn y(row: usize) -> usize {
     TOP + NAMES / 2 + row * ROW + row / ROWS_A_BLOCK * NAMES
 }
 
-/// Text as XML takes it. Control characters were escaped when the names were read.
-struct Xml<'a>(&'a str);
-
-impl Display for Xml<'_> {
-    fn fmt(&self, f: &mut Formatter<'_>) -> fmt::Result {
-        self.0.chars().try_for_each(|c| match c {
-            '&' => f.write_str("&amp;"),
-            '<' => f.write_str("&lt;"),
-            '>' => f.write_str("&gt;"),
-            '"' => f.write_str("&quot;"),
-            '\u{FFFE}' | '\u{FFFF}' => f.write_char('\u{FFFD}'),
-            _ => f.write_char(c),
-        })
-    }
+/// Returns a text as XML takes it. Control characters were escaped when the names were read.
+fn xml(text: &str) -> String {
+    let text = text.replace('&', "&amp;").replace('<', "&lt;").replace('>', "&gt;");
+    text.replace('"', "&quot;").replace(['\u{FFFE}', '\u{FFFF}'], "\u{FFFD}")
 }
