@@ -5,7 +5,7 @@ use super::grammar::{read, Above, Scan, Sort, Wanted};
 use super::mend::{can_only_end, mended_line, mends};
 use super::remedy::{remedy_of, remedy_of_text};
 use super::text::{lines, Kind, Line};
-use gemshowal::{Pid, LIMITS};
+use gemshowal::{Pid, Text, LIMITS};
 use serde::Serialize;
 use std::collections::{HashMap, HashSet};
 use std::fmt::{self, Display, Formatter};
@@ -154,7 +154,8 @@ impl<'a> Judge<'a> {
         let is_new = self.listed.insert(pid);
         if let Some(last) = self.last.filter(|&last| pid <= last || !is_new) {
             let remedy = "list the processes by rising pid, each once";
-            self.add(Mistake::new(line, column, Wanted::Above(last), remedy));
+            let wanted = Wanted::Phrase(format!("a pid above {}", Text(last)));
+            self.add(Mistake::new(line, column, wanted, remedy));
         }
         (self.above, self.last, self.current) = (Above::Process, Some(pid), Some(pid));
         if is_new {
@@ -166,7 +167,9 @@ impl<'a> Judge<'a> {
         if let Some(current) = self.current.filter(|&current| current != pid) {
             let remedy = "an event stands below the process that reports it: a receive below its \
                           to, others below their from";
-            self.add(Mistake::new(line, column, Wanted::EventOf(current, pid), remedy));
+            let (current, pid) = (Text(current), Text(pid));
+            let wanted = Wanted::Phrase(format!("an event of {current}, this is one of {pid}"));
+            self.add(Mistake::new(line, column, wanted, remedy));
         }
         self.events = self.events.saturating_add(1);
         self.limit(line, "event", self.events, LIMITS.events);
@@ -176,7 +179,8 @@ impl<'a> Judge<'a> {
                 let remedy = "no run of the machine reports it, since its second count isn't \
                               above its first; on a standard node a token that was put back, or \
                               set by hand, may give such a serial";
-                let mistake = Mistake::new(line, column, Wanted::Greater(prev), remedy);
+                let wanted = Wanted::Phrase(format!("a number above {prev}"));
+                let mistake = Mistake::new(line, column, wanted, remedy);
                 self.add(Mistake { is_read: true, ..mistake });
             }
         }
@@ -193,7 +197,8 @@ impl<'a> Judge<'a> {
     fn limit(&mut self, line: Line<'a>, noun: &'static str, count: u32, most: u32) {
         if count == most + 1 {
             let remedy = "cut the trace: a shorter time, or fewer processes";
-            self.add(Mistake::new(line, 0, Wanted::NoMore(noun, most), remedy));
+            let wanted = Wanted::Phrase(format!("no {noun} more than {most}"));
+            self.add(Mistake::new(line, 0, wanted, remedy));
         }
     }
 
@@ -228,7 +233,8 @@ impl<'a> Judge<'a> {
         let unlisted = self.named.iter().filter(|(pid, _)| !self.listed.contains(pid));
         for (&pid, &(line, column)) in unlisted.filter(|_| !self.has_unread) {
             let remedy = "add its process line; or, if the text breaks off, get the whole of it";
-            self.found.add(Mistake::new(line, column, Wanted::Listed(pid), remedy), true);
+            let words = format!("a pid with a process line, {} has none", Text(pid));
+            self.found.add(Mistake::new(line, column, Wanted::Phrase(words), remedy), true);
         }
     }
 }

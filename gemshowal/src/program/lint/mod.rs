@@ -26,9 +26,11 @@ pub(crate) fn run(args: &Lint, task: Task<'_>) -> Result<Status, Failure> {
     if args.fix {
         return mend::run(&bytes, out, notes);
     }
-    match judge(&bytes, args.most)? {
+    match judge_text(&bytes, args.most)? {
         Ok(trace) => {
-            out.tell(json, "ok", &Counts::of(&trace))?;
+            let (streams, acts) = (trace.streams(), trace.acts().map(<[_]>::len));
+            let (processes, events) = (streams.pids().len(), Number(streams.total()));
+            out.tell(json, "ok", &Counts { processes, events, acts })?;
             Ok(Status::Yes)
         }
         Err((status, findings)) => {
@@ -57,21 +59,20 @@ pub(crate) fn read_act(line: &[u8]) -> Option<(Pids, usize)> {
 
 /// Judges a text, of which at most this number of mistakes is to be named. Of a text with mistakes
 /// the status says whether it is a trace.
-fn judge(bytes: &[u8], most: usize) -> Result<Result<Trace, (Status, Findings<'_>)>, OutOfMemory> {
+fn judge_text(
+    bytes: &[u8],
+    most: usize,
+) -> Result<Result<Trace, (Status, Findings<'_>)>, OutOfMemory> {
     let status = match Trace::read(bytes) {
-        Ok(trace) if !has_unrising(&trace) => return Ok(Ok(trace)),
+        // Asks that each serial rises: no run reports an event whose serial doesn't.
+        Ok(trace) if trace.events().all(|(_, event)| event.serial.prev < event.serial.this) => {
+            return Ok(Ok(trace))
+        }
         Ok(_) => Status::No,
         Err(ReadError::Memory(error)) => return Err(error),
         Err(_) => Status::Faulty,
     };
     Ok(Err((status, Findings::of(bytes, most))))
-}
-
-/// Returns whether no run reports some event, since its serial doesn't rise.
-fn has_unrising(trace: &Trace) -> bool {
-    trace
-        .processes()
-        .any(|(_, events)| events.iter().any(|event| event.serial.prev >= event.serial.this))
 }
 
 impl Display for Findings<'_> {
@@ -101,13 +102,6 @@ struct Counts {
     processes: usize,
     events: Number,
     acts: Option<usize>,
-}
-
-impl Counts {
-    fn of(trace: &Trace) -> Counts {
-        let (streams, acts) = (trace.streams(), trace.acts().map(<[_]>::len));
-        Counts { processes: streams.pids().len(), events: Number(streams.total()), acts }
-    }
 }
 
 impl Display for Counts {
