@@ -99,7 +99,6 @@ fn key_of_events(
     key
 }
 
-/// Returns keys that look one hop further.
 fn refined(side: &Side<'_>, keys: &[u64]) -> Vec<u64> {
     let mut told = vec![0_u64; keys.len()];
     let mut next = keys.to_vec();

@@ -69,21 +69,6 @@ struct Sums {
     counts: usize,
 }
 
-impl Display for Sums {
-    fn fmt(&self, f: &mut Formatter<'_>) -> fmt::Result {
-        let Sums { gone, new, elsewhere, gone_processes, new_processes, guesses, counts } = self;
-        write!(
-            f,
-            "different: events gone {gone}, new {new}, elsewhere {elsewhere}; processes gone \
-             {gone_processes}, new {new_processes}, matched by a guess {guesses}"
-        )?;
-        match counts {
-            0 => Ok(()),
-            counts => write!(f, "; counts of another rank {counts}"),
-        }
-    }
-}
-
 /// A line of the report: a process that is matched, or a difference.
 enum Line<'a> {
     Matched(Pair),
@@ -91,7 +76,6 @@ enum Line<'a> {
     Event { change: &'static str, row: Row<'a>, now: Option<Row<'a>> },
 }
 
-/// An event of one of the traces.
 #[derive(Clone, Copy)]
 struct Row<'a> {
     names: &'a Names,
@@ -111,8 +95,8 @@ impl<'a> Report<'a> {
         let (pairs, changes) = (&self.found.pairs.all, &self.found.changes);
         let elsewhere = changes.elsewhere();
         Sums {
-            gone: changes.of[0].len() - elsewhere,
-            new: changes.of[1].len() - elsewhere,
+            gone: changes.all[0].len() - elsewhere,
+            new: changes.all[1].len() - elsewhere,
             elsewhere,
             gone_processes: first.len() - pairs.len(),
             new_processes: second.len() - pairs.len(),
@@ -126,9 +110,9 @@ impl<'a> Report<'a> {
         let names = self.texts.each_ref().map(|text| text.names);
         let mut lines = Vec::new();
         for (place, &pid) in self.sides[0].pids().iter().enumerate() {
-            let gone = of_process(&changes.of[0], place);
+            let gone = of_process(&changes.all[0], place);
             let pair = pairs.of_first(place);
-            let new = pair.map_or(&[][..], |pair| of_process(&changes.of[1], pair.places[1]));
+            let new = pair.map_or(&[][..], |pair| of_process(&changes.all[1], pair.places[1]));
             match pair {
                 Some(_) if gone.is_empty() && new.is_empty() => {}
                 Some(pair) => lines.push(Line::Matched(pair)),
@@ -139,7 +123,7 @@ impl<'a> Report<'a> {
         for (place, &pid) in self.sides[1].pids().iter().enumerate() {
             if pairs.is_free(1, place) {
                 lines.push(Line::Process { change: "new process", pid, names: names[1] });
-                self.add_in_order(&mut lines, &[], of_process(&changes.of[1], place));
+                self.add_in_order(&mut lines, &[], of_process(&changes.all[1], place));
             }
         }
         if let Some(Moved { pair, index, .. }) = self.found.moved {
@@ -161,7 +145,7 @@ impl<'a> Report<'a> {
         for change in gone {
             let before = std::iter::from_fn(|| new.next_if(|other| other.before < change.before));
             lines.extend(before.filter_map(alone));
-            let other = change.elsewhere.map(|other| self.found.changes.of[1][other]);
+            let other = change.elsewhere.map(|other| self.found.changes.all[1][other]);
             let now = other.and_then(|other| self.row(1, other.process, other.index));
             let word = if now.is_some() { "elsewhere" } else { "gone" };
             let row = self.row(0, change.process, change.index);
@@ -232,10 +216,19 @@ impl Display for Report<'_> {
         if self.is_same() {
             return writeln!(f, "same");
         }
-        let sums = self.sums();
-        writeln!(f, "{sums}")?;
+        let Sums { gone, new, elsewhere, gone_processes, new_processes, guesses, counts } =
+            self.sums();
+        write!(
+            f,
+            "different: events gone {gone}, new {new}, elsewhere {elsewhere}; processes gone \
+             {gone_processes}, new {new_processes}, matched by a guess {guesses}"
+        )?;
+        if counts > 0 {
+            write!(f, "; counts of another rank {counts}")?;
+        }
+        writeln!(f)?;
         self.lines().iter().try_for_each(|line| self.write_line(f, line))?;
-        if sums.guesses > 0 {
+        if guesses > 0 {
             writeln!(f, "gemshowal diff --json has all matches, and which of them are guesses")?;
         }
         Ok(())
