@@ -21,8 +21,8 @@ struct Gathered {
     /// A process that no text lists.
     unlisted: Option<Pid>,
     found: Option<Found>,
-    /// How many events the reason's processes have in each part.
-    parts: BTreeMap<Pid, Vec<(u16, u64)>>,
+    /// How many events the reason's processes have in each part, as the places behind them.
+    parts: BTreeMap<Pid, Vec<Place>>,
     scattered: Counts,
     judged: Counts,
     /// How many runs of `scatter` have said their counts.
@@ -51,7 +51,14 @@ impl Gathered {
                 rest.end()
             }
             b'1' => self.take_reason(rest),
-            b'2' => self.take_part(rest),
+            b'2' => {
+                let (pid, place) = (rest.pid()?, Place(rest.number()?));
+                let mut events = self.found.iter().flat_map(|found| &found.events);
+                if events.any(|&(other, ..)| other == pid) {
+                    self.parts.entry(pid).or_default().push(place);
+                }
+                rest.end()
+            }
             b'3' => {
                 let is_judged = rest.byte()? == b'T';
                 let sum = if is_judged { &mut self.judged } else { &mut self.scattered };
@@ -86,15 +93,6 @@ impl Gathered {
         Some(())
     }
 
-    fn take_part(&mut self, mut rest: Rest<'_>) -> Option<()> {
-        let (pid, place) = (rest.pid()?, Place(rest.number()?));
-        let events = self.found.iter().flat_map(|found| &found.events);
-        if events.into_iter().any(|&(other, ..)| other == pid) {
-            self.parts.entry(pid).or_default().push((place.part(), place.index()));
-        }
-        rest.end()
-    }
-
     fn verdict(&self, name: &str, out: &mut impl Write) -> Result<Status, Failure> {
         if let Some(pid) = self.unlisted {
             let words = format!("{} is named by an event, and no text lists it", Text(pid));
@@ -117,13 +115,11 @@ impl Gathered {
     fn write_never(&self, found: &Found, out: &mut impl Write) -> Result<Status, Failure> {
         let PlacedReason { pid, index, never } = found.reason;
         let word = Against::by_complete(pid, index, never).word();
-        let places: Vec<(Pid, u64)> =
-            found.events.iter().map(|&(pid, place, _)| (pid, self.index(pid, place))).collect();
-        let place = |&(pid, index): &(Pid, u64)| format!(" {} {index}", Text(pid));
-        let other: String = places[1..].iter().map(place).collect();
-        writeln!(out, "never{} {word}{other}", place(&places[0]))?;
-        for (at, (.., event)) in places.iter().zip(&found.events) {
-            writeln!(out, "event{} {event}", place(at))?;
+        let place = |&(pid, place, _): &_| format!(" {} {}", Text(pid), self.index(pid, place));
+        let places: Vec<String> = found.events.iter().map(place).collect();
+        writeln!(out, "never{} {word}{}", places[0], places[1..].concat())?;
+        for (place, (.., event)) in places.iter().zip(&found.events) {
+            writeln!(out, "event{place} {event}")?;
         }
         Ok(Status::No)
     }
@@ -131,7 +127,7 @@ impl Gathered {
     /// Returns the index of an event among all of its process.
     fn index(&self, pid: Pid, place: Place) -> u64 {
         let parts = self.parts.get(&pid).into_iter().flatten();
-        let before = parts.filter(|&&(part, _)| part < place.part()).map(|&(_, count)| count);
+        let before = parts.filter(|end| end.part() < place.part()).map(|end| end.index());
         before.sum::<u64>() + place.index()
     }
 }

@@ -11,9 +11,11 @@ use std::io::{self, BufRead, Write};
 /// The lines that come before those of the next process.
 struct Piece {
     pid: Pid,
-    /// The parts that list the process, in order, each with the number of its events there.
-    parts: Vec<(u16, u64)>,
+    /// The parts that list the process, in order.
+    parts: Vec<u16>,
     events: Vec<Event>,
+    /// The places of the events.
+    places: Vec<Place>,
     receipts: Vec<Receipt>,
 }
 
@@ -71,7 +73,7 @@ fn finish(piece: Option<Piece>, totals: &mut Totals, out: &mut impl Write) -> io
 
 impl Piece {
     fn new(pid: Pid) -> Piece {
-        Piece { pid, parts: Vec::new(), events: Vec::new(), receipts: Vec::new() }
+        Piece { pid, parts: vec![], events: vec![], places: vec![], receipts: vec![] }
     }
 
     /// Takes the next line of the process, and returns its kind; none if it isn't as `scatter` and
@@ -95,7 +97,7 @@ impl Piece {
     fn list(&mut self, mut rest: Rest<'_>) -> Option<()> {
         let place = Place(rest.number()?);
         rest.end()?;
-        self.parts.push((place.part(), 0));
+        self.parts.push(place.part());
         (place.index() == 0).then_some(())
     }
 
@@ -103,12 +105,14 @@ impl Piece {
         let place = Place(rest.number()?);
         rest.skip(b' ')?;
         let event = read_event(rest.0)?;
-        let at = self.at(place)?;
-        let count = &mut self.parts[at].1;
-        let is_next = place.index() == *count;
-        *count += 1;
+        let next = match self.places.last() {
+            Some(last) if last.part() == place.part() => Place(last.0 + 1),
+            _ => Place::new(place.part(), 0),
+        };
+        let is_listed = self.parts.binary_search(&place.part()).is_ok();
         self.events.push(event);
-        (is_next && event.is_own(self.pid)).then_some(())
+        self.places.push(place);
+        (is_listed && place == next && event.is_own(self.pid)).then_some(())
     }
 
     fn receive(&mut self, mut rest: Rest<'_>) -> Option<()> {
@@ -119,36 +123,17 @@ impl Piece {
         let place = Place(rest.number()?);
         rest.skip(b' ')?;
         let event = read_event(rest.0)?;
-        let index = if pid == self.pid { self.index(place)? } else { place.0 };
+        let own = || self.places.binary_search(&place).ok().map(|index| index as u64);
+        let index = if pid == self.pid { own()? } else { place.0 };
         self.receipts.push(Receipt { pid, index, event });
         let is_receipt = event.kind == Kind::Receive && event.to == Some(pid);
         (is_receipt && event.from == self.pid && event.serial.this == count).then_some(())
     }
 
-    /// Returns where the place's part is among the parts.
-    fn at(&self, place: Place) -> Option<usize> {
-        self.parts.binary_search_by_key(&place.part(), |&(part, _)| part).ok()
-    }
-
-    /// Returns the index, among all events of the process, of that at this place.
-    fn index(&self, place: Place) -> Option<u64> {
-        let at = self.at(place)?;
-        let before: u64 = self.parts[..at].iter().map(|&(_, count)| count).sum();
-        (place.index() < self.parts[at].1).then_some(before + place.index())
-    }
-
     /// Returns the place of an event: its index, if it isn't this process's, is one already.
-    fn place(&self, pid: Pid, mut index: u64) -> Place {
-        if pid != self.pid {
-            return Place(index);
-        }
-        for &(part, count) in &self.parts {
-            match index.checked_sub(count) {
-                None => return Place::new(part, index),
-                Some(rest) => index = rest,
-            }
-        }
-        Place(index)
+    fn place(&self, pid: Pid, index: u64) -> Place {
+        let own = self.places.get(index as usize).filter(|_| pid == self.pid);
+        own.copied().unwrap_or(Place(index))
     }
 
     fn event(&self, pid: Pid, index: u64) -> Option<&Event> {
@@ -186,10 +171,14 @@ impl Piece {
 
     /// Writes how many events of the process are in each part, if it is in others than the first.
     fn write_parts(&self, out: &mut impl Write) -> io::Result<()> {
-        if self.parts.iter().all(|&(part, _)| part == 0) {
+        if self.parts.iter().all(|&part| part == 0) {
             return Ok(());
         }
-        self.parts.iter().try_for_each(|&(part, count)| {
+        let up_to = |part: u16| self.places.partition_point(|place| place.part() <= part) as u64;
+        let mut before = 0;
+        self.parts.iter().try_for_each(|&part| {
+            let count = up_to(part) - before;
+            before += count;
             let mut line = Line::default();
             line.starting(b"2").pid(self.pid).number(Place::new(part, count).0).write(out)
         })

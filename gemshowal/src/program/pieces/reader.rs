@@ -13,7 +13,6 @@ pub(crate) enum Entry<'a> {
     Act(&'a [Pid]),
 }
 
-/// An event of a text.
 pub(crate) struct Reported<'a> {
     pub(crate) pid: Pid,
     /// The number of the process's events before it.

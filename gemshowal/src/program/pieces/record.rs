@@ -43,7 +43,6 @@ impl Place {
     }
 }
 
-/// A line under way.
 #[derive(Debug, Default)]
 pub(super) struct Line(Vec<u8>);
 

@@ -24,7 +24,6 @@ impl<W: Write> Scatter<W> {
         Scatter { out, line: Line::default(), counts: Counts::default(), named }
     }
 
-    /// Returns how many events were written so far.
     pub(super) fn events(&self) -> u64 {
         self.counts.events()
     }
@@ -48,13 +47,11 @@ impl<W: Write> Scatter<W> {
         })
     }
 
-    /// Writes that this process is listed.
     fn list(&mut self, part: u16, pid: Pid) -> io::Result<()> {
         self.counts.count(b'0');
         self.line.of(pid, b'0').number(Place::new(part, 0).0).write(&mut self.out)
     }
 
-    /// Writes an event of this process.
     fn put(&mut self, part: u16, reported: &Reported<'_>) -> io::Result<()> {
         let &Reported { pid, index, ref event, line: text } = reported;
         let place = Place::new(part, index);
@@ -84,7 +81,6 @@ impl<W: Write> Scatter<W> {
         Ok(())
     }
 
-    /// Writes how many lines there are of each kind.
     pub(super) fn finish(mut self) -> io::Result<()> {
         self.counts.append_to(self.line.starting(COUNTS)).write(&mut self.out)?;
         self.out.flush()

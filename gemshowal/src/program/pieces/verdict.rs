@@ -18,13 +18,13 @@ const SMALL: &str = "64M";
 const PAUSE: Duration = Duration::from_secs(10);
 
 pub(super) fn verdict(args: &Verdict, out: &mut impl Write) -> Result<Status, Failure> {
-    let mut progress = Progress { said: Instant::now() };
+    let mut said = Instant::now();
     let mut events = Sort::start(&args.memory)?;
     let mut scatter = Scatter::new(BufWriter::with_capacity(BUFFER, events.input()?));
     for (file, part) in parts(&args.files, 0)? {
         let (name, input) = open(file)?;
         let taken = scatter.take(part, &name, input, |events| {
-            progress.say(|| format!("{} up to {name}", count(events, "event")));
+            say(&mut said, || format!("{} up to {name}", count(events, "event")));
         });
         taken.map_err(of_sort)?;
     }
@@ -34,7 +34,7 @@ pub(super) fn verdict(args: &Verdict, out: &mut impl Write) -> Result<Status, Fa
     let input = BufReader::with_capacity(BUFFER, events.output()?);
     let mut judged = BufWriter::with_capacity(BUFFER, pieces.input()?);
     let ended = judge("the sorted lines", input, &mut judged, |events| {
-        progress.say(|| format!("judged {events} of {}", count(total, "event")));
+        say(&mut said, || format!("judged {events} of {}", count(total, "event")));
     });
     ended.map_err(of_sort)?;
     events.end()?;
@@ -44,16 +44,11 @@ pub(super) fn verdict(args: &Verdict, out: &mut impl Write) -> Result<Status, Fa
     Ok(found)
 }
 
-struct Progress {
-    said: Instant,
-}
-
-impl Progress {
-    fn say(&mut self, words: impl FnOnce() -> String) {
-        if self.said.elapsed() >= PAUSE {
-            self.said = Instant::now();
-            output::complain(format_args!("{}\n", words()));
-        }
+/// Says how far it is, if the last time is long ago.
+fn say(said: &mut Instant, words: impl FnOnce() -> String) {
+    if said.elapsed() >= PAUSE {
+        *said = Instant::now();
+        output::complain(format_args!("{}\n", words()));
     }
 }
 
@@ -76,7 +71,6 @@ impl Sort {
         self.0.stdout.take().ok_or_else(failed)
     }
 
-    /// Waits for its end.
     fn end(mut self) -> Result<(), Failure> {
         let is_done = self.0.wait().is_ok_and(|status| status.success());
         is_done.then_some(()).ok_or_else(failed)
