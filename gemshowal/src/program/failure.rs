@@ -1,9 +1,9 @@
 //! The ends of a command: its status, or the reason why there is no result.
 
-use crate::names;
 use crate::reason::No;
 use gemshowal::{CertificateError, CompleteError, OutOfMemory};
 use std::io::{self, ErrorKind};
+use std::path::PathBuf;
 use thiserror::Error;
 
 #[derive(Clone, Copy, Debug, PartialEq, Eq)]
@@ -11,7 +11,6 @@ pub(crate) enum Status {
     Yes = 0,
     No = 1,
     Faulty = 2,
-    /// Two programs disagree.
     Differs = 4,
     /// There is an answer, too long to be read again.
     Long = 5,
@@ -46,8 +45,13 @@ pub(crate) enum Failure {
     Torn(String),
     #[error("{0} has no acts: look for some with gemshowal audit --acts")]
     NoActs(String),
-    #[error(transparent)]
-    Beside(#[from] names::Fault),
+    #[error("{}, line {line}, isn't {wanted}; convert it anew", .file.display())]
+    Wrong { file: PathBuf, line: usize, wanted: &'static str },
+    #[error(
+        "{} calls label {label} otherwise than a file before it: they aren't parts of one trace",
+        .file.display()
+    )]
+    Unlike { file: PathBuf, label: u32 },
     #[error("{0}")]
     NotFound(String),
     #[error("the trace has no times: events need the flag timestamp, and NAME.times beside it")]
@@ -88,9 +92,8 @@ impl Failure {
             | Failure::Torn(_)
             | Failure::NoActs(_)
             | Failure::OtherTimes(_)
-            | Failure::Beside(names::Fault::Wrong { .. } | names::Fault::Unlike { .. }) => {
-                Status::Faulty as u8
-            }
+            | Failure::Wrong { .. }
+            | Failure::Unlike { .. } => Status::Faulty as u8,
             Failure::NotFound(_) | Failure::NoTimes | Failure::NoDate | Failure::NothingLeft(_) => {
                 Status::No as u8
             }

@@ -11,7 +11,6 @@ use std::path::{Path, PathBuf};
 use std::sync::Arc;
 use std::{env, process};
 
-/// The first bytes of a packed file.
 const GZIP: &[u8] = b"\x1f\x8b";
 
 pub(crate) struct Input {
@@ -101,7 +100,7 @@ impl Input {
 
     /// Reads the whole texts of messages that the names have cut, if `is_wanted` is true for them.
     pub(crate) fn messages(&self, is_wanted: impl Fn(u64) -> bool) -> Result<Messages, Failure> {
-        Ok(Messages::beside(&self.path, is_wanted)?)
+        Messages::beside(&self.path, is_wanted)
     }
 
     pub(crate) fn title(&self) -> String {
@@ -120,7 +119,7 @@ impl Input {
             Err(error) => error,
         };
         let mut bytes = Vec::new();
-        let kept = spooled.kept().and_then(|mut kept| kept.read_to_end(&mut bytes));
+        let kept = spooled.replay().and_then(|mut kept| kept.read_to_end(&mut bytes));
         Err(self.refused(error, |_| kept.map(|_| bytes)))
     }
 
@@ -237,7 +236,7 @@ impl<R: Read> Spooled<R> {
     }
 
     /// Returns a reader of all that was read.
-    pub(crate) fn kept(&mut self) -> io::Result<impl Read + '_> {
+    pub(crate) fn replay(&mut self) -> io::Result<impl Read + '_> {
         let file = self.file.as_mut().map_err(|error| {
             let words = format!("it can't be kept in {}: {error}", env::temp_dir().display());
             io::Error::new(error.kind(), words)

@@ -18,7 +18,6 @@ pub(super) struct Ends {
     chosen: HashMap<MessageContent, [u64; 2]>,
 }
 
-/// The chosen lines of a process.
 #[derive(Default)]
 struct Own {
     count: u64,

@@ -11,7 +11,7 @@ mod survey;
 
 use self::kept::{Ends, Kept};
 use self::part::Parts;
-use self::selection::{NamedEvents, Selection};
+use self::selection::{NamedEvent, Selection};
 use self::survey::Survey;
 use crate::args::Cut;
 use crate::view::{count, grouped};
@@ -20,10 +20,11 @@ use crate::{Failure, Status, Task};
 pub(crate) fn run(args: &Cut, task: Task<'_>) -> Result<Status, Failure> {
     let Task { input, out, notes, .. } = task;
     let mut parts = Parts::new(input, &args.names)?;
-    let places = NamedEvents::read(&args.around, &parts)?;
-    let survey = Survey::new(&mut parts, &places)?;
+    let named = args.around.iter().map(|word| NamedEvent::read(word, &parts));
+    let named = named.collect::<Result<Vec<_>, _>>()?;
+    let survey = Survey::new(&mut parts, &named)?;
     let names = parts.names(notes)?;
-    let mut selection = Selection::new(args, &places, &survey, &names, &parts)?;
+    let mut selection = Selection::new(args, &named, &survey, &names, &parts)?;
     let ends = Ends::new(&mut parts, &mut selection)?;
     let kept = Kept::new(&mut parts, &mut selection, &ends)?;
     kept.write(out)?;

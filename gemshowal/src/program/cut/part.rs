@@ -42,7 +42,7 @@ impl Part {
 
     fn read(&mut self) -> Result<Box<dyn Read + '_>, Failure> {
         let Some(spooled) = &mut self.spooled else { return Ok(Input::open(&self.path)?.take()) };
-        let kept = spooled.kept().map_err(|reason| Failure::Unread(self.name.clone(), reason))?;
+        let kept = spooled.replay().map_err(|reason| Failure::Unread(self.name.clone(), reason))?;
         Ok(Box::new(kept))
     }
 
@@ -75,7 +75,6 @@ impl Parts {
         self.0.iter()
     }
 
-    /// Reads the names that the files next to the parts give them.
     pub(super) fn names(&self, notes: &mut Notes) -> Result<Names, Failure> {
         let mut names = Names::default();
         for part in &self.0 {

@@ -11,50 +11,37 @@ use gemshowal::Filter;
 use std::collections::HashSet;
 
 /// An event near which others are chosen, as the command line names it.
-enum NamedEvent<'a> {
+pub(super) enum NamedEvent<'a> {
     Line(Line),
     Name(&'a str),
 }
 
-pub(super) struct NamedEvents<'a>(Vec<NamedEvent<'a>>);
-
-impl<'a> NamedEvents<'a> {
-    pub(super) fn read(words: &'a [String], parts: &Parts) -> Result<NamedEvents<'a>, Failure> {
-        let place = |word: &'a String| -> Result<NamedEvent<'a>, Failure> {
-            match (word.parse(), word.rsplit_once(':')) {
-                (Ok(line), _) if parts.iter().len() == 1 => return Ok(NamedEvent::Line((0, line))),
-                (Ok(line), _) => {
-                    let line: u64 = line;
-                    let words = format!("line {line} of which file? Write FILE:{line}");
-                    return Err(Failure::NotFound(words));
-                }
-                (_, Some((file, line))) => {
-                    let part = parts.iter().position(|part| part.is_called(file));
-                    if let (Some(part), Ok(line)) = (part, line.parse()) {
-                        return Ok(NamedEvent::Line((part, line)));
-                    }
-                }
-                _ => {}
+impl<'a> NamedEvent<'a> {
+    pub(super) fn read(word: &'a str, parts: &Parts) -> Result<NamedEvent<'a>, Failure> {
+        match (word.parse::<u64>(), parts.iter().len()) {
+            (Ok(line), 1) => return Ok(NamedEvent::Line((0, line))),
+            (Ok(line), _) => {
+                let words = format!("line {line} of which file? Write FILE:{line}");
+                return Err(Failure::NotFound(words));
             }
-            Ok(NamedEvent::Name(word))
-        };
-        Ok(NamedEvents(words.iter().map(place).collect::<Result<_, _>>()?))
+            (Err(_), _) => {}
+        }
+        let line = word.rsplit_once(':').and_then(|(file, line)| {
+            let part = parts.iter().position(|part| part.is_called(file))?;
+            Some((part, line.parse().ok()?))
+        });
+        Ok(line.map_or(NamedEvent::Name(word), NamedEvent::Line))
     }
 
-    pub(super) fn have_line(&self, line: Line) -> bool {
-        self.0.iter().any(|place| matches!(place, &NamedEvent::Line(other) if other == line))
-    }
-
-    fn find(&self, survey: &Survey, names: &Names) -> Result<Vec<Place>, Failure> {
-        let find = |place: &NamedEvent<'_>| match *place {
+    fn find(&self, survey: &Survey, names: &Names) -> Result<Place, Failure> {
+        match *self {
             NamedEvent::Line(line) => {
                 survey.on_lines.get(&line).copied().ok_or_else(|| no_event_on(line.1))
             }
             NamedEvent::Name(word) => {
                 names.find_event_among(&survey.pids(), |pid| survey.count(pid), word)
             }
-        };
-        self.0.iter().map(find).collect()
+        }
     }
 }
 
@@ -67,7 +54,6 @@ pub(super) struct Selection<'a> {
     times: Option<Times>,
 }
 
-/// The times of the parts.
 struct Times {
     parts: Vec<TimesFile>,
     /// When the first event of all happened.
@@ -123,7 +109,7 @@ impl Times {
 impl<'a> Selection<'a> {
     pub(super) fn new(
         args: &'a Cut,
-        places: &NamedEvents<'_>,
+        named: &[NamedEvent<'_>],
         survey: &Survey,
         names: &Names,
         parts: &Parts,
@@ -131,13 +117,9 @@ impl<'a> Selection<'a> {
         let conditions = &args.conditions;
         let times = if conditions.are_of_time() { Some(Times::new(parts)?) } else { None };
         let filter = conditions.filter_among(names, || survey.labels.clone(), &survey.pids())?;
-        Ok(Selection {
-            conditions,
-            filter,
-            places: places.find(survey, names)?,
-            near: args.near,
-            times,
-        })
+        let places = named.iter().map(|event| event.find(survey, names));
+        let places = places.collect::<Result<_, _>>()?;
+        Ok(Selection { conditions, filter, places, near: args.near, times })
     }
 
     /// Returns whether the event on a line meets all conditions. The lines come in order.
@@ -158,7 +140,6 @@ impl<'a> Selection<'a> {
             && is_in_time)
     }
 
-    /// Ends a walk through the parts.
     pub(super) fn end(&mut self) -> Result<(), Failure> {
         self.times.as_mut().map_or(Ok(()), Times::end)
     }

@@ -1,7 +1,7 @@
 //! The survey of a trace: its processes, its labels, and the events on lines that are named.
 
 use super::part::{Line, Parts};
-use super::selection::NamedEvents;
+use super::selection::NamedEvent;
 use crate::pieces::Entry;
 use crate::view::Place;
 use crate::Failure;
@@ -20,16 +20,19 @@ pub(super) struct Survey {
 
 impl Survey {
     /// Reads the parts, and refuses one that names a process which none lists.
-    pub(super) fn new(parts: &mut Parts, places: &NamedEvents) -> Result<Survey, Failure> {
+    pub(super) fn new(parts: &mut Parts, named: &[NamedEvent<'_>]) -> Result<Survey, Failure> {
         let mut survey = Survey::default();
-        let mut named = HashMap::new();
+        let is_asked = |line| {
+            named.iter().any(|event| matches!(event, &NamedEvent::Line(other) if other == line))
+        };
+        let mut lines = HashMap::new();
         let mut label = None;
         let processes = parts.walk(|line, before, entry| {
             let reported = match entry {
                 Entry::Process(_) => return Ok(()),
                 Entry::Act(pids) => {
                     for &pid in pids {
-                        named.entry(pid).or_insert(line);
+                        lines.entry(pid).or_insert(line);
                     }
                     return Ok(());
                 }
@@ -38,19 +41,19 @@ impl Survey {
             let event = &reported.event;
             let others = [Some(event.from), event.to].into_iter().flatten();
             for pid in others.filter(|&pid| pid != reported.pid) {
-                named.entry(pid).or_insert(line);
+                lines.entry(pid).or_insert(line);
             }
             if label.replace(event.label.0) != Some(event.label.0) {
                 survey.labels.insert(event.label.0);
             }
-            if places.have_line(line) {
+            if is_asked(line) {
                 survey.on_lines.insert(line, (reported.pid, before + reported.index));
             }
             survey.events += 1;
             Ok(())
         })?;
         survey.processes = processes;
-        let unlisted = named.into_iter().filter(|(pid, _)| !survey.processes.contains_key(pid));
+        let unlisted = lines.into_iter().filter(|(pid, _)| !survey.processes.contains_key(pid));
         match unlisted.map(|(_, line)| line).min() {
             None => Ok(survey),
             Some((part, line)) => {

@@ -51,7 +51,6 @@ pub(super) fn text(term: &str) -> String {
     written
 }
 
-/// A term as Elixir writes it.
 struct Term {
     text: String,
     /// The name, if it is an atom.
@@ -173,7 +172,6 @@ impl<'a> Reader<'a> {
         Some(format!("[{}{end}", separated(parts.iter().map(|part| &part.text))))
     }
 
-    /// Reads a map or a struct.
     fn map(&mut self) -> Option<String> {
         let Parts { parts, end, .. } = self.parts("#{", "}", Reader::pair)?;
         let module = parts.iter().find_map(|(key, value)| match (key.name(), value) {
@@ -246,7 +244,6 @@ impl<'a> Reader<'a> {
         })
     }
 
-    /// Reads the text between two quotes of this kind.
     fn quoted(&mut self, quote: char) -> Option<String> {
         let inner = self.rest.strip_prefix(quote)?;
         let mut is_escaped = false;

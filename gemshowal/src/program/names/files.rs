@@ -5,51 +5,36 @@
 //! their order.
 
 use super::Names;
+use crate::Failure;
 use std::borrow::Cow;
 use std::collections::{BTreeSet, HashMap};
-use std::fmt::Write;
 use std::fs::File;
-use std::io::{self, BufRead, BufReader, ErrorKind};
-use std::path::{Path, PathBuf};
-use thiserror::Error;
-
-/// The reason why a file next to a trace wasn't taken.
-#[derive(Debug, Error)]
-pub(crate) enum Fault {
-    /// The system doesn't give the file's bytes.
-    #[error("{} can't be read: {reason}", .file.display())]
-    Unread { file: PathBuf, reason: io::Error },
-    #[error("{}, line {line}, isn't {wanted}; convert it anew", .file.display())]
-    Wrong { file: PathBuf, line: usize, wanted: &'static str },
-    #[error(
-        "{} calls label {label} otherwise than a file before it: they aren't parts of one trace",
-        .file.display()
-    )]
-    Unlike { file: PathBuf, label: u32 },
-}
+use std::io::{BufRead, BufReader, ErrorKind};
+use std::path::Path;
 
 /// A line of a file without its end, and its number.
-type Numbered = Result<(usize, String), Fault>;
+type Numbered = Result<(usize, String), Failure>;
 
 /// Opens a file, if it is there, to hand on the lines after the header.
 pub(super) fn open_lines(
     file: &Path,
     header: &'static str,
-) -> Result<Option<impl Iterator<Item = Numbered>>, Fault> {
+) -> Result<Option<impl Iterator<Item = Numbered>>, Failure> {
     let opened = match File::open(file) {
         Ok(opened) => BufReader::new(opened),
         Err(reason) if reason.kind() == ErrorKind::NotFound => return Ok(None),
-        Err(reason) => return Err(Fault::Unread { file: file.into(), reason }),
+        Err(reason) => return Err(Failure::Unread(file.display().to_string(), reason)),
     };
     let path = file.to_owned();
     let mut lines = opened.split(b'\n').zip(1..).map(move |(line, number)| {
-        let line = line.map_err(|reason| Fault::Unread { file: path.clone(), reason })?;
-        let wrong = |_| Fault::Wrong { file: path.clone(), line: number, wanted: "text in UTF-8" };
+        let line = line.map_err(|reason| Failure::Unread(path.display().to_string(), reason))?;
+        let wrong =
+            |_| Failure::Wrong { file: path.clone(), line: number, wanted: "text in UTF-8" };
         Ok((number, String::from_utf8(line).map_err(wrong)?))
     });
     match lines.next().transpose()? {
         Some((_, first)) if first == header => Ok(Some(lines)),
-        _ => Err(Fault::Wrong { file: file.into(), line: 1, wanted: header }),
+        _ => Err(Failure::Wrong { file: file.into(), line: 1, wanted: header }),
     }
 }
 
@@ -60,11 +45,11 @@ pub(super) fn take(
     header: &'static str,
     wanted: &'static str,
     mut take: impl FnMut(&str) -> Option<()>,
-) -> Result<bool, Fault> {
+) -> Result<bool, Failure> {
     let Some(lines) = open_lines(file, header)? else { return Ok(false) };
     for line in lines {
         let (line, text) = line?;
-        take(&text).ok_or_else(|| Fault::Wrong { file: file.into(), line, wanted })?;
+        take(&text).ok_or_else(|| Failure::Wrong { file: file.into(), line, wanted })?;
     }
     Ok(true)
 }
@@ -85,15 +70,11 @@ pub(super) fn escaped(text: &str) -> Cow<'_, str> {
     if !text.chars().any(is_control) {
         return text.into();
     }
-    let mut shown = String::with_capacity(text.len());
-    for c in text.chars() {
-        if is_control(c) {
-            let _ = write!(shown, "\\x{{{:X}}}", u32::from(c));
-        } else {
-            shown.push(c);
-        }
-    }
-    shown.into()
+    let shown = |c| match is_control(c) {
+        true => format!("\\x{{{:X}}}", u32::from(c)),
+        false => c.to_string(),
+    };
+    text.chars().map(shown).collect::<String>().into()
 }
 
 /// The kinds of facts that tell of a loss. The others say how the trace was made.
@@ -102,7 +83,7 @@ const LOSSES: &str = "nothing lost unread ended dropped left damaged newer no_ev
 
 /// Returns the losses of the conversion by `NAME.facts`, of which a line is the kind of the fact, a
 /// tab and a sentence; none if there is no file.
-pub(super) fn losses(facts: &Path) -> Result<Vec<String>, Fault> {
+pub(super) fn losses(facts: &Path) -> Result<Vec<String>, Failure> {
     let mut losses = Vec::new();
     let is_of_kind = |byte: u8| byte.is_ascii_lowercase() || byte == b'_';
     take(facts, "seqaudit facts 1", "an entry of NAME.facts", |line| {
@@ -121,7 +102,10 @@ pub(crate) struct Messages(HashMap<u64, String>);
 
 impl Messages {
     /// Reads the texts next to this trace for which `is_wanted` is true; none if there is no file.
-    pub(crate) fn beside(trace: &Path, is_wanted: impl Fn(u64) -> bool) -> Result<Messages, Fault> {
+    pub(crate) fn beside(
+        trace: &Path,
+        is_wanted: impl Fn(u64) -> bool,
+    ) -> Result<Messages, Failure> {
         let mut messages = HashMap::new();
         let Some(file) = super::beside(trace, "messages") else { return Ok(Messages(messages)) };
         take(&file, "seqaudit messages 1", "an entry of NAME.messages", |line| {

@@ -13,12 +13,13 @@ mod terms;
 mod times;
 mod which;
 
-pub(crate) use files::{Fault, Messages};
+pub(crate) use files::Messages;
 pub(crate) use line::Line;
 pub(crate) use times::{Time, Times, TimesFile};
 pub(crate) use which::no_event_on;
 
 use crate::output::Notes;
+use crate::Failure;
 use gemshowal::{Label, Pid, Text, Trace};
 use std::borrow::Cow;
 use std::path::{Path, PathBuf};
@@ -61,7 +62,7 @@ pub(crate) struct Names {
 
 impl Names {
     /// Reads the files next to this file of a trace.
-    pub(crate) fn beside(file: &Path, trace: &Trace, notes: &mut Notes) -> Result<Names, Fault> {
+    pub(crate) fn beside(file: &Path, trace: &Trace, notes: &mut Notes) -> Result<Names, Failure> {
         let mut names = Names::without_times(file, notes)?;
         if let Some(times) = TimesFile::beside(file)? {
             names.times = Times::read(&times, trace, notes)?;
@@ -70,7 +71,7 @@ impl Names {
     }
 
     /// Reads these files but for that of times.
-    pub(crate) fn without_times(file: &Path, notes: &mut Notes) -> Result<Names, Fault> {
+    pub(crate) fn without_times(file: &Path, notes: &mut Notes) -> Result<Names, Failure> {
         let Some(file) = beside(file, "terms") else { return Ok(Names::default()) };
         let mut names = Names::default();
         match Terms::read(&file)? {
@@ -86,12 +87,12 @@ impl Names {
 
     /// Takes the names that the files next to another part of the trace give to processes and
     /// labels.
-    pub(crate) fn join(&mut self, other: Names, file: &Path) -> Result<(), Fault> {
+    pub(crate) fn join(&mut self, other: Names, file: &Path) -> Result<(), Failure> {
         match self.terms.join(other.terms) {
             None => Ok(()),
             Some(label) => {
                 let file = beside(file, "terms").unwrap_or_default();
-                Err(Fault::Unlike { file, label })
+                Err(Failure::Unlike { file, label })
             }
         }
     }

@@ -3,7 +3,8 @@
 //! NAME` for a further number of a node that has more than one.
 
 use super::elixir;
-use super::files::{escaped, number, take, Fault};
+use super::files::{escaped, number, take};
+use crate::Failure;
 use gemshowal::{Label, Pid};
 use std::collections::{HashMap, HashSet};
 use std::path::Path;
@@ -30,7 +31,7 @@ const WANTED: &str = "an entry of NAME.terms that no line before it has";
 
 impl Terms {
     /// Reads a file, if it is there: twice, since the last line may be the first one of Elixir.
-    pub(super) fn read(file: &Path) -> Result<Option<Terms>, Fault> {
+    pub(super) fn read(file: &Path) -> Result<Option<Terms>, Failure> {
         let mut terms = Terms::default();
         take(file, HEADER, WANTED, |line| {
             terms.are_elixir |= elixir::is_elixir(line);

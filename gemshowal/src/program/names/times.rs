@@ -7,9 +7,10 @@
 //!
 //! A message between two nodes may seem to take less than no time, as far as their clocks differ.
 
-use super::files::{number, open_lines, Fault};
+use super::files::{number, open_lines};
 use crate::output::Notes;
 use crate::view::Place;
+use crate::Failure;
 use gemshowal::{Event, Kind, Trace};
 use std::collections::{HashMap, HashSet};
 use std::path::{Path, PathBuf};
@@ -59,29 +60,32 @@ impl Entry {
 
 impl TimesFile {
     /// Opens the file next to that of a trace, if there is one.
-    pub(crate) fn beside(trace: &Path) -> Result<Option<TimesFile>, Fault> {
+    pub(crate) fn beside(trace: &Path) -> Result<Option<TimesFile>, Failure> {
         let Some(file) = super::beside(trace, "times") else { return Ok(None) };
         let Some(mut lines) = open_lines(&file, HEADER)? else { return Ok(None) };
         let line = lines.next().transpose()?;
         match line.as_ref().and_then(|(_, line)| time(line.strip_prefix("begin ")?)) {
             Some(begin) => Ok(Some(TimesFile { file, begin })),
-            None => Err(Fault::Wrong { file, line: 2, wanted: WANTED }),
+            None => Err(Failure::Wrong { file, line: 2, wanted: WANTED }),
         }
     }
 
     /// Takes each entry by a function, which says whether its subject is new.
-    fn each(&self, mut take: impl FnMut(Entry) -> bool) -> Result<(), Fault> {
+    fn each(&self, mut take: impl FnMut(Entry) -> bool) -> Result<(), Failure> {
         for line in open_lines(&self.file, HEADER)?.into_iter().flatten().skip(1) {
             let (line, entry) = line?;
             if !Entry::read(&entry).is_some_and(&mut take) {
-                return Err(Fault::Wrong { file: self.file.clone(), line, wanted: WANTED });
+                return Err(Failure::Wrong { file: self.file.clone(), line, wanted: WANTED });
             }
         }
         Ok(())
     }
 
     /// Returns the events that happened so much later than the first one that it is wanted.
-    pub(crate) fn events(&self, is_wanted: impl Fn(Time) -> bool) -> Result<HashSet<Place>, Fault> {
+    pub(crate) fn events(
+        &self,
+        is_wanted: impl Fn(Time) -> bool,
+    ) -> Result<HashSet<Place>, Failure> {
         let mut events = HashSet::new();
         self.each(|entry| match entry {
             Entry::Event(place, time) if is_wanted(time) => events.insert(place),
@@ -98,7 +102,7 @@ impl Times {
         file: &TimesFile,
         trace: &Trace,
         notes: &mut Notes,
-    ) -> Result<Option<Times>, Fault> {
+    ) -> Result<Option<Times>, Failure> {
         let mut times = Times { begin: file.begin, ..Times::default() };
         file.each(|entry| match entry {
             Entry::Event(place, time) => times.events.insert(place, time).is_none(),

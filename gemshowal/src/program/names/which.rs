@@ -10,7 +10,7 @@ use std::collections::BTreeSet;
 /// The greatest number of names that are listed if none is the one that was meant.
 const LISTED: usize = 20;
 
-/// The error of a word that names nothing, or no one thing.
+/// Refuses a word that names nothing, or no one thing.
 fn not_found<T>(words: String) -> Result<T, Failure> {
     Err(Failure::NotFound(words))
 }
@@ -111,7 +111,7 @@ impl Names {
     }
 }
 
-/// The error of a line on which there is no event.
+/// Makes the error of a line on which there is no event.
 pub(crate) fn no_event_on(line: u64) -> Failure {
     Failure::NotFound(format!("there is no event on line {line}"))
 }
