@@ -31,7 +31,6 @@ pub(crate) fn hand_over(word: &str, words: impl Iterator<Item = OsString>) -> u8
     4
 }
 
-/// Runs a command in place of this program, and returns why it can't be run.
 #[cfg(unix)]
 fn replace_by(command: &mut Command) -> io::Error {
     std::os::unix::process::CommandExt::exec(command)

@@ -100,7 +100,6 @@ pub(crate) struct Refused {
 }
 
 impl Display for Refused {
-    /// Shows the events, what it means that they don't go together, and what to look at.
     fn fmt(&self, f: &mut Formatter<'_>) -> fmt::Result {
         for Found { place, what, .. } in &self.found {
             writeln!(f, "  {}: {what}", place.event)?;

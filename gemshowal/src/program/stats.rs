@@ -175,7 +175,7 @@ fn widths(trace: &Trace) -> Result<HashMap<(u32, u64), u64>, OutOfMemory> {
             Kind::Receive | Kind::Print => {}
         }
     }
-    // What a send follows has a lower count.
+    // Takes them by rising counts: a send follows what has a lower one.
     sends.sort_unstable_by_key(|&(count, place, _)| (count, place));
     let depths = trace.processes().map(|(pid, events)| (pid, vec![0; events.len()]));
     let mut depths: HashMap<Pid, Vec<u64>> = depths.collect();

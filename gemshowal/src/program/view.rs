@@ -153,11 +153,8 @@ impl<'a> Shown<'a> {
             Kind::Receive => format!("{to} receives {message} from {from}"),
             Kind::Print => format!("{from} prints {message}"),
         };
-        let (prev, this) = (event.serial.prev, event.serial.this);
-        format!(
-            "{happened}, serial {{{prev},{this}}}, label {}",
-            self.view.names.label(event.label)
-        )
+        let label = self.view.names.label(event.label);
+        format!("{happened}, serial {}, label {label}", gemshowal::Text(event.serial))
     }
 }
 

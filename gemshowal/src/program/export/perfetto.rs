@@ -294,36 +294,33 @@ impl Clock {
         let mut counts = Vec::from_iter(counts);
         counts.sort_unstable();
         counts.dedup();
-        let mut clock = Clock { times: Table::of(scene), is_measured };
-        let mut last = HashMap::<Pid, i64>::new();
+        let (mut times, mut last) = (Table::of(scene), HashMap::<Pid, i64>::new());
         for (place, event) in scene.in_order()? {
-            let earliest =
-                last.get(&place.0).map_or(i64::MIN, |&last: &i64| last.saturating_add(1));
-            if let Some(time) = clock.next(scene, place, event, &counts, earliest) {
-                last.insert(place.0, time);
-                clock.times.set(scene, place, Some(time));
-            }
+            let time = match is_measured {
+                true => scene.time(place),
+                false => Some(by_counts(scene, &times, place, event, &counts)),
+            };
+            let Some(time) = time else { continue };
+            let last = last.entry(place.0).or_insert(i64::MIN);
+            *last = time.max(last.saturating_add(1));
+            times.set(scene, place, Some(*last));
         }
-        Ok(clock)
+        Ok(Clock { times, is_measured })
     }
+}
 
-    fn next(
-        &self,
-        scene: &Scene<'_>,
-        place: Place,
-        event: &Event,
-        counts: &[u64],
-        earliest: i64,
-    ) -> Option<i64> {
-        if self.is_measured {
-            return scene.time(place).map(|time| time.max(earliest));
-        }
-        let rank = counts.partition_point(|&other| other < event.serial.this) as i64;
-        let sent = match scene.partner(place, event) {
-            Partner::Send(pid, index) => self.times.get(scene, (pid, index)),
-            _ => None,
-        };
-        let by_count = 2 * rank + i64::from(event.kind == Kind::Receive);
-        Some(by_count.max(sent.map_or(0, |sent| sent + 1)).max(earliest))
-    }
+/// Returns the time of an event by counts, but for what its process did before.
+fn by_counts(
+    scene: &Scene<'_>,
+    times: &Table<i64>,
+    place: Place,
+    event: &Event,
+    counts: &[u64],
+) -> i64 {
+    let rank = counts.partition_point(|&other| other < event.serial.this) as i64;
+    let sent = match scene.partner(place, event) {
+        Partner::Send(pid, index) => times.get(scene, (pid, index)),
+        _ => None,
+    };
+    (2 * rank + i64::from(event.kind == Kind::Receive)).max(sent.map_or(0, |sent| sent + 1))
 }

@@ -14,7 +14,6 @@ use crate::view::View;
 use crate::{Failure, Status, Task};
 use data::Data;
 use std::collections::hash_map::RandomState;
-use std::fmt::Write as _;
 use std::hash::{BuildHasher, Hasher};
 use std::io::Write;
 
@@ -44,41 +43,34 @@ pub(crate) fn run(args: &Args, task: Task<'_>) -> Result<Status, Failure> {
 /// Fills the frame, which has a word between two at signs for each text. Nothing is put into what
 /// was put in.
 fn page(title: &str, data: &str) -> String {
-    // JSON as it may stand in an element: only its strings have these characters.
+    // Escapes what could end the element: only strings of JSON have these characters.
     let data = data.replace('<', "\\u003c").replace('>', "\\u003e").replace('&', "\\u0026");
-    let (nonce, script) = (nonce(), script());
-    let mut page = String::with_capacity(data.len() + script.len() + STYLE.len() + FRAME.len());
-    for part in FRAME.split('@') {
-        match part {
-            "NONCE" => page.push_str(&nonce),
-            "STYLE" => page.push_str(STYLE),
-            "SCRIPT" => page.push_str(&script),
-            "DATA" => page.push_str(&data),
-            "TITLE" => escape(title, &mut page),
-            part => page.push_str(part),
-        }
-    }
-    page
+    let (nonce, script, title) = (nonce(), script(), escape(title));
+    let parts = FRAME.split('@').map(|part| match part {
+        "NONCE" => &nonce,
+        "STYLE" => STYLE,
+        "SCRIPT" => &script,
+        "DATA" => &data,
+        "TITLE" => &title,
+        part => part,
+    });
+    parts.collect::<Vec<&str>>().concat()
 }
 
 /// Makes the word by which the policy lets a script run: nobody knew it when the messages were
 /// sent.
 fn nonce() -> String {
     // Draws on the random keys that each state has of its own.
-    let mut nonce = String::new();
-    for _ in 0..4 {
-        let _ = write!(nonce, "{:016x}", RandomState::new().build_hasher().finish());
-    }
-    nonce
+    let number = |_| format!("{:016x}", RandomState::new().build_hasher().finish());
+    (0..4).map(number).collect()
 }
 
-fn escape(text: &str, page: &mut String) {
-    for c in text.chars() {
-        let _ = match c {
-            'a'..='z' | 'A'..='Z' | '0'..='9' | ' ' | '.' | '_' | '-' => write!(page, "{c}"),
-            _ => write!(page, "&#{};", u32::from(c)),
-        };
-    }
+fn escape(text: &str) -> String {
+    let escaped = |c: char| match c {
+        'a'..='z' | 'A'..='Z' | '0'..='9' | ' ' | '.' | '_' | '-' => c.to_string(),
+        _ => format!("&#{};", u32::from(c)),
+    };
+    text.chars().map(escaped).collect()
 }
 
 const HEAD: &str = "\"use strict\";
