@@ -64,7 +64,7 @@ further ps acts made scripts place a rising even at next so_far i below q =
     ∙ ap (λ k. take k script) (sym (get_or-set_other made place i (n + 1) 0 other)))
     (cases_eq i place)
 
--- the same of the act at place k
+-- the act at place k comes next in its process's script
 pub further_at : (ps : List Pid) (acts : List Act) (made : List ℕ) (scripts : List (List Act))
     (place k m : ℕ) (d : Act) → IsRising ps → k < length acts → length made ≡ length ps
     → slice_get ps place ≡ Some (actor (get_or acts k d))

@@ -66,7 +66,7 @@ IsThere r = r.1 < length r.0.now.entries
 abbrev pub report_at : Pid → Entry → Option Event
 report_at p e = if pid_eq (actor e.act) p then e.report else None
 
--- so many acts of each of the first n scripts are all of it
+-- each of the first n scripts has as many acts as were made
 abbrev pub AreEnded : List ℕ → List (List Act) → ℕ → Type 0
 AreEnded made scripts n = (i : ℕ) → i < n
     → slice_index_or made i 0 ≡ length (slice_index_or scripts i [])

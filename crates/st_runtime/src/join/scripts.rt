@@ -11,7 +11,7 @@ use crate::system::pids::{guesses_of, place_of};
 use st_core::{Act, Pid, Sequence};
 use std::alloc::Global;
 
-/// Refuses acts of which those of some process aren't its script.
+/// Refuses the acts if those of some process aren't its script.
 pub fn check_scripts(
     alloc: Global,
     pids: &[Pid],
@@ -40,7 +40,7 @@ pub fn check_scripts(
     }
 }
 
-/// How many acts of the script were made, with this one, if it is the next after so many.
+/// How many acts of the script are made with this one, if it comes next after those that were.
 fn made_with(script: &[Act], made: usize, act: &Act) -> Option<usize>
     ensures next { IfSome result (λ _. slice_get script.now made ≡ Some act.now) }
     ensures count { IfSome result (λ n. n ≡ made + 1) }
@@ -59,7 +59,7 @@ fn is_same_act(first: &Act, second: &Act) -> bool
     *first == *second
 }
 
-/// The first process of whose script acts are left.
+/// The first process that has acts of its script left.
 fn first_unended(pids: &[Pid], made: &[usize], scripts: &[Sequence<Act>]) -> Option<Pid>
     requires made { length made.now ≡ length pids.now }
     requires scripts { length scripts.now ≡ length pids.now }
