@@ -191,12 +191,13 @@ pub(crate) fn answers(trace: &Trace, names: &Names) -> Vec<Place> {
     trace.processes().filter(|_| names.has_terms()).flat_map(own).collect()
 }
 
-/// Returns whether an event is the answer of a spawn, right behind the request.
+/// Returns whether an event is the answer for which a spawn waited, right after the request.
 fn is_answer(names: &Names, request: &Event, answer: &Event) -> bool {
     answer.kind == Kind::Receive
         && request.kind == Kind::Send
         && request.to == Some(answer.from)
         && names.is_spawned(answer.value)
+        && !names.is_spawn_request(request.value)
 }
 
 fn is_answer_at(trace: &Trace, names: &Names, (pid, index): Place) -> bool {

@@ -14,8 +14,9 @@
 //!    whose answer has count T, v is 16 T + 15, and c is v + 1: p kept its token.
 //! 5. Home: p made the token, or set its label.
 //!
-//! The message by which a spawn is answered gives no token, so it isn't among 1 and 2. A message to
-//! an alias or a name may be to any process. Of home this is known:
+//! The reply that `spawn` waits for gives no token, so it isn't among 1 and 2. That of
+//! `spawn_request`, or of another node, does. A message to an alias or a name may be to any process.
+//! Of home this is known:
 //!
 //! - If the first stamp of p with label L has neither 1 nor 2, it is from home.
 //! - If each label that p gave was new to it, and it stamped with it before it received it (7), then
@@ -94,6 +95,8 @@ pub(crate) struct Messages<'a> {
     names: &'a Names,
     /// The sends to each process.
     sends: HashMap<Pid, Vec<Place>>,
+    /// The processes that waited for a spawn, with the ones that they spawned.
+    spawns: HashSet<(Pid, Pid)>,
     /// The messages to aliases and names, each of which may be to any process.
     strays: Mail,
     may_have_wrapped: bool,
@@ -103,19 +106,24 @@ impl<'a> Messages<'a> {
     /// Collects them, if something was sent and no receive was reported.
     pub(crate) fn of(trace: &'a Trace, names: &'a Names) -> Option<Messages<'a>> {
         let mut sends: HashMap<Pid, Vec<Place>> = HashMap::new();
-        let (mut strays, mut greatest) = (Mail::default(), 0);
+        let (mut strays, mut spawns, mut greatest) = (Mail::default(), HashSet::new(), 0);
         for (place, event) in trace.events() {
             greatest = greatest.max(event.serial.prev).max(event.serial.this);
             match (event.kind, event.to) {
                 (Kind::Receive, _) => return None,
-                (Kind::Send, Some(to)) if is_address(names, to) => strays.add(place, event, names),
-                (Kind::Send, Some(to)) => sends.entry(to).or_default().push(place),
+                (Kind::Send, Some(to)) if is_address(names, to) => {
+                    strays.add(place, event, names, false)
+                }
+                (Kind::Send, Some(to)) => {
+                    sends.entry(to).or_default().push(place);
+                    spawns.extend(names.is_awaited_spawn(event.value).then_some((event.from, to)));
+                }
                 (Kind::Send, None) | (Kind::Print, _) => {}
             }
         }
         let is_sent = trace.processes().any(|(pid, _)| sends.contains_key(&pid));
         let may_have_wrapped = greatest >= HIGH;
-        is_sent.then_some(Messages { trace, names, sends, strays, may_have_wrapped })
+        is_sent.then_some(Messages { trace, names, sends, spawns, strays, may_have_wrapped })
     }
 
     /// Finds the sources of the stamps of a process, in their order. If nothing can have been sent
@@ -128,7 +136,7 @@ impl<'a> Messages<'a> {
         let mut own = Mail::default();
         for &place in sends.into_iter().flatten() {
             if let Some(send) = self.trace.streams().event(place.0, place.1) {
-                own.add(place, &send, self.names);
+                own.add(place, &send, self.names, self.spawns.contains(&(pid, send.from)));
             }
         }
         let mut walk = Walk::new([&own, &self.strays], self.may_have_wrapped);
@@ -158,11 +166,13 @@ struct Mail {
 }
 
 impl Mail {
-    /// Adds the message of a send. Without terms each may answer a spawn.
-    fn add(&mut self, place: Place, send: &Event, names: &Names) {
+    /// Adds the message of a send. Without terms each may answer a spawn. A reply answers the spawn
+    /// for which its receiver waited, if it did.
+    fn add(&mut self, place: Place, send: &Event, names: &Names, is_awaited: bool) {
         let (label, Serial { prev, this }) = (send.label.0, send.serial);
-        let is_answer = names.is_spawned(send.value);
-        if is_answer || !names.has_terms() {
+        let is_reply = names.is_spawned(send.value);
+        let is_answer = is_reply && is_awaited;
+        if is_reply || !names.has_terms() {
             let last = last_of_answer(this);
             self.answers.insert((send.from, last));
             self.counts.insert(last);

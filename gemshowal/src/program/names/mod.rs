@@ -60,6 +60,9 @@ pub(crate) struct Names {
     times: Option<Times>,
 }
 
+/// The beginning of what is said of each message by which `spawn_request` asks for a process.
+const SPAWN_REQUEST: &str = "spawn erts_internal:spawn_init/1";
+
 impl Names {
     /// Reads the files next to this file of a trace.
     pub(crate) fn beside(file: &Path, trace: &Trace, notes: &mut Notes) -> Result<Names, Failure> {
@@ -163,6 +166,19 @@ impl Names {
     /// the process that asked for it.
     pub(crate) fn is_spawned(&self, value: u64) -> bool {
         self.way(value).is_some_and(|way| way == "spawned ")
+    }
+
+    /// Returns whether a message asks for a process by `spawn` or its kin, which wait for the reply
+    /// and keep the token. The reply to `spawn_request`, whose process begins in `spawn_init`, is
+    /// received as any message.
+    pub(crate) fn is_awaited_spawn(&self, value: u64) -> bool {
+        let is_spawn = self.way(value).is_some_and(|way| way.starts_with("spawn "));
+        is_spawn && !self.is_spawn_request(value)
+    }
+
+    /// Returns whether a message asks for a process by `spawn_request`.
+    pub(crate) fn is_spawn_request(&self, value: u64) -> bool {
+        self.way(value).is_some_and(|way| way.starts_with(SPAWN_REQUEST))
     }
 
     /// Returns whether a message tells a linked process of an exit.
