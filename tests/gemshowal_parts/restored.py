@@ -184,6 +184,9 @@ def written_acts(program):
     for name, given, options, reason in WITHOUT_ACTS:
         said, acts = acts_of(program, given, *options)
         yield Check(f"audit --acts of a trace {name}", None if acts is None and f"No acts are written: {reason}.\n" in said else said)
+    said, acts = acts_of(program, trace([], [ASKED, ASKED_AGAIN, line("print", 1, 5, SERVER)]))
+    is_right = acts and "The acts are of the run that lacks receives: the run that was found has events that nobody reported.\n" in said
+    yield Check("audit --acts of a token that was put back or a receive that wasn't reported", None if is_right else f"{said}\n{acts}")
     said, acts = acts_of(program, SPAWN, terms=SPAWNED)
     is_right = acts and acts.startswith(b"seqtrace 3\n") and b"\nanswer <0.30.0> 0\n" in acts
     yield Check("audit --acts of a spawn", None if is_right else f"{said}\n{acts}")

@@ -245,21 +245,20 @@ impl Auditor<'_> {
             CertificateError::Io(reason) => unkept(reason),
             error => Failure::of_acts(error, self.input.line_name()),
         };
-        let mut file = match &outcome.said {
-            _ if outcome.judged.is_some() => {
-                let Some(acts) = acts else { return Ok(()) };
+        let mut file = match (&outcome.said, acts) {
+            (Said::Never(_) | Said::Nothing, None) => return Ok(()),
+            (_, Some(acts)) => {
                 let mut file = file()?;
                 self.node.write_acts(&mut file, acts).map_err(failed)?;
                 file
             }
-            Said::Never(_) | Said::Nothing => return Ok(()),
-            Said::Fits(fits) => {
+            (Said::Fits(fits), None) => {
                 let trace = outcome.ranked.as_ref().unwrap_or(self.view.trace);
                 let mut file = file()?;
                 trace.write_fits(&mut file, fits).map_err(unkept)?;
                 file
             }
-            Said::Completed(completion) => {
+            (Said::Completed(completion), None) => {
                 let mut file = file()?;
                 self.view.trace.write_acts(&mut file, completion).map_err(failed)?;
                 file
@@ -284,7 +283,12 @@ impl Auditor<'_> {
         sentences.write_resets(&audited.resets, out)?;
         let no_acts = self.no_acts(audited.outcome);
         if let Some(reason) = no_acts.filter(|_| self.args.acts.is_some()) {
-            writeln!(out, "No acts are written: {reason}.")?;
+            match audited.outcome.said {
+                Said::Completed(_) => {
+                    writeln!(out, "The acts are of the run that lacks receives: {reason}.")?
+                }
+                _ => writeln!(out, "No acts are written: {reason}.")?,
+            }
         }
         write_losses(self.view.names.losses(), out)?;
         if let (Some(times), None) = (self.view.names.times(), &self.cut) {
