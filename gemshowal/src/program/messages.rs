@@ -28,7 +28,8 @@
 //! Nothing is said of a stamp if what p stamped and what was sent to it shows no v as its last, or
 //! no c - 1 as its clock: there a premise fails.
 //!
-//! None of this is proved.
+//! The laws of `node_machine` on the sends to a process prove this. That the code goes by them is
+//! only tested.
 
 use crate::names::Names;
 use crate::view::Place;

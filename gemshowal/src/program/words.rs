@@ -25,7 +25,7 @@ pub(crate) const PREMISES: [&str; 9] = [
      sent",
     "if it made no token with the label of the send or print, and set that label on none",
 ];
-/// The premise of what isn't proved.
+/// The premise of what plain code finds by a law that is proved.
 const TESTED: u8 = 8;
 const PERHAPS: &str =
     "perhaps: it is so in the run that gemshowal complete finds, and another may \
@@ -60,7 +60,7 @@ pub(crate) fn rests_on(links: impl Iterator<Item = Link>) -> Vec<String> {
     let premises = (1..).zip(PREMISES).filter(|&(premise, _)| rests_on(premise));
     let premises = premises.map(|(premise, line)| format!("({premise}) {line}"));
     let tested = rests_on(TESTED)
-        .then(|| format!("what rests on ({TESTED}) is not proved, and only tested"));
+        .then(|| format!("the law behind ({TESTED}) is proved; the code that goes by it is only tested"));
     let perhaps = grades.contains(&Grade::Perhaps).then(|| PERHAPS.to_owned());
     [RUNS.to_owned()].into_iter().chain(premises).chain(tested).chain(perhaps).collect()
 }
