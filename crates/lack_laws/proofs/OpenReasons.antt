@@ -5,7 +5,7 @@
 use Rattle.std.proofs.Common.{[], ◌≡◌, inl, inr, ℕ, zero, suc, ◌<◌, ◌||◌, true, false, List, ◌∷◌}
 use Rattle.std.proofs.Common.{take, Some, slice_get, refl, sym, ◌∙◌, ap, arith, ◌↔◌, cond, None}
 use Rattle.std.proofs.Common.{subst}
-use Rattle.std.proofs.lemmas.Bool.{cases_lt, false≢true, ltb-true}
+use Rattle.std.proofs.lemmas.Bool.{cases_lt, false≢true, ltb-true, true_from_ne_false}
 use Rattle.std.proofs.lemmas.Option.{none-some}
 use Rattle.st_core.specs.declared.types.Pid.{Pid}
 use Rattle.st_core.specs.declared.types.Event.{Event}
@@ -50,20 +50,17 @@ module _ (top : ℕ) (streams : List Stream) (sound : IsStreams streams)
   first : (p : Pid) (j i : ℕ) (d e : Event) → j < i → event_at streams p j ≡ Some d
       → event_at streams p i ≡ Some e → is_stamp e ≡ true → e.serial.prev ≡ 0 → is_stamp d ≡ true
   first p j i d e less at_d at_e stamps is_zero =
-      elim (is_stamp d) as (λ b. is_stamp d ≡ b → b ≡ true) [
-        | true ↦ λ _. refl
-        | false ↦ λ receives. absurd (none.founded p i (inl (record {
-          event = e;
-          at = at_e;
-          stamps = stamps;
-          is_zero = is_zero;
-          index = j;
-          received = d;
-          received_at = at_d;
-          receives = receives;
-          behind = less;
-        })))
-      ] refl
+      true_from_ne_false (is_stamp d) (λ receives. none.founded p i (inl (record {
+        event = e;
+        at = at_e;
+        stamps = stamps;
+        is_zero = is_zero;
+        index = j;
+        received = d;
+        received_at = at_d;
+        receives = receives;
+        behind = less;
+      })))
 
   -- nor is one of a lower count with another prev told of
   unfounded : (p q : Pid) (i j : ℕ) (f e : Event) → event_at streams p i ≡ Some f

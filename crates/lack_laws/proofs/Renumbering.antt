@@ -4,8 +4,9 @@
 -- is one of the streams themselves, and a run of the ones gives a run of the others.
 use Rattle.std.proofs.Common.{[], ◌≡◌, ℕ, ◌≤◌, ◌==◌, ◌&&◌, max, nat_lt, true, false, not, List, ◌∷◌}
 use Rattle.std.proofs.Common.{map, refl, sym, ◌∙◌, ap, arith, cond, Option, Some, None, slice_get}
-use Rattle.std.proofs.Common.{option_map, subst, ◌<◌, Bool, take}
-use Rattle.std.proofs.lemmas.Bool.{eq-eqb, eqb-true, ltb-true, ltb-false, le-ltb}
+use Rattle.std.proofs.Common.{option_map, subst, ◌<◌, Bool, take, inl, inr}
+use Rattle.std.proofs.lemmas.Bool.{cases_lt, eq-eqb, eqb-true, false_from_ne_true, false≢true}
+use Rattle.std.proofs.lemmas.Bool.{ltb-true, ltb-false, le-ltb}
 use Rattle.std.proofs.lemmas.Bool.Decides.{nat_tests}
 use Rattle.std.proofs.lemmas.Option.{slice_get-map, none-some, same_Some}
 use Rattle.std.specs.List.{AllByRecursion}
@@ -37,14 +38,10 @@ module _ (f : ℕ → ℕ) (keeps : KeepsOrder f) where
   -- TESTS
 
   pub le_kept : (m n : ℕ) → m ≤ n → f m ≤ f n
-  le_kept m n le = elim (nat_lt m n) as (λ b. nat_lt m n ≡ b → f m ≤ f n) [
-    | true ↦ λ less. let up = keeps.rises m n (ltb-true m n less) in omega arith
-    | false ↦ λ more.
-        let back = ltb-false m n more in
-        let same : m ≡ n = omega arith in
-        let up = ap f same in
-        omega arith
-  ] refl
+  le_kept m n le = elim (cases_lt m n) [
+    | inl less ↦ let up = keeps.rises m n less in omega arith
+    | inr more ↦ let same : m ≡ n = omega arith in let up = ap f same in omega arith
+  ]
 
   pub lt_same : (m n : ℕ) → nat_lt (f m) (f n) ≡ nat_lt m n
   lt_same m n = elim (nat_lt m n) as (λ b. nat_lt m n ≡ b → nat_lt (f m) (f n) ≡ b) [
@@ -64,27 +61,21 @@ module _ (f : ℕ → ℕ) (keeps : KeepsOrder f) where
   pub eq_same : (m n : ℕ) → (f m == f n) ≡ (m == n)
   eq_same m n = elim (m == n) as (λ b. (m == n) ≡ b → (f m == f n) ≡ b) [
     | true ↦ λ same. eq-eqb (f m) (f n) (ap f (eqb-true m n same))
-    | false ↦ λ apart. elim (f m == f n) as (λ c. (f m == f n) ≡ c → c ≡ false) [
-      | false ↦ λ _. refl
-      | true ↦ λ same. sym (eq-eqb m n (injective m n (eqb-true (f m) (f n) same))) ∙ apart
-    ] refl
+    | false ↦ λ apart. false_from_ne_true (f m == f n) (λ same. false≢true (sym apart
+        ∙ eq-eqb m n (injective m n (eqb-true (f m) (f n) same))))
   ] refl
 
   pub max_kept : (m n : ℕ) → max (f m) (f n) ≡ f (max m n)
-  max_kept m n = elim (nat_lt m n) as (λ b. nat_lt m n ≡ b → max (f m) (f n) ≡ f (max m n)) [
-    | true ↦ λ less.
-        let low = ltb-true m n less in
-        let up = le_kept m n (omega arith) in
-        let right : max m n ≡ n = omega arith in
-        let high : max (f m) (f n) ≡ f n = omega arith in
-        high ∙ ap f (sym right)
-    | false ↦ λ more.
-        let low = ltb-false m n more in
-        let up = le_kept n m low in
-        let left : max m n ≡ m = omega arith in
-        let high : max (f m) (f n) ≡ f m = omega arith in
-        high ∙ ap f (sym left)
-  ] refl
+  max_kept m n = elim (cases_lt m n) [
+    | inl less ↦
+        let up = keeps.rises m n less in
+        let same : f (max m n) ≡ f n = ap f (omega arith) in
+        omega arith
+    | inr more ↦
+        let up = le_kept n m more in
+        let same : f (max m n) ≡ f m = ap f (omega arith) in
+        omega arith
+  ]
 
   -- WHAT EVENTS LEAVE
 

@@ -7,7 +7,8 @@ use Rattle.std.proofs.Common.{length, Some, slice_get, append-nil, append_assoc,
 use Rattle.std.proofs.Common.{subst, arith}
 use Rattle.std.specs.Option.{option_map_or}
 use Rattle.std.proofs.Math.Seq.{drop-append_seam, take-append_seam}
-use Rattle.std.proofs.lemmas.Bool.{and_from, and_parts, cases_lt, eq-eqb, false≢true}
+use Rattle.std.proofs.lemmas.Bool.{and_from, and_parts, cases_lt, eq-eqb, false_from_ne_true}
+use Rattle.std.proofs.lemmas.Bool.{false≢true}
 use Rattle.std.proofs.lemmas.Option.{none-some, same_Some, slice_get_within}
 use Rattle.st_core.specs.declared.types.Pid.{Pid}
 use Rattle.st_core.specs.declared.types.Event.{Event}
@@ -80,11 +81,8 @@ module _ (top : ℕ) (streams : List Stream) (good : IsOpen top streams) (p : Pi
   listed = listed_at streams p i e at
 
   pub apart : pid_eq p z ≡ false
-  apart = elim (pid_eq p z) as (λ b. pid_eq p z ≡ b → b ≡ false) [
-    | true ↦ λ same. absurd (false≢true (sym unlisted ∙ ap (lists streams) (sym (pid_same p z same))
-        ∙ listed))
-    | false ↦ λ _. refl
-  ] refl
+  apart = false_from_ne_true (pid_eq p z) (λ same. false≢true (sym unlisted
+      ∙ ap (lists streams) (sym (pid_same p z same)) ∙ listed))
 
   empty : events_of silent_there z ≡ []
   empty = events_inserted z streams unlisted z ∙ unlisted_events streams z unlisted
