@@ -91,8 +91,8 @@ impl Judged {
         let mut ungiven = finding.places(is_ungiven);
         if has_messages {
             let strange = ungiven.iter().copied().filter(|&place| {
-                !explainer.has_message(place)
-                    && !(judged.is_late() && explainer.may_have_saved(place.0))
+                let may_have_saved = judged.is_late() && explainer.may_have_saved(place.0);
+                !explainer.has_message(place) && !may_have_saved
             });
             judged.handed_over = handed_over(trace, &strange.collect::<Vec<_>>());
         }
