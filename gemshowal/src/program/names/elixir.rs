@@ -6,6 +6,7 @@
 //! their fields, and what funs are called.
 
 use super::files;
+use std::borrow::Cow;
 
 /// The beginning of the name of an Elixir module in Erlang.
 const MODULE: &str = "'Elixir.";
@@ -41,7 +42,7 @@ pub(super) fn text(term: &str) -> String {
     let mut reader = Reader { rest: term, depth: 0 };
     while let Some(first) = reader.rest.chars().next() {
         match reader.term() {
-            Some(term) => written += &term.text,
+            Some(term) => written += &term.text(),
             None => {
                 written.push(first);
                 reader.rest = &reader.rest[first.len_utf8()..];
@@ -51,12 +52,13 @@ pub(super) fn text(term: &str) -> String {
     written
 }
 
-struct Term {
-    text: String,
-    /// The name, if it is an atom.
-    atom: Option<String>,
-    /// The text in a keyword list, if it is a pair of an atom and a term.
-    entry: Option<String>,
+enum Term<'a> {
+    /// An atom by its name.
+    Atom(Cow<'a, str>),
+    /// A tuple of an atom that may be a key, by its name, and of a term, by its text.
+    Pair(String, String),
+    /// Another term, as Elixir writes it.
+    Text(String),
 }
 
 /// The parts between two brackets.
@@ -64,7 +66,7 @@ struct Parts<T> {
     parts: Vec<T>,
     /// The text behind the last part: the tail of an improper list, and the closing bracket unless
     /// the text was cut.
-    end: String,
+    end: Cow<'static, str>,
     is_proper: bool,
 }
 
@@ -75,7 +77,7 @@ struct Reader<'a> {
 
 impl<'a> Reader<'a> {
     /// Reads a term, if one begins here.
-    fn term(&mut self) -> Option<Term> {
+    fn term(&mut self) -> Option<Term<'a>> {
         if self.depth == DEPTH {
             return None;
         }
@@ -87,18 +89,18 @@ impl<'a> Reader<'a> {
             '<' => self.binary().or_else(|| self.pid())?,
             '"' => self.quoted('"').map_or_else(|| self.cut(), |text| characters(&text)),
             '\'' => match self.quoted('\'') {
-                Some(name) => return Some(Term::atom(name)),
+                Some(name) => return Some(Term::Atom(name.into())),
                 None => self.cut(),
             },
             '.' => self.strip("...").then(|| "...".into())?,
             'a'..='z' | 'ß'..='ö' | 'ø'..='ÿ' => match self.named_fun() {
                 Some(fun) => fun,
-                None => return Some(Term::atom(self.bare().into())),
+                None => return Some(Term::Atom(self.bare().into())),
             },
             '-' | '0'..='9' | 'A'..='Z' | '_' => number(self.word()),
             _ => return None,
         };
-        Some(Term { text, atom: None, entry: None })
+        Some(Term::Text(text))
     }
 
     /// Takes this text off, if it is next.
@@ -123,7 +125,7 @@ impl<'a> Reader<'a> {
     fn parts<T>(
         &mut self,
         open: &str,
-        close: &str,
+        close: &'static str,
         read: fn(&mut Reader<'a>) -> Option<T>,
     ) -> Option<Parts<T>> {
         if !self.strip(open) {
@@ -140,36 +142,43 @@ impl<'a> Reader<'a> {
         let tail = if self.strip("|") { self.term() } else { None };
         self.depth -= 1;
         let is_whole = self.strip(close);
+        let close = if is_whole { close } else { "" };
         let is_proper = is_whole && tail.is_none();
-        let tail = tail.map_or(String::new(), |tail| format!(" | {}", tail.text));
-        Some(Parts { parts, end: tail + if is_whole { close } else { "" }, is_proper })
+        let end = tail.map_or(close.into(), |tail| format!(" | {}{close}", tail.text()).into());
+        Some(Parts { parts, end, is_proper })
     }
 
-    fn tuple(&mut self) -> Option<Term> {
+    fn tuple(&mut self) -> Option<Term<'a>> {
         let Parts { parts, end, is_proper } = self.parts("{", "}", Reader::term)?;
-        let entry = match &parts[..] {
-            [key, value] if is_proper => key.key().map(|key| format!("{key} {}", value.text)),
-            _ => None,
-        };
-        let text = format!("{{{}{end}", separated(parts.iter().map(|part| &part.text)));
-        Some(Term { text, atom: None, entry })
+        if let ([key, value], true) = (&parts[..], is_proper) {
+            if let Some(key) = key.key() {
+                return Some(Term::Pair(key.into(), value.text().into()));
+            }
+        }
+        Some(Term::Text(format!("{{{}{end}", joined(&parts))))
     }
 
     /// Reads a list: of small numbers that are the characters of a text, of pairs, or another.
     fn list(&mut self) -> Option<String> {
         let Parts { parts, end, is_proper } = self.parts("[", "]", Reader::term)?;
         if is_proper && !parts.is_empty() {
-            let bytes = parts.iter().map(|part| part.text.parse::<u8>().ok().map(char::from));
-            let text: Option<String> = bytes.collect();
+            let characters_of = parts.iter().map(|part| match part {
+                Term::Text(text) => text.parse::<u8>().ok().map(char::from),
+                _ => None,
+            });
+            let text: Option<String> = characters_of.collect();
             if let Some(text) = text.filter(|text| is_of_characters(text)) {
                 return Some(characters(&text));
             }
-            let entries = parts.iter().map(|part| part.entry.as_ref());
+            let entries = parts.iter().map(|part| match part {
+                Term::Pair(key, value) => Some(format!("{}: {value}", unquoted_if_bare(key))),
+                _ => None,
+            });
             if let Some(entries) = entries.collect::<Option<Vec<_>>>() {
-                return Some(format!("[{}]", separated(entries)));
+                return Some(format!("[{}]", entries.join(", ")));
             }
         }
-        Some(format!("[{}{end}", separated(parts.iter().map(|part| &part.text))))
+        Some(format!("[{}{end}", joined(&parts)))
     }
 
     fn map(&mut self) -> Option<String> {
@@ -178,24 +187,24 @@ impl<'a> Reader<'a> {
             (Some("__struct__"), Some(value)) => value.name(),
             _ => None,
         });
-        let is_field = |(key, _): &&(Term, _)| {
+        let is_field = |(key, _): &&(Term<'_>, _)| {
             module.is_none() || !matches!(key.name(), Some("__struct__" | "__exception__"))
         };
         let shown = || parts.iter().filter(is_field);
         let has_keys = shown().all(|(key, _)| key.key().is_some());
-        let pair = |(key, value): &(Term, Option<Term>)| {
-            let value = value.as_ref().map_or("", |value| &value.text);
+        let pair = |(key, value): &(Term<'_>, Option<Term<'_>>)| {
+            let value = value.as_ref().map_or("".into(), Term::text);
             match key.key() {
-                Some(key) if has_keys => format!("{key} {value}"),
-                _ => format!("{} => {value}", key.text),
+                Some(key) if has_keys => format!("{}: {value}", unquoted_if_bare(key)),
+                _ => format!("{} => {value}", key.text()),
             }
         };
         let name = module.map_or(String::new(), atom);
-        Some(format!("%{name}{{{}{end}", separated(shown().map(pair))))
+        Some(format!("%{name}{{{}{end}", shown().map(pair).collect::<Vec<_>>().join(", ")))
     }
 
     /// Reads a key, and its value unless the text was cut before it.
-    fn pair(&mut self) -> Option<(Term, Option<Term>)> {
+    fn pair(&mut self) -> Option<(Term<'a>, Option<Term<'a>>)> {
         let key = self.term()?;
         Some((key, if self.strip(" => ") { self.term() } else { None }))
     }
@@ -312,12 +321,13 @@ fn latin1(text: &str) -> Vec<u8> {
 }
 
 /// The characters that both languages escape, each by the letter at its place.
-const ESCAPED: &str = "\0\x07\x08\x7F\x1B\x0C\n\r\t\x0B";
-const LETTERS: &str = "0abdefnrtv";
+const ESCAPED: [char; 10] =
+    ['\0', '\x07', '\x08', '\x7F', '\x1B', '\x0C', '\n', '\r', '\t', '\x0B'];
+const LETTERS: [char; 10] = ['0', 'a', 'b', 'd', 'e', 'f', 'n', 'r', 't', 'v'];
 
 /// Returns the letter by which Elixir escapes a character.
 fn letter_of(c: char) -> Option<char> {
-    LETTERS.chars().nth(ESCAPED.chars().position(|escaped| escaped == c)?)
+    ESCAPED.iter().position(|&escaped| escaped == c).map(|at| LETTERS[at])
 }
 
 /// Returns the characters that a text of Erlang's between quotes means.
@@ -354,7 +364,7 @@ fn escape(text: &str) -> (char, &str) {
         's' => ' ',
         // Erlang has no such escape.
         'a' => 'a',
-        letter => ESCAPED.chars().find(|&c| letter_of(c) == Some(letter)).unwrap_or(letter),
+        letter => LETTERS.iter().position(|&it| it == letter).map_or(letter, |at| ESCAPED[at]),
     };
     (meant, rest.as_str())
 }
@@ -446,18 +456,28 @@ fn separated<T: ToString>(parts: impl IntoIterator<Item = T>) -> String {
     parts.into_iter().map(|it| it.to_string()).collect::<Vec<_>>().join(", ")
 }
 
-impl Term {
-    fn atom(name: String) -> Term {
-        Term { text: atom(&name), atom: Some(name), entry: None }
+fn joined(parts: &[Term<'_>]) -> String {
+    parts.iter().map(Term::text).collect::<Vec<_>>().join(", ")
+}
+
+impl Term<'_> {
+    fn text(&self) -> Cow<'_, str> {
+        match self {
+            Term::Atom(name) => atom(name).into(),
+            Term::Pair(key, value) => format!("{{{}, {value}}}", atom(key)).into(),
+            Term::Text(text) => text.into(),
+        }
     }
 
     fn name(&self) -> Option<&str> {
-        self.atom.as_deref()
+        match self {
+            Term::Atom(name) => Some(name),
+            _ => None,
+        }
     }
 
-    /// Returns the key of a pair, with a colon, if it is an atom that names no module.
-    fn key(&self) -> Option<String> {
-        let name = self.name().filter(|name| !name.starts_with(PREFIX))?;
-        Some(unquoted_if_bare(name) + ":")
+    /// Returns the name of an atom that may be a key: of one that names no module.
+    fn key(&self) -> Option<&str> {
+        self.name().filter(|name| !name.starts_with(PREFIX))
     }
 }
