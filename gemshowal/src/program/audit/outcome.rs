@@ -32,7 +32,7 @@ pub(super) enum Said {
 fn adds_receives(trace: &Trace, completion: &Completion) -> bool {
     let is_receive = |event: &Event| event.kind == Kind::Receive;
     trace.events().any(|(_, event)| is_receive(event))
-        && gemshowal::added(completion).any(|(.., event)| is_receive(&event))
+        && gemshowal::added(completion).any(|(.., event)| is_receive(event))
 }
 
 impl Outcome {
