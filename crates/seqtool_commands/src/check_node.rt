@@ -15,7 +15,6 @@ use st_core::{Act, ByteSink, ByteSource, Streams};
 use st_text::{Bundle, Limits, ReadFault, read_within};
 use std::alloc::Global;
 
-/// Writes a verdict, and returns its status.
 fn tell_node_verdict<W: ByteSink>(writer: &mut W, verdict: NodeVerdict) -> u8
     ensures { Delivers (call W.ByteSink writer.old writer.new) (node_judged verdict) result }
 {
@@ -38,7 +37,6 @@ fn check_acts<W: ByteSink>(alloc: Global, streams: &Streams, acts: &[Act], write
     }
 }
 
-/// Writes the verdict of a bundle, and returns its status.
 fn check_bundle<W: ByteSink>(alloc: Global, bundle: &Bundle, writer: &mut W) -> u8
     ensures { Tells (call W.ByteSink writer.old writer.new)
         (ChecksBundle (contents bundle.now)) result }

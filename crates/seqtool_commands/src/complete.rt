@@ -167,10 +167,9 @@ fn complete_streams<H: Threads + Sync, W: ByteSink>(
 /// limits takes, or the acts that were tried don't serve, and the number of acts that surely
 /// suffices (six for each event, one for each count that a process passes unreported, and one for
 /// each process) is more than it takes, it writes `long` with status 5; fewer acts may suffice.
-/// Faulty input is 2; running out of memory, and a reader or a writer that fails, are 4,
-/// and so are a completion that the judge doesn't accept, and acts that the checker doesn't accept,
-/// which no test has seen. It sorts
-/// on several threads.
+/// Faulty input is 2; running out of memory, and a reader or a writer that fails, are 4, and so are
+/// a completion that the judge doesn't accept, and acts that the checker doesn't accept, which no
+/// test has seen. It sorts on several threads.
 pub fn run_complete<H: Threads + Sync, R: ByteSource, W: ByteSink>(
     rt: &H,
     alloc: Global,

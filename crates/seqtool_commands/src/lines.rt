@@ -50,11 +50,8 @@ pub(crate) enum OutputLine {
     NoOrder,
     /// The runs in which the lines of `why` hold.
     Runs,
-    /// A premise of lines of `why`.
     Premise(Premise),
-    /// How the program is called.
     Usage,
-    /// Which version this is.
     Version,
 }
 
@@ -74,7 +71,6 @@ fn put_never_words(buffer: &mut Buffer, pid: Pid, never: Never)
     }
 }
 
-/// Appends the words of a reason and its place.
 fn put_never(buffer: &mut Buffer, pid: Pid, index: u64, never: Never)
     requires { HasRoom words_room buffer.old }
     ensures { Puts words_room
@@ -86,7 +82,6 @@ fn put_never(buffer: &mut Buffer, pid: Pid, index: u64, never: Never)
     put_never_words(buffer, pid, never);
 }
 
-/// Appends the words of a process that isn't listed.
 fn put_unlisted(buffer: &mut Buffer, pid: Pid)
     requires { HasRoom words_room buffer.old }
     ensures { Puts words_room (codes "unlisted " ++ spelled.pid pid) buffer.old buffer.new }
@@ -95,7 +90,6 @@ fn put_unlisted(buffer: &mut Buffer, pid: Pid)
     put_pid(buffer, pid);
 }
 
-/// Appends the words of a process with events left.
 fn put_left(buffer: &mut Buffer, pid: Pid)
     requires { HasRoom words_room buffer.old }
     ensures { Puts words_room (codes "no left " ++ spelled.pid pid) buffer.old buffer.new }
@@ -104,7 +98,6 @@ fn put_left(buffer: &mut Buffer, pid: Pid)
     put_pid(buffer, pid);
 }
 
-/// Appends the words of a premise.
 fn put_premise(buffer: &mut Buffer, premise: Premise)
     requires { HasRoom words_room buffer.old }
     ensures { Puts words_room (premise_text premise) buffer.old buffer.new }
