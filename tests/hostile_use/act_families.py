@@ -36,6 +36,17 @@ def passed_on(processes, acts):
     return bundle([[]] * processes, list(of))
 
 
+def to_one(processes, acts):
+    """All others send to the first process, which takes nothing."""
+    return bundle([[]] * processes, [f"send {pid(1 + n % (processes - 1))} {pid(0)} {n}\n" for n in range(acts)])
+
+
+def taken_by_one(processes, acts):
+    """All others send to the first process, which takes each message at once."""
+    of = (f"send {pid(1 + n % (processes - 1))} {pid(0)} {n}\nreceive {pid(0)} first\n" for n in range(acts // 2))
+    return bundle([[]] * processes, list(of))
+
+
 def wiped(acts):
     """A queue that grows while its tokens are taken away again and again."""
     send = f"send {pid(0)} {pid(0)} 1\n"
@@ -72,6 +83,9 @@ ACTS = (
            MOST_PROCESSES),
     Family("messages passed on by two processes", partial(passed_on, 2), 120_000),
     Family("messages passed on by 1,000 processes", partial(passed_on, 1_000), 120_000),
+    Family("messages of seven to one, which takes them", partial(taken_by_one, 8), 120_000),
+    Family("messages of 999 to one, which takes them", partial(taken_by_one, 1_000), 120_000),
+    Family("messages of 999 to one", partial(to_one, 1_000), 120_000),
     Family("labels that are set", lambda n: bundle([[]], act("set {} label {}", n)), 120_000),
     Family("tokens that are restored",
            lambda n: bundle([[]], act(f"restore {{0}} 1 true true true {{1}} {{1}} {pid(0)}", n)), 60_000),
