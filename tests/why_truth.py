@@ -20,6 +20,8 @@ from pathlib import Path
 EVENT = re.compile(r"\{seq_trace,(\d+),\{(send|'receive'|answer|print),\{(-?\d+),(-?\d+)\},([^,]*),([^,]*),(\d+)\}\}")
 MARK = re.compile(r"\{m,(\d+),([a-z0-9]+),(true|false)\}")
 SPAWN = re.compile(r"\{<([\d.]+)>,\{(\w+),(\w+)\}\}")
+REQUESTED = re.compile(r"\{#Ref<\d+\.([\d.]+)>,(\{m,\S*?\}),(\{m,\S*?\})\}")
+REFERENCE = re.compile(r"\{(spawn_request|spawn_reply),#Ref<\d+\.([\d.]+)>")
 EITHER = re.compile(r"(?:follows (\S.*?#\d+)|begins this chain) or (?:follows (\S.*?#\d+)|begins this chain), or another event")
 HEAD = ("traces", "doesn't fit", "fits if", "handed over", "put back or lost", "probably lost", "none lost", "events", "sends and prints", "facts", "several", "perhaps", "moved",
         "false as a premise fails", "neither of several", "perhaps not", "not judged", "false")
@@ -37,15 +39,17 @@ class Trace:
         self.name = name
         self.terms = read_terms(Path(name + ".terms"))
         self.streams = self.read_streams(Path(name + ".seqtrace"))
-        numbers = {}
-        for pid, events in self.streams.items():
-            for i, event in enumerate(events):
-                if mark := self.mark(event):
-                    numbers[event.kind, int(mark[1])] = pid, i
-        self.numbers, self.log = numbers, defaultdict(list)
+        self.log, self.requested = defaultdict(list), {}
         for line in Path(name + ".truth").read_text().splitlines():
             pid, word, what = line.split(" ", 2)
             self.log[pid].append((word, what))
+            if found := REQUESTED.fullmatch(what):
+                self.requested["spawn_request", found[1]], self.requested["spawn_reply", found[1]] = found[2], found[3]
+        self.numbers = numbers = {}
+        for pid, events in self.streams.items():
+            for i, event in enumerate(events):
+                if mark := self.mark(event.term):
+                    numbers[event.kind, int(mark[1])] = pid, i
         self.pids = {}
         for pid, entries in self.log.items():
             places = [numbers.get((KINDS.get(word), int(what))) for word, what in entries if word in KINDS]
@@ -69,14 +73,23 @@ class Trace:
                 events.append(Event(kind, found[1], found[5], found[6], self.terms.get(found[7], "")))
         return streams
 
-    def mark(self, event):
-        return None if event.term.startswith("{spawn_re") else MARK.search(event.term)
+    def mark(self, term):
+        """What a message or print tells of its cause. The log tells it of a request to spawn and its reply."""
+        found = REFERENCE.match(term)
+        return MARK.search(self.requested.get((found[1], found[2]), "") if found else term)
+
+    def is_request(self, event):
+        """Whether an event is of a request to spawn for whose reply its process waits."""
+        return event.term.startswith("{spawn_request,") and not self.mark(event.term)
+
+    def is_reply(self, event):
+        return event.kind == "receive" and event.term.startswith("{spawn_reply,") and not self.mark(event.term)
 
     def all_done(self, pid, entries, is_born):
         """What a process did: the entries of its log, and between them the events that no entry is of. One that was
         spawned took the token of the request."""
         events, did, placed = self.streams[pid], [], 0
-        if is_born and not any(is_request(event) and event.to == pid for event in events):
+        if is_born and not any(self.is_request(event) and event.to == pid for event in events):
             did.append(Did("unreported receive", None))
 
         def reach(index):
@@ -97,8 +110,8 @@ class Trace:
                 # The trace has another name for a child on another node, which isn't known if that reported nothing.
                 is_known = child in self.streams or child.startswith("<0.")
                 children = {child} if is_known else {end for it in events for end in (it.to, it.sender)}
-                asked = (i for i in range(placed, len(events)) if is_request(events[i]) and events[i].to in children)
-                replied = (i for i in range(placed, len(events)) if is_reply(events[i]) and events[i].sender in children)
+                asked = (i for i in range(placed, len(events)) if self.is_request(events[i]) and events[i].to in children)
+                replied = (i for i in range(placed, len(events)) if self.is_reply(events[i]) and events[i].sender in children)
                 if (request := next(asked, None)) is not None:
                     self.spawns[pid, request] = cause, own == "true"
                     reach(request + self.is_answer(pid, request + 1))
@@ -113,26 +126,26 @@ class Trace:
     def is_answer(self, pid, i):
         """Whether the event is the answer of a spawn, which leaves the token as it was."""
         events = self.streams[pid]
-        return (0 < i < len(events) and is_reply(events[i]) and events[i - 1].to == events[i].sender
-                and is_request(events[i - 1]) and "spawn_init" not in events[i - 1].term)
+        return (0 < i < len(events) and self.is_reply(events[i]) and events[i - 1].to == events[i].sender
+                and self.is_request(events[i - 1]) and "spawn_init" not in events[i - 1].term)
 
     def origin(self, pid, i):
         """The index of the receive that a send or print truly follows, "home", or None if the trace lacks that."""
-        events, mark = self.streams[pid], self.mark(self.streams[pid][i])
+        events, mark = self.streams[pid], self.mark(self.streams[pid][i].term)
         cause = (mark[2], mark[3] == "true") if mark else self.spawns.get((pid, i))
         if cause is None:
             return self.last_received(pid, i)
         if cause[1] or cause[0] == "begins":
             return "home"
         if cause[0] == "spawned":
-            return next((j for j in range(i) if events[j].to == pid and is_request(events[j])), None)
+            return next((j for j in range(i) if events[j].to == pid and self.is_request(events[j])), None)
         place = self.numbers.get(("receive", int(cause[0])))
         return place[1] if place and place[0] == pid else None
 
     def source(self, pid, i):
         """The place of the send whose message gave a send or print its token, "unreported" if that isn't in the trace, "home",
         or None if nothing says it."""
-        event, mark = self.streams[pid][i], self.mark(self.streams[pid][i])
+        event, mark = self.streams[pid][i], self.mark(self.streams[pid][i].term)
         cause = (mark[2], mark[3] == "true") if mark else self.spawns.get((pid, i))
         if cause is None:
             return self.request_of(pid) if event.term.startswith("{spawn_reply,") else None
@@ -145,7 +158,7 @@ class Trace:
     def request_of(self, pid):
         """The place of the request to spawn this process, or None if it isn't in the trace."""
         places = ((other, i) for other, events in self.streams.items() for i, event in enumerate(events)
-                  if event.kind == "send" and event.to == pid and is_request(event))
+                  if event.kind == "send" and event.to == pid and self.is_request(event))
         return next(places, None)
 
     def gave_label(self, pid, i):
@@ -171,14 +184,6 @@ class Trace:
             return {"spawned" for j in range((after or 0), i) if self.is_answer(pid, j)}
         begin = 0 if after is None else did.index(Did("event", after))
         return {it.word for it in did[begin:did.index(Did("event", i))]}
-
-
-def is_request(event):
-    return event.term.startswith("{spawn_request,")
-
-
-def is_reply(event):
-    return event.term.startswith("{spawn_reply,") and event.kind == "receive"
 
 
 KINDS = {"sent": "send", "received": "receive", "printed": "print"}
@@ -267,7 +272,7 @@ class Judge:
     def receive(self, place, link):
         """Whether what is said of a receive is true, and no place. A message without a mark is known by its content."""
         event = self.trace.streams[place[0]][place[1]]
-        mark, named = self.trace.mark(event), self.places.get(link["after"])
+        mark, named = self.trace.mark(event.term), self.places.get(link["after"])
         if mark:
             return named == self.trace.numbers.get(("send", int(mark[1]))), None
         if named is None:
@@ -300,7 +305,7 @@ class Judge:
     def is_as_completed(self, place):
         """Whether a send or print truly follows the message whose receive the completion adds before it; of an unknown message
         whether its receive wasn't reported."""
-        own = self.trace.mark(self.trace.streams[place[0]][place[1]])
+        own = self.trace.mark(self.trace.streams[place[0]][place[1]].term)
         steps = json.loads(self.run("why", "--json", self.trace.name, "%s#%d" % place).stdout)["events"]
         message = steps[1]["message"]
         if not own or own[3] == "true" or own[2] == "begins":
@@ -309,7 +314,7 @@ class Judge:
             return own[2] == "spawned" or ("receive", int(own[2])) not in self.trace.numbers
         if own[2] == "spawned":
             return message.startswith("{spawn_request,")
-        added = MARK.search(message)
+        added = self.trace.mark(message)
         return bool(added) and added[1] == own[2]
 
     def is_moved(self, place, since):

@@ -6,10 +6,10 @@
 %% gave its process the token (`begins', if the process began the trace itself), and whether its
 %% process had set the label since. What happens under a token is in a log too, which is written to
 %% NAME.truth: what a process sent, received and printed, where it set a label, put a token back and
-%% spawned.
+%% spawned, and the numbers of a request to spawn and its reply.
 -module(seqaudit_truth).
 
--export([load/1, run/3, service/2, begin_log/2, play/4]).
+-export([load/1, run/3, service/2, begin_log/2, play/4, child/3]).
 -export([know/1, known/0, content/1, got/1, put_back/2]).
 
 -define(ALL, [send, 'receive', print]).
@@ -51,7 +51,7 @@ run(Seed, #{nodes := Nodes, flags := Flags, late := Late} = How, Name) ->
     [ok = seqaudit_truth_servers:stop(Server) || Server <- Servers],
     Log = lists:append([ended_log(Owner) || Owner <- Logs]),
     ok = write_log(Log, Name),
-    {Reported, Changed} = reported(Name),
+    {Reported, Changed} = reported(Name, Log),
     Whole = not Late andalso [] =:= [send, 'receive', print] -- Flags,
     {Reported -- [{Kind, Number} || {_, _, Kind, Number} <- Log],
      [One || Whole, One <- missing(Reported, Log)],
@@ -85,7 +85,7 @@ client(Requests, Servers) ->
     Self = self(),
     [receive {Request, Content} -> got(Content) end
      || Number <- lists:seq(1, Requests),
-        Request <- [spawns(fun() -> request(Number, Servers, Self) end)]].
+        Request <- [spawns(fun() -> request(Number, Servers, Self) end, [])]].
 
 request(Number, Servers, Client) ->
     know({spawned, false}),
@@ -94,9 +94,10 @@ request(Number, Servers, Client) ->
     Client ! {self(), content(sent)}.
 
 %% Returns what the trace has, and the messages that it has with two contents.
-reported(Name) ->
+reported(Name, Log) ->
     Terms = seqaudit_test_traces:terms(Name),
-    Contents = [{Event, content_of(maps:get({value, Value}, Terms))}
+    Numbers = request_numbers(Log),
+    Contents = [{Event, content_of(maps:get({value, Value}, Terms), Numbers)}
                 || #{value := Value} = Event <- seqaudit_test_traces:events(Name)],
     Sent = maps:from_list([{message(Event), Number}
                            || {#{kind := <<"send">>} = Event, Number} <- Contents]),
@@ -106,11 +107,28 @@ reported(Name) ->
 
 message(Event) -> maps:remove(kind, Event).
 
-content_of(Text) ->
-    case re:run(Text, "\\{m,([0-9]+),[a-z0-9]+,(?:true|false)\\}",
-                [{capture, all_but_first, list}]) of
-        {match, [Number]} -> list_to_integer(Number);
-        nomatch -> other
+content_of(Text, Numbers) ->
+    case {found(Text, "\\{m,([0-9]+),[a-z0-9]+,(?:true|false)\\}"),
+          found(Text, "^\\{(spawn_request|spawn_reply),#Ref<[0-9]+\\.([0-9.]+)>")} of
+        {[Number], _} -> list_to_integer(Number);
+        {[], [Kind, Reference]} -> maps:get({Kind, Reference}, Numbers, other);
+        {[], []} -> other
+    end.
+
+%% Returns the numbers of the requests to spawn and of their replies, by the reference, whose first
+%% number is that of its node.
+request_numbers(Log) ->
+    Numbered = [{found(io_lib:format("~p", [Reference]), "\\.([0-9.]+)"), Request, Reply}
+                || {_, _, requested, {Reference, {m, Request, _, _}, {m, Reply, _, _}}} <- Log],
+    maps:from_list([{{Kind, Reference}, Number}
+                    || {[Reference], Request, Reply} <- Numbered,
+                       {Kind, Number} <- [{"spawn_request", Request}, {"spawn_reply", Reply}]]).
+
+%% Returns what the groups of a pattern have found in a text.
+found(Text, Pattern) ->
+    case re:run(Text, Pattern, [{capture, all_but_first, list}]) of
+        {match, Found} -> Found;
+        nomatch -> []
     end.
 
 happened(<<"send">>) -> sent;
@@ -169,6 +187,7 @@ play_all(Steps, Numbered, Servers) ->
     ok.
 
 %% The deeds of the players, in one order: messages are received after their sends, in any order.
+%% Open has the receives that are still to come.
 steps(Count, Length, Servers) ->
     Players = lists:seq(1, Count),
     {Steps, _} =
@@ -179,11 +198,11 @@ steps(Count, Length, Servers) ->
 step(K, Players, Servers, Open) ->
     P = lists:nth(rand:uniform(length(Players)), Players),
     Q = lists:nth(rand:uniform(length(Players)), Players),
-    case {rand:uniform(18), Open} of
-        {N, _} when N =< 4 -> {[{P, {send, Q, K}}], Open ++ [{Q, K}]};
+    case {rand:uniform(20), Open} of
+        {N, _} when N =< 4 -> {[{P, {send, Q, K}}], Open ++ [{Q, {wait, K}}]};
         {N, [_ | _]} when N =< 9 ->
-            {To, Number} = Taken = lists:nth(rand:uniform(length(Open)), Open),
-            {[{To, {wait, Number}}], lists:delete(Taken, Open)};
+            Taken = lists:nth(rand:uniform(length(Open)), Open),
+            {[Taken], lists:delete(Taken, Open)};
         {N, _} when N =< 11 -> {[{P, print}], Open};
         {12, _} -> {[{P, {begins, 1_000 * P + K}}], Open};
         {13, _} -> {[{P, clear}], Open};
@@ -191,6 +210,7 @@ step(K, Players, Servers, Open) ->
         {15, _} -> {[{P, put}], Open};
         {16, _} -> {[{P, timer}], Open};
         {17, _} -> {[{P, spawn}], Open};
+        {N, _} when N =:= 18; N =:= 19 -> {[{P, {request, Q, K}}], Open ++ [{P, {reply, K}}]};
         _ -> {[{P, {call, rand:uniform(Servers)}}], Open}
     end.
 
@@ -247,10 +267,24 @@ act(put_handed, _, _, _, _) ->
 act(timer, _, _, _, _) -> erlang:send_after(1, self(), timeout), receive timeout -> ok end;
 act(spawn, _, _, _, _) ->
     Self = self(),
-    case rand:uniform(2) of
-        1 -> spawns(fun() -> child(none) end);
-        2 -> Child = spawns(fun() -> child(Self) end), receive {Child, Content} -> got(Content) end
-    end;
+    Parent = lists:nth(rand:uniform(2), [none, Self]),
+    Options = lists:nth(rand:uniform(3), [[], [monitor], [link, {fullsweep_after, 0}]]),
+    Child = spawns(fun() -> child(Parent) end, Options),
+    [receive {Child, Content} -> got(Content) end || Parent =:= Self],
+    %% No token comes with it.
+    [receive {'DOWN', _, process, Child, normal} -> ok end || Options =:= [monitor]];
+act({request, Beside, Number}, _, _, Numbered, _) ->
+    Node = node(maps:get(Beside, Numbered)),
+    {m, Sent, Cause, _} = Request = content(sent),
+    Reply = {m, next_number(), case Cause of none -> none; _ -> Sent end, false},
+    %% Arguments are a message of their own to another node.
+    Arguments = case Node =:= node() of true -> Request; false -> content(sent) end,
+    Reference = spawn_request(Node, ?MODULE, child, [Arguments, Request, Reply]),
+    Cause =:= none orelse log(requested, {Reference, Request, Reply}),
+    put({reply, Number}, {Reference, Reply});
+act({reply, Number}, _, _, _, _) ->
+    {Reference, Reply} = erase({reply, Number}),
+    receive {spawn_reply, Reference, ok, _} -> got(Reply) end;
 act({call, Which}, Me, Flags, Numbered, Servers) ->
     [act({begins, 2_000_000 + erlang:unique_integer([positive])}, Me, Flags, Numbered, Servers)
      || seq_trace:get_token() =:= [], rand:uniform(5) > 1],
@@ -274,8 +308,11 @@ put_back(Token, Known) ->
     log(put, own),
     know(Known).
 
-spawns(Do) ->
-    Child = spawn(Do),
+spawns(Do, Options) ->
+    Child = case spawn_opt(Do, Options) of
+                {Pid, _Monitor} -> Pid;
+                Pid -> Pid
+            end,
     get(known) =:= none orelse log(spawned, {Child, get(known)}),
     Child.
 
@@ -284,6 +321,14 @@ child(Parent) ->
     know(case seq_trace:get_token() of [] -> none; _ -> {spawned, false} end),
     seq_trace:print(content(printed)),
     Parent =/= none andalso (Parent ! {self(), content(sent)}).
+
+%% A child of spawn_request. Its node has replied under the token of the request.
+child(Arguments, Request, Reply) ->
+    know(none),
+    got(Request),
+    get(known) =:= none orelse log(sent, element(2, Reply)),
+    Arguments =:= Request orelse got(Arguments),
+    seq_trace:print(content(printed)).
 
 know(Known) -> put(known, Known).
 

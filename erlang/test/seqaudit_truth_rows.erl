@@ -15,7 +15,7 @@ main([Row, From, To, Folder]) ->
                || Number <- lists:seq(list_to_integer(From), list_to_integer(To))]
           end,
     case Row of
-        "two_nodes" -> seqaudit_test_nodes:with_second("truth", fun(There) ->
+        "two_nodes" ++ _ -> seqaudit_test_nodes:with_second("truth", fun(There) ->
                            seqaudit_truth:load(There),
                            Run([node(), There])
                        end);
@@ -30,6 +30,7 @@ program(Row, Seed, Nodes, Name) ->
 
 how("all") -> #{flags => ?ALL, late => false};
 how("two_nodes") -> how("all");
+how("two_nodes_" ++ Row) -> how(Row);
 how("no_send") -> #{flags => ?ALL -- [send], late => false};
 how("no_receive") -> #{flags => ?ALL -- ['receive'], late => false};
 how("no_print") -> #{flags => ?ALL -- [print], late => false};
