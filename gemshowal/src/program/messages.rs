@@ -117,7 +117,7 @@ impl<'a> Messages<'a> {
                 }
                 (Kind::Send, Some(to)) => {
                     sends.entry(to).or_default().push(place);
-                    spawns.extend(names.is_awaited_spawn(event.value).then_some((event.from, to)));
+                    spawns.extend(is_awaited_spawn(names, event, to).then_some((event.from, to)));
                 }
                 (Kind::Send, None) | (Kind::Print, _) => {}
             }
@@ -150,6 +150,12 @@ impl<'a> Messages<'a> {
 fn is_address(names: &Names, pid: Pid) -> bool {
     let about = names.about(pid).unwrap_or_default();
     ["alias ", "name "].iter().any(|kind| about.starts_with(kind))
+}
+
+/// Returns whether the sender of this message waits for a process that it spawns, and keeps its
+/// token. The reply of another node is received as any message.
+fn is_awaited_spawn(names: &Names, request: &Event, child: Pid) -> bool {
+    names.is_awaited_spawn(request.value) && request.from.node() == child.node()
 }
 
 /// Messages, by what a stamp tells of them.
