@@ -196,6 +196,7 @@ fn is_answer(names: &Names, request: &Event, answer: &Event) -> bool {
     answer.kind == Kind::Receive
         && request.kind == Kind::Send
         && request.to == Some(answer.from)
+        && !names.are_on_different_nodes(request.from, answer.from)
         && names.is_spawned(answer.value)
         && !names.is_spawn_request(request.value)
 }

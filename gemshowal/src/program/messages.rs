@@ -155,7 +155,7 @@ fn is_address(names: &Names, pid: Pid) -> bool {
 /// Returns whether the sender of this message waits for a process that it spawns, and keeps its
 /// token. The reply of another node is received as any message.
 fn is_awaited_spawn(names: &Names, request: &Event, child: Pid) -> bool {
-    names.is_awaited_spawn(request.value) && request.from.node() == child.node()
+    names.is_awaited_spawn(request.value) && !names.are_on_different_nodes(request.from, child)
 }
 
 /// Messages, by what a stamp tells of them.

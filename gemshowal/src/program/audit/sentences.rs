@@ -714,9 +714,8 @@ pub(super) fn not_received(names: &Names, sends: &[Event]) -> String {
     let to_port = |send: &Event| send.to.is_some_and(|to| names.is_port(to));
     let is_late = |send: &Event| names.is_reply_to_alias(send.value);
     let is_exit = |send: &Event| names.is_exit(send.value);
-    let is_far = |send: &Event| {
-        !names.has_further_nodes() && send.to.is_some_and(|to| to.node() != send.from.node())
-    };
+    let is_far =
+        |send: &Event| send.to.is_some_and(|to| names.are_on_different_nodes(to, send.from));
     let ways = [
         (sends.iter().any(to_port), ", or went to a port"),
         (sends.iter().any(is_late), ", or came too late, as a reply may"),

@@ -149,9 +149,10 @@ impl Names {
         format!("{}#{index}", self.process(pid))
     }
 
-    /// Returns whether two node numbers may mean one node.
-    pub(crate) fn has_further_nodes(&self) -> bool {
-        !self.terms.further_nodes.is_empty()
+    /// Returns whether two processes are surely on different nodes: a node with many processes has
+    /// further numbers.
+    pub(crate) fn are_on_different_nodes(&self, one: Pid, other: Pid) -> bool {
+        one.node() != other.node() && self.terms.further_nodes.is_empty()
     }
 
     pub(crate) fn losses(&self) -> &[String] {
