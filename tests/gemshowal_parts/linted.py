@@ -66,7 +66,7 @@ BY_HAND = (
     ("a mark of UTF-8 alone", "\ufeff", 1, 1, HEADER, "the text is empty"),
     ("an unknown version", "seqtrace 4\nprocess <0.30.0>\n", 1, 10, VERSIONS, VERSION),
     ("a trace whose counters have wrapped", "seqtrace 3\nprocess <0.30.0>\n", 1, 10, VERSIONS,
-     "counters have wrapped: only audit and why read version 3 yet"),
+     "counters have wrapped: only audit, why and check --node read version 3 yet"),
     ("an unknown version of two digits", "seqtrace 12\nprocess <0.30.0>\n", 1, 11, END, VERSION),
     ("an unknown version that a mark of UTF-8 is in front of", "\ufeffseqtrace 4\nprocess <0.30.0>\n", 1, 1, HEADER, VERSION),
     ("a value that may go on", f"{HEAD}acts\nprint <0.30.0> 7", 4, 17, NEWLINE, MAY_BREAK),
