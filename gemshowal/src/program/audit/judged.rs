@@ -4,6 +4,7 @@
 use super::handed_over::{had_elsewhere, handed_over, HandedOver};
 use super::lives;
 use super::unexplained::Explainer;
+use super::unreceived::after_unreceived;
 use super::walk::{walk, Run};
 use crate::names::Names;
 use crate::view::{Kept, Place};
@@ -12,7 +13,54 @@ use gemshowal::{
     Event, FromBefore, Kind, MessageContent, NodeFinding, NodeTrace, Pid, Serial, Way, COUNTS,
 };
 use serde::Serialize;
+use std::cell::OnceCell;
 use std::collections::{HashMap, HashSet};
+
+/// The judge of a trace and its parts.
+pub(super) struct Judge<'a> {
+    trace: &'a NodeTrace,
+    names: &'a Names,
+    judged: OnceCell<Judged>,
+    /// The events that only a message whose receive wasn't reported explains.
+    after_unreceived: OnceCell<Vec<Place>>,
+}
+
+impl<'a> Judge<'a> {
+    pub(super) fn new(trace: &'a NodeTrace, names: &'a Names) -> Judge<'a> {
+        Judge { trace, names, judged: OnceCell::new(), after_unreceived: OnceCell::new() }
+    }
+
+    pub(super) fn is_wrapped(&self) -> bool {
+        self.trace.is_wrapped()
+    }
+
+    /// Returns the judgement on the trace, or on a part of it.
+    pub(super) fn judged(&self, kept: Option<&Kept>) -> Result<Judged, Failure> {
+        let judged = match self.judged.get() {
+            Some(judged) => judged,
+            None => {
+                let judge = if self.is_wrapped() { Judged::of } else { Judged::partial };
+                let judged = judge(self.trace, self.names)?;
+                self.judged.get_or_init(|| judged)
+            }
+        };
+        Ok(kept.map_or_else(|| judged.clone(), |kept| judged.part(kept)))
+    }
+
+    /// Returns the judgement if the trace fits with tokens that were put back or handed over. None
+    /// explains an event that only a message explains, so where there is one nothing is judged.
+    pub(super) fn with_put_backs(&self, kept: Option<&Kept>) -> Result<Option<Judged>, Failure> {
+        let found = self.after_unreceived.get_or_init(|| after_unreceived(self.trace));
+        if found.iter().any(|place| kept.is_none_or(|kept| has(kept, place))) {
+            return Ok(None);
+        }
+        Ok(Some(self.judged(kept)?).filter(Judged::puts_back))
+    }
+}
+
+fn has(kept: &Kept, (pid, index): &Place) -> bool {
+    kept.get(pid).is_some_and(|own| own.binary_search(index).is_ok())
+}
 
 #[derive(Clone, Copy, Debug)]
 pub(super) struct PutBack {
@@ -152,7 +200,7 @@ impl Judged {
 
     /// Judges a trace of which the manual's machine has no run. If it has no sends, no receives or
     /// no prints, a run is looked for that has such events.
-    pub(super) fn partial(trace: &NodeTrace, names: &Names) -> Result<Judged, Failure> {
+    fn partial(trace: &NodeTrace, names: &Names) -> Result<Judged, Failure> {
         let mut judged = Judged::of(trace, names)?;
         let lacks = |kind| trace.events(kind).next().is_none();
         let is_partial = [Kind::Send, Kind::Receive, Kind::Print].into_iter().any(lacks)
@@ -189,11 +237,9 @@ impl Judged {
     }
 
     /// Returns the judgement on a part of the trace.
-    pub(super) fn part(&self, kept: &Kept) -> Judged {
+    fn part(&self, kept: &Kept) -> Judged {
         let mut part = self.clone();
-        let has = |&(pid, index): &Place| {
-            kept.get(&pid).is_some_and(|own| own.binary_search(&index).is_ok())
-        };
+        let has = |place: &Place| has(kept, place);
         part.put_backs.retain(|it| has(&it.place));
         part.handed_over.retain(|it| has(&it.place));
         let Judged { ungiven, earlier, sent_before, unsent, .. } = &mut part;
@@ -204,7 +250,7 @@ impl Judged {
     }
 
     /// Returns whether it fits with tokens that were put back or handed over.
-    pub(super) fn puts_back(&self) -> bool {
+    fn puts_back(&self) -> bool {
         let has_some = !self.put_backs.is_empty() || !self.handed_over.is_empty();
         has_some && self.verdict() == Verdict::Fits
     }

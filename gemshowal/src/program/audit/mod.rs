@@ -12,6 +12,7 @@ mod report;
 mod resets;
 mod sentences;
 mod unexplained;
+mod unreceived;
 mod walk;
 
 use crate::args::Audit;
@@ -24,13 +25,12 @@ use crate::{causes, Failure, Status, Task};
 use gemshowal::{
     in_common, CertificateError, MessageContent, NodeAct, NodeTrace, OutOfMemory, Trace,
 };
-use judged::{Judged, Verdict};
+use judged::{Judge, Judged, Verdict};
 use missing::Missing;
 use others::Comparison;
 use outcome::{Outcome, Said};
 use report::Part;
 use sentences::{write_losses, Sentences};
-use std::cell::OnceCell;
 use std::collections::HashSet;
 use std::fs::File;
 use std::io::{BufWriter, Write};
@@ -52,8 +52,8 @@ pub(crate) fn run(args: &Audit, task: Task<'_>) -> Result<Status, Failure> {
         _ => whole,
     };
     let (kept, word) = (kept.as_ref(), input.word());
-    let judged = OnceCell::new();
-    Auditor { args, json, cut, view: &view, node: &node, kept, judged, input, word }.run(out)
+    let judge = Judge::new(&node, &names);
+    Auditor { args, json, cut, view: &view, node: &node, kept, judge, input, word }.run(out)
 }
 
 /// Returns the first line of the judgement by the rules of a standard node, and whether it says
@@ -77,8 +77,8 @@ struct Auditor<'a> {
     /// The whole trace, and the events of it that are looked at, unless all are.
     node: &'a NodeTrace,
     kept: Option<&'a Kept>,
-    /// The judgement on the whole trace.
-    judged: OnceCell<Judged>,
+    /// The judge of the whole trace.
+    judge: Judge<'a>,
     input: &'a Input,
     /// The trace's name on a command line.
     word: String,
@@ -163,17 +163,7 @@ impl Auditor<'_> {
     }
 
     fn outcome(&self, trace: &Trace, kept: Option<&Kept>) -> Result<Outcome, Failure> {
-        Outcome::of(trace, self.node.is_wrapped(), || {
-            let judged = match self.judged.get() {
-                Some(judged) => judged,
-                None => {
-                    let judge = if self.node.is_wrapped() { Judged::of } else { Judged::partial };
-                    let judged = judge(self.node, self.view.names)?;
-                    self.judged.get_or_init(|| judged)
-                }
-            };
-            Ok(kept.map_or_else(|| judged.clone(), |kept| judged.part(kept)))
-        })
+        Outcome::of(trace, &self.judge, kept)
     }
 
     fn audited<'a>(&self, outcome: &'a Outcome) -> Result<Audited<'a>, Failure> {
@@ -200,8 +190,8 @@ impl Auditor<'_> {
         for (own, part) in parts(self.view)? {
             let answers = causes::answers(&part, self.view.names);
             let node = NodeTrace::new(part, answers);
-            let judge = || Judged::partial(&node, self.view.names);
-            let outcome = Outcome::of(node.trace(), false, judge)?;
+            let judge = Judge::new(&node, self.view.names);
+            let outcome = Outcome::of(node.trace(), &judge, None)?;
             needed += outcome.judged.as_ref().map_or(0, |judged| judged.put_backs.len());
             if !outcome.is_fit() || whole.is_some_and(|whole| needed >= whole) {
                 return Ok(Resets::default());

@@ -1,9 +1,9 @@
 //! The outcome of an audit, as the proved libraries find it.
 
-use super::judged::{Judged, Verdict};
+use super::judged::{Judge, Judged, Verdict};
 use super::missing::Missing;
 use crate::reason::Against;
-use crate::view::{Shown, View};
+use crate::view::{Kept, Shown, View};
 use crate::Failure;
 use gemshowal::{
     Answer, AuditError, CompleteError, Completion, Event, Fits, Kind, OutOfMemory, Paired, Trace,
@@ -40,16 +40,16 @@ impl Outcome {
     /// reported, asks for the judgement by the rules of a standard node.
     pub(super) fn of(
         trace: &Trace,
-        is_wrapped: bool,
-        judged: impl FnOnce() -> Result<Judged, Failure>,
+        judge: &Judge<'_>,
+        kept: Option<&Kept>,
     ) -> Result<Outcome, Failure> {
         let (said, ranked) =
-            if is_wrapped { (Said::Nothing, None) } else { Outcome::by_machine(trace)? };
+            if judge.is_wrapped() { (Said::Nothing, None) } else { Outcome::by_machine(trace)? };
         let judged = match &said {
             Said::Fits(_) => None,
-            Said::Never(_) | Said::Nothing => Some(judged()?),
+            Said::Never(_) | Said::Nothing => Some(judge.judged(kept)?),
             Said::Completed(completion) if adds_receives(trace, completion) => {
-                Some(judged()?).filter(Judged::puts_back)
+                judge.with_put_backs(kept)?
             }
             Said::Completed(_) => None,
         };
