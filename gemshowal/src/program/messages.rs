@@ -107,7 +107,7 @@ impl<'a> Messages<'a> {
     /// Collects them, if something was sent and no receive was reported.
     pub(crate) fn of(trace: &'a Trace, names: &'a Names) -> Option<Messages<'a>> {
         let mut sends: HashMap<Pid, Vec<Place>> = HashMap::new();
-        let (mut strays, mut spawns, mut greatest) = (Mail::default(), HashSet::new(), 0);
+        let (mut strays, mut greatest) = (Mail::default(), 0);
         for (place, event) in trace.events() {
             greatest = greatest.max(event.serial.prev).max(event.serial.this);
             match (event.kind, event.to) {
@@ -115,15 +115,13 @@ impl<'a> Messages<'a> {
                 (Kind::Send, Some(to)) if is_address(names, to) => {
                     strays.add(place, event, names, false)
                 }
-                (Kind::Send, Some(to)) => {
-                    sends.entry(to).or_default().push(place);
-                    spawns.extend(is_awaited_spawn(names, event, to).then_some((event.from, to)));
-                }
+                (Kind::Send, Some(to)) => sends.entry(to).or_default().push(place),
                 (Kind::Send, None) | (Kind::Print, _) => {}
             }
         }
         let is_sent = trace.processes().any(|(pid, _)| sends.contains_key(&pid));
         let may_have_wrapped = greatest >= HIGH;
+        let spawns = awaited_spawns(trace, names);
         is_sent.then_some(Messages { trace, names, sends, spawns, strays, may_have_wrapped })
     }
 
@@ -152,10 +150,15 @@ fn is_address(names: &Names, pid: Pid) -> bool {
     ["alias ", "name "].iter().any(|kind| about.starts_with(kind))
 }
 
-/// Returns whether the sender of this message waits for a process that it spawns, and keeps its
-/// token. The reply of another node is received as any message.
-fn is_awaited_spawn(names: &Names, request: &Event, child: Pid) -> bool {
-    names.is_awaited_spawn(request.value) && !names.are_on_different_nodes(request.from, child)
+/// Returns the processes that waited for a spawn and kept their token, each with the one that it
+/// spawned. The reply of another node is received as any message.
+pub(crate) fn awaited_spawns(trace: &Trace, names: &Names) -> HashSet<(Pid, Pid)> {
+    let spawn = |request: &Event| {
+        let child = request.to.filter(|&to| !names.are_on_different_nodes(to, request.from))?;
+        let is_spawn = request.kind == Kind::Send && names.is_awaited_spawn(request.value);
+        is_spawn.then_some((request.from, child))
+    };
+    trace.events().filter_map(|(_, event)| spawn(event)).collect()
 }
 
 /// Messages, by what a stamp tells of them.
