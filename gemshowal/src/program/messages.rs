@@ -96,8 +96,8 @@ pub(crate) struct Messages<'a> {
     names: &'a Names,
     /// The sends to each process.
     sends: HashMap<Pid, Vec<Place>>,
-    /// The processes that waited for a spawn, with the ones that they spawned.
-    spawns: HashSet<(Pid, Pid)>,
+    /// The processes that asked for others, with the ones that they got, and whether they waited.
+    spawns: HashMap<(Pid, Pid), bool>,
     /// The messages to aliases and names, each of which may be to any process.
     strays: Mail,
     may_have_wrapped: bool,
@@ -121,7 +121,7 @@ impl<'a> Messages<'a> {
         }
         let is_sent = trace.processes().any(|(pid, _)| sends.contains_key(&pid));
         let may_have_wrapped = greatest >= HIGH;
-        let spawns = awaited_spawns(trace, names);
+        let spawns = spawns(trace, names);
         is_sent.then_some(Messages { trace, names, sends, spawns, strays, may_have_wrapped })
     }
 
@@ -135,7 +135,7 @@ impl<'a> Messages<'a> {
         let mut own = Mail::default();
         for &place in sends.into_iter().flatten() {
             if let Some(send) = self.trace.streams().event(place.0, place.1) {
-                own.add(place, &send, self.names, self.spawns.contains(&(pid, send.from)));
+                own.add(place, &send, self.names, self.spawns.get(&(pid, send.from)) == Some(&true));
             }
         }
         let mut walk = Walk::new([&own, &self.strays], self.may_have_wrapped);
@@ -150,13 +150,16 @@ fn is_address(names: &Names, pid: Pid) -> bool {
     ["alias ", "name "].iter().any(|kind| about.starts_with(kind))
 }
 
-/// Returns the processes that waited for a spawn and kept their token, each with the one that it
-/// spawned. The reply of another node is received as any message.
-pub(crate) fn awaited_spawns(trace: &Trace, names: &Names) -> HashSet<(Pid, Pid)> {
+/// Returns the processes that asked for others, each with the one that it got, and whether it waited
+/// for that one and kept its token. The replies of `spawn_request` and of another node are received
+/// as any message.
+pub(crate) fn spawns(trace: &Trace, names: &Names) -> HashMap<(Pid, Pid), bool> {
     let spawn = |request: &Event| {
-        let child = request.to.filter(|&to| !names.are_on_different_nodes(to, request.from))?;
-        let is_spawn = request.kind == Kind::Send && names.is_awaited_spawn(request.value);
-        is_spawn.then_some((request.from, child))
+        let child = request.to.filter(|_| request.kind != Kind::Print)?;
+        let is_spawn = names.is_awaited_spawn(request.value);
+        let is_awaited = is_spawn && !names.are_on_different_nodes(request.from, child);
+        let is_request = is_spawn || names.is_spawn_request(request.value);
+        is_request.then_some(((request.from, child), is_awaited))
     };
     trace.events().filter_map(|(_, event)| spawn(event)).collect()
 }

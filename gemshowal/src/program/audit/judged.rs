@@ -6,7 +6,7 @@ use super::lives;
 use super::unexplained::Explainer;
 use super::unreceived::after_unreceived;
 use super::walk::{walk, Run};
-use crate::messages::awaited_spawns;
+use crate::messages::spawns;
 use crate::names::Names;
 use crate::view::{Kept, Place};
 use crate::Failure;
@@ -208,10 +208,10 @@ impl Judged {
             && trace.trace().events().all(|(_, event)| event.serial.this < COUNTS);
         let is_plain = judged.handed_over.is_empty() && judged.sent_before.is_empty();
         if is_partial && !(is_plain && judged.verdict() == Verdict::Fits) {
-            let spawns = awaited_spawns(trace.trace(), names);
-            let is_awaited = |it: &Event| it.to.is_some_and(|to| spawns.contains(&(to, it.from)));
+            let spawns = spawns(trace.trace(), names);
             let run = walk(trace, |event| {
-                names.is_spawned(event.value) && (event.kind == Kind::Receive || is_awaited(event))
+                let request = event.to.and_then(|to| spawns.get(&(to, event.from)).copied());
+                names.is_spawned(event.value) && request.unwrap_or(event.kind == Kind::Receive)
             });
             if run.stuck.is_empty() && lives::has_run(trace, &run)? {
                 judged = Judged::found(trace, run, judged.waiting);
