@@ -16,6 +16,7 @@ pub mod NeedsAnyway
 pub mod Carried
 pub mod Follows
 pub mod Brings
+pub mod HeldBySends
 pub mod BySends
 pub mod Labels
 pub mod Queues
