@@ -15,7 +15,6 @@ from one_run import run_once
 
 from . import model
 from .act_families import ACTS, CROWDS_OF_ACTS, looks, resets
-from .mistakes import MISTAKES
 from .program import Check
 from .stream_families import CROWDS, STREAMS, Nodes
 from .texts import LABEL, bundle, is_event, on_nodes
@@ -58,7 +57,6 @@ seqtool renumber""")
 OF_CERTIFICATES = words("""
 seqaudit check
 seqaudit replay""")
-OF_MISTAKES = words("seqtool check")
 
 # No time is promised for these: such an act waits for all processes of its node, and leaves an entry in the log of each.
 UNPROMISED = {(name, "drive") for name in ("processes that are reset", "processes whose tracer changes")}
@@ -76,7 +74,6 @@ GROUPS = (
     Group(CROWDS, of_tool(OF_STREAMS), FORMS_OF_STREAMS),
     Group(ACTS, OF_ACTS),
     Group(CROWDS_OF_ACTS, of_tool(OF_ACTS)),
-    Group(MISTAKES, OF_MISTAKES),
 )
 
 # The seconds of the processor that a run takes beside one that ends at once, the bytes of its text and its output, and
@@ -179,7 +176,7 @@ def grown(name, program, words, texts):
             cost, status = text.cost(program, words)
             if status < 0:
                 return unended(name, f"at {size:,} no end in {SECONDS} s of the processor", cost)
-            if is_refused(words, status):
+            if status > 1:
                 return Check(f"{name}: at {size:,} the text is refused", skipped=True)
             least[size] = min(cost, least.get(size, cost))
         power = exponent(least)
@@ -188,11 +185,6 @@ def grown(name, program, words, texts):
             break
     note = f"power {power:.2f}; " + ", ".join(f"{size:,} in {it.seconds:.3f} s" for size, it in least.items())
     return Check(name, None if is_right else f"more than {BOUND}: {note}", note)
-
-
-def is_refused(words, status):
-    """Whether a command takes no such text; `lint` says what is wrong in it."""
-    return status > 1 and words[0] != "lint"
 
 
 def unended(name, problem, cost):
@@ -304,16 +296,16 @@ def great(programs, number):
             return
         for program, command in chosen(group, family, programs, True):
             cost, status = text.cost(program, command, 2 * SECONDS)
-            yield judged(named("great", family, program, command, group.certified), command, text, cost, status)
+            yield judged(named("great", family, program, command, group.certified), text, cost, status)
 
 
-def judged(name, words, text, cost, status):
+def judged(name, text, cost, status):
     """The check that a run took no longer and no more than it may."""
     size = os.path.getsize(text.path)
     note = f"{size / 1e6:.0f} MB in, {(cost.bytes - size) / 1e6:.0f} MB out, status {status}: " \
            f"{cost.seconds:.2f} s, peak {cost.peak >> 20} MB"
     if status < 0:
         return unended(name, note, cost)
-    if is_refused(words, status):
+    if status > 1:
         return Check(f"{name}: the text is refused", skipped=True)
     return Check(name, note if cost.seconds > SECONDS or cost.peak > MEGABYTES << 20 else None, note)

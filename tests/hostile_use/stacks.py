@@ -5,7 +5,7 @@ import os
 import tempfile
 
 from .act_families import passed_on
-from .growth import FORMS_OF_STREAMS, OF_ACTS, OF_MISTAKES, OF_STREAMS, Text, words
+from .growth import FORMS_OF_STREAMS, OF_ACTS, OF_STREAMS, Text, words
 from .inputs import CERTIFICATE, HIDDEN_SENDS
 from .program import Check, expect
 from .stream_families import ring
@@ -21,6 +21,7 @@ seqtool audit TEXT""")
 OTHERS_OF_ACTS = words("""
 seqtool check TEXT
 seqtool audit""")
+OF_MISTAKES = words("seqtool check")
 
 
 def misspelt(text):
@@ -38,11 +39,11 @@ def longer(processes, events):
 
 def texts(folder):
     """The commands, and what they are tried on."""
-    of_streams, of_acts, of_mistakes = OF_STREAMS + FORMS_OF_STREAMS + OTHERS, OF_ACTS + OTHERS_OF_ACTS, OF_MISTAKES
+    of_streams, of_acts = OF_STREAMS + FORMS_OF_STREAMS + OTHERS, OF_ACTS + OTHERS_OF_ACTS
     ring_of = list(bundle(ring(1_000, EVENTS)))
     made = ((of_streams, [HIDDEN_SENDS.decode()]), (of_streams, ring_of), (of_acts, [CERTIFICATE.decode()]),
-            (of_acts, longer(1_000, EVENTS)), (of_mistakes, misspelt(HIDDEN_SENDS.decode().splitlines(True))),
-            (of_mistakes, misspelt(ring_of)))
+            (of_acts, longer(1_000, EVENTS)), (OF_MISTAKES, misspelt(HIDDEN_SENDS.decode().splitlines(True))),
+            (OF_MISTAKES, misspelt(ring_of)))
     for number, (commands, lines) in enumerate(made):
         text = Text(os.path.join(folder, str(number)), lines)
         yield from ((command, text) for command in commands)
