@@ -54,7 +54,7 @@ fn fill<R: Abort>(rt: &R, lists: &mut Lists<u64>, count: u64)
 // There is room for the items before the first push, so it is a ladder's memory alone that can be
 // refused, if this test runs with an allocation that fails.
 #[test]
-fn a_list_without_memory_for_a_ladder_has_its_items(rt: HostRuntime) -> Result<(), Fail> {
+fn a_list_without_memory_keeps_its_items(rt: HostRuntime) -> Result<(), Fail> {
     let mut lists = two_at_last(rt.alloc())?;
     if lists.reserve(1000).is_err() {
         lists.reserve(1000)?;

@@ -23,7 +23,7 @@ fn is_one_run(alloc: Global, record: &Record) -> Result<bool, CheckFault> {
     Ok(matches!(verdict, Verdict::Yes(_)))
 }
 
-/// Drives busy processes, asserts that they made one run, and returns how many events they reported.
+/// Drives busy processes, asserts that they made one run, and counts the events of that.
 fn assert_driven<R: Threads + Wait + Sync + Abort>(
     rt: &R,
     alloc: Global,

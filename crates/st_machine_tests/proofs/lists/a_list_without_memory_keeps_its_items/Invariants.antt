@@ -1,6 +1,6 @@
 -- The loop keeps the other lists.
 use Rattle.std.proofs.Common.{◌≡◌, length}
-use Rattle.st_machine_tests.proofs.lists.a_list_without_memory_for_a_ladder_has_its_items.Given as goal
+use Rattle.st_machine_tests.proofs.lists.a_list_without_memory_keeps_its_items.Given as goal
 
 -- the arena keeps its two lists
 abbrev pub invariant-loop-item : goal.invariant-loop-item
