@@ -18,9 +18,9 @@ use Rattle.node_check.specs.Progress.{state_behind}
 pub length_run : (s : State) (acts : List NodeAct) (os : List Outcome)
     → node_run_from s acts ≡ Some os → length os ≡ length acts
 length_run s [] os h = ap length (sym (same_Some [] os h))
-length_run s (a ∷ acts) os h =
-    let t = node_run_parts s a acts os h in
-    ap length t.is_whole ∙ ap suc (length_run t.first.after acts t.others t.is_rest)
+length_run s (a ∷ acts) [] h = absurd (node_run_parts s a acts [] h)
+length_run s (a ∷ acts) (o ∷ os) h =
+    ap suc (length_run o.after acts os (node_run_parts s a acts (o ∷ os) h).1)
 
 last_step : (o : Option Outcome) → option_and_then (λ x. option_map (λ os. x ∷ os) (Some [])) o
     ≡ option_map (λ x. x ∷ []) o
@@ -33,7 +33,6 @@ later_step : (first : Outcome) (others : List Outcome) (o : Option Outcome)
 later_step first others None = refl
 later_step first others (Some x) = refl
 
--- the run of acts and one more
 pub run_append : (s : State) (acts : List NodeAct) (a : NodeAct) (os : List Outcome)
     → node_run_from s acts ≡ Some os
     → node_run_from s (acts ++ a ∷ [])
@@ -42,21 +41,19 @@ run_append s [] a os h =
     last_step (node_step s a)
     ∙ ap (λ (xs : List Outcome). option_map (λ o. xs ++ o ∷ []) (node_step (state_behind s xs) a))
     (same_Some [] os h)
-run_append s (b ∷ acts) a os h =
-    let t = node_run_parts s b acts os h in
+run_append s (b ∷ acts) a [] h = absurd (node_run_parts s b acts [] h)
+run_append s (b ∷ acts) a (x ∷ os) h =
+    let run = node_run_parts s b acts (x ∷ os) h in
     ap (option_and_then (λ o. option_map (λ xs. o ∷ xs) (node_run_from o.after (acts ++ a ∷ []))))
-    t.is_first
-    ∙ ap (option_map (λ xs. t.first ∷ xs)) (run_append t.first.after acts a t.others t.is_rest)
-    ∙ later_step t.first t.others (node_step (state_behind t.first.after t.others) a)
-    ∙ ap (λ (xs : List Outcome). option_map (λ o. xs ++ o ∷ []) (node_step (state_behind s xs) a))
-    (sym t.is_whole)
+    run.0
+    ∙ ap (option_map (λ xs. x ∷ xs)) (run_append x.after acts a os run.1)
+    ∙ later_step x os (node_step (state_behind x.after os) a)
 
 pub state_append : (s : State) (os : List Outcome) (o : Outcome)
     → o.after ≡ state_behind s (os ++ o ∷ [])
 state_append s [] o = refl
 state_append s (x ∷ os) o = state_append x.after os o
 
--- the stream of acts and one more
 pub stream_append : (acts : List NodeAct) (a : NodeAct) (os : List Outcome) (o : Outcome) (p : Pid)
     → length os ≡ length acts
     → node_stream (acts ++ a ∷ []) (os ++ o ∷ []) p ≡ node_stream acts os p
@@ -85,7 +82,6 @@ module _ (acts : List NodeAct) (a : NodeAct) (os : List Outcome) (o : Outcome)
   no_event true = refl
   no_event false = refl
 
-  -- an act without a report leaves all
   pub stream_silent : (p : Pid) → o.report ≡ None
       → node_stream (acts ++ a ∷ []) (os ++ o ∷ []) p ≡ node_stream acts os p
   stream_silent p silent =
@@ -104,17 +100,6 @@ module _ (acts : List NodeAct) (a : NodeAct) (os : List Outcome) (o : Outcome)
       ∙ ap (λ r. node_stream acts os p ++ option_to_list r) is
 
 -- THE FIRST ACTS
-
-pub run_take : (s : State) (acts : List NodeAct) (os : List Outcome) (n : ℕ)
-    → node_run_from s acts ≡ Some os → node_run_from s (take n acts) ≡ Some (take n os)
-run_take s acts os zero h = refl
-run_take s [] os (suc n) h = ap (λ (xs : List Outcome). Some (take (suc n) xs)) (same_Some [] os h)
-run_take s (a ∷ acts) os (suc n) h =
-    let t = node_run_parts s a acts os h in
-    ap (option_and_then (λ o. option_map (λ xs. o ∷ xs) (node_run_from o.after (take n acts))))
-    t.is_first
-    ∙ ap (option_map (λ xs. t.first ∷ xs)) (run_take t.first.after acts t.others n t.is_rest)
-    ∙ ap (λ (xs : List Outcome). Some (take (suc n) xs)) (sym t.is_whole)
 
 pub stream_take : (acts : List NodeAct) (os : List Outcome) (n : ℕ) (p : Pid)
     → IsPrefix (node_stream (take n acts) (take n os) p) (node_stream acts os p)

@@ -17,6 +17,7 @@ use Rattle.st_core.specs.Step.{Outcome}
 use Rattle.st_core.specs.Run.{Stream, pids_of}
 use Rattle.st_core.specs.Streams.{events_of}
 use Rattle.node_machine.specs.Node.{NodeAct, node_actor, node_run, node_step}
+use Rattle.node_machine.proofs.ForCallers.{node_run_take}
 use Rattle.node_streams.specs.Runs.{node_stream}
 use Rattle.node_check.specs.declared.verdict.NodeVerdict.{NodeVerdict}
 use Rattle.node_check.specs.declared.verdict.NodeVerdict.TheVariants as verdict
@@ -27,9 +28,8 @@ use Rattle.node_check.specs.Verdict.{IsNodeVerdict, IsPassingOnNode, left_on_nod
 use Rattle.node_check.specs.Verdict.{RefutesOnNo, ShowsOnNode}
 use Rattle.node_check.proofs.Matching.{counts_after_len, events_there, matched_more}
 use Rattle.node_check.proofs.Matching.{next_since_front, pid_at}
-use Rattle.node_check.proofs.Runs.{length_run, run_append, run_take, state_append, stream_take}
+use Rattle.node_check.proofs.Runs.{length_run, run_append, state_append, stream_take}
 
--- the first that passes a test
 found_first : {A : Type 0} (p : A → Bool) (xs : List A) (k : ℕ) (d : A) → k < length xs
     → p (get_or xs k d) ≡ true → ((j : ℕ) → j < k → p (get_or xs j d) ≡ false)
     → find p xs ≡ Some (get_or xs k d)
@@ -197,16 +197,13 @@ module _ (streams : List Stream) (rising : IsRising (pids_of streams)) (acts : L
 
 -- A NO
 
-prefix_through : (xs ys zs : List Event) → IsPrefix xs ys → ys ≡ zs → IsPrefix xs zs
-prefix_through xs ys zs front same = subst (IsPrefix xs) same front
-
 -- the first acts of a run that shows the streams pass
 passes_take : (streams : List Stream) (acts : List NodeAct) (n : ℕ) → ShowsOnNode streams acts
     → PassesOnNode streams (take n acts)
 passes_take streams acts n shows = (
   take n shows.0,
   record {
-    runs = run_take (zero_state (pids_of streams)) acts shows.0 n shows.1;
+    runs = node_run_take n (zero_state (pids_of streams)) acts shows.0 shows.1;
     fronts = λ k d within.
         let x = get_or streams k d in
         subst (IsPrefix (node_stream (take n acts) (take n shows.0) x.pid)) (shows.2 k d within)
@@ -234,7 +231,7 @@ pub no_shows : (streams : List Stream) (acts : List NodeAct) (v : NodeVerdict)
     → IsNodeVerdict streams acts v → RefutesOnNo streams acts v
 no_shows streams acts (verdict.Stuck n) is = λ shows.
     none-some (take (n + 1) shows.0)
-    (sym is.2 ∙ run_take (zero_state (pids_of streams)) acts shows.0 (n + 1) shows.1)
+    (sym is.2 ∙ node_run_take (n + 1) (zero_state (pids_of streams)) acts shows.0 shows.1)
 no_shows streams acts (verdict.Differs n) is = λ shows.
     is.3 (passes_take streams acts (n + 1) shows)
 no_shows streams acts (verdict.Left q) is = λ shows.

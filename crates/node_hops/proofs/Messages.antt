@@ -2,10 +2,10 @@
 -- received as were sent at most. So if each was reported when it was sent, the send that is as many
 -- alike ones after the first as the receive is came before it; and if there is none, one wasn't
 -- reported.
-use Rattle.std.proofs.Common.{◌≡◌, ℕ, ◌+◌, ◌<◌, ◌≤◌, ◌⊎◌, ◌&&◌, zero, suc, Bool, true, false}
-use Rattle.std.proofs.Common.{cond, List, [], ◌∷◌, ◌++◌, map, take, drop, Option, Some, None}
-use Rattle.std.proofs.Common.{is_some, option_and_then, option_map, option_to_list, inl, inr, refl}
-use Rattle.std.proofs.Common.{sym, ◌∙◌, ap, arith, subst}
+use Rattle.std.proofs.Common.{◌≡◌, ℕ, ◌+◌, ◌<◌, ◌≤◌, ◌⊎◌, ◌&&◌, zero, suc, Bool, true, false, cond}
+use Rattle.std.proofs.Common.{List, [], ◌∷◌, ◌++◌, map, take, drop, Option, Some, None, is_some}
+use Rattle.std.proofs.Common.{option_and_then, option_map, option_to_list, inl, inr, refl, sym, ◌∙◌}
+use Rattle.std.proofs.Common.{ap, arith, subst}
 use Rattle.std.specs.Prelude.{MatchOption}
 use Rattle.std.specs.List.{count_by, slice_get}
 use Rattle.std.specs.Option.{option_map_or}
@@ -25,21 +25,20 @@ use Rattle.st_core.specs.State.{process, State, zero_state}
 use Rattle.st_core.specs.Step.{Acted, changed, Outcome}
 use Rattle.st_core.specs.Streams.{events_of, IsStreams, lists, stream_of}
 use Rattle.st_core.specs.Laws.{AreAllListed, is_reset, IsLeastUnlisted}
-use Rattle.st_core.proofs.ForCallers.{event_reported, local_found, pid_eq-refl}
-use Rattle.st_core.proofs.ForCallers.{unlisted_is_least}
+use Rattle.st_core.proofs.ForCallers.{event_reported, local_found, pid_eq-refl, unlisted_is_least}
 use Rattle.st_pair.specs.Places.{event_at}
 use Rattle.node_machine.specs.Node.{machine_act, NodeAct, node_acted, node_actor, node_run}
 use Rattle.node_machine.specs.Node.{node_run_from}
 use Rattle.node_machine.proofs.ForCallers.{actor_same, alike_in, LastsFit, lasts_fit_then}
-use Rattle.node_machine.proofs.ForCallers.{node_process_after, node_run_parts, node_step_parts}
-use Rattle.node_machine.proofs.ForCallers.{NodeStepped, queue_step, report_own, SentAlike}
-use Rattle.node_machine.proofs.ForCallers.{takes_alike, zero_alike, zero_lasts_fit}
+use Rattle.node_machine.proofs.ForCallers.{node_process_after, node_run_parts, node_run_take}
+use Rattle.node_machine.proofs.ForCallers.{node_step_parts, NodeStepped, queue_step, report_own}
+use Rattle.node_machine.proofs.ForCallers.{SentAlike, takes_alike, zero_alike, zero_lasts_fit}
 use Rattle.node_streams.specs.declared.content.MessageContent.{MessageContent}
 use Rattle.node_streams.specs.Messages.{content_eq, content_of, owner, send_of, tells}
 use Rattle.node_streams.specs.Runs.{AreReported}
-use Rattle.node_streams.proofs.ForCallers.{content_itself, content_same, is_content}
-use Rattle.node_streams.proofs.ForCallers.{kind_same, listed_events, nth_is, nth_within, own_event}
-use Rattle.node_streams.proofs.ForCallers.{owner_is, receive_to}
+use Rattle.node_streams.proofs.ForCallers.{content_itself, content_same, is_content, kind_same}
+use Rattle.node_streams.proofs.ForCallers.{listed_events, nth_is, nth_within, own_event, owner_is}
+use Rattle.node_streams.proofs.ForCallers.{receive_to}
 use Rattle.node_hops.specs.Claims.{IsReported, IsSentBefore, IsSentUnreported, IsSilent}
 use Rattle.node_hops.specs.Claims.{NodeReports, ReportsLike, SendsLike, told_before}
 use Rattle.node_hops.proofs.Fronts.{stream_parts, told_by, told_next, told_rises}
@@ -215,28 +214,14 @@ module _ (c : MessageContent) (x : Pid) (to : c.to ≡ Some x) where
   pub told_or_unreported : (s : State) (acts : List NodeAct) (os : List Outcome)
       → node_run_from s acts ≡ Some os → LastsFit s → Balanced s acts os
   told_or_unreported s [] os h fit = inr (no_sum _)
-  told_or_unreported s (a ∷ rest) os h fit =
-      let run = node_run_parts s a rest os h in
-      let t = node_step_parts s a run.first run.is_first in
-      subst (Balanced s (a ∷ rest)) (sym run.is_whole)
-      (balanced s a run.first rest run.others t fit
-      (told_or_unreported run.first.after rest run.others run.is_rest
-      (lasts_fit_then s a run.first t fit)))
+  told_or_unreported s (a ∷ rest) [] h fit = absurd (node_run_parts s a rest [] h)
+  told_or_unreported s (a ∷ rest) (o ∷ os) h fit =
+      let run = node_run_parts s a rest (o ∷ os) h in
+      let t = node_step_parts s a o run.0 in
+      balanced s a o rest os t fit
+      (told_or_unreported o.after rest os run.1 (lasts_fit_then s a o t fit))
 
 -- A FRONT OF A RUN
-
-node_run_take : (n : ℕ) (s : State) (acts : List NodeAct) (os : List Outcome)
-    → node_run_from s acts ≡ Some os
-    → node_run_from s (take n acts) ≡ Some (take n os)
-node_run_take zero s acts os h = refl
-node_run_take (suc n) s [] os h = ap (λ xs. Some (take (suc n) xs)) (same_Some [] os h)
-node_run_take (suc n) s (a ∷ acts) os h =
-    let run = node_run_parts s a acts os h in
-    let rest = node_run_take n run.first.after acts run.others run.is_rest in
-    ap (option_and_then (λ o. option_map (λ xs. o ∷ xs) (node_run_from o.after (take n acts))))
-    run.is_first
-    ∙ ap (option_map (λ xs. run.first ∷ xs)) rest
-    ∙ ap (λ xs. Some (take (suc n) xs)) (sym run.is_whole)
 
 taken_at : {A : Type 0} (n : ℕ) (xs : List A) (k : ℕ) (y : A) → slice_get (take n xs) k ≡ Some y
     → k < n

@@ -1,8 +1,8 @@
 -- A run act by act: what an act of a process changes of it is what the act gives, and other acts
 -- change nothing of it.
-use Rattle.std.proofs.Common.{◌≡◌, ◌≢◌, ℕ, ◌<◌, ◌≤◌, ◌⊎◌, zero, suc, true, false, cond}
-use Rattle.std.proofs.Common.{List, [], ◌∷◌, Option, Some, None, option_and_then, inl}
-use Rattle.std.proofs.Common.{inr, refl, sym, ◌∙◌, ap, arith, subst}
+use Rattle.std.proofs.Common.{◌≡◌, ◌≢◌, ℕ, ◌<◌, ◌≤◌, ◌⊎◌, zero, suc, true, false, cond, List, []}
+use Rattle.std.proofs.Common.{◌∷◌, Option, Some, None, option_and_then, inl, inr, refl, sym, ◌∙◌}
+use Rattle.std.proofs.Common.{ap, arith, subst}
 use Rattle.std.specs.List.{slice_get}
 use Rattle.std.proofs.lemmas.Bool.{cases_order, false≢true}
 use Rattle.std.proofs.lemmas.Option.{same_Some, none-some}
@@ -15,12 +15,11 @@ use Rattle.st_core.proofs.ForCallers.{local_found, local_in, pid_eq-refl, pid_sa
 use Rattle.node_machine.specs.Node.{machine_act, NodeAct, node_acted, node_actor, node_run}
 use Rattle.node_machine.specs.Node.{node_run_from, node_step}
 use Rattle.node_machine.specs.Premises.{NoNodeReset}
-use Rattle.node_machine.proofs.ForCallers.{actor_found, actor_same, node_run_parts}
-use Rattle.node_machine.proofs.ForCallers.{node_step_parts, NodeStepped, other_same, SameButTraced}
-use Rattle.node_hops.specs.Gifts.{Begins, Follows, act_gift, gift_by, gift_to, moves_counters}
-use Rattle.node_hops.specs.Gifts.{Gift, latest_gift, PutsBack, state_at}
-use Rattle.node_hops.proofs.Gifts.{gift_is, IsGift, KeepsLabel, keeps_label, keeps_last}
-use Rattle.node_hops.proofs.Gifts.{same_token}
+use Rattle.node_machine.proofs.ForCallers.{actor_found, actor_same, node_run_parts, node_step_parts}
+use Rattle.node_machine.proofs.ForCallers.{NodeStepped, other_same, SameButTraced}
+use Rattle.node_hops.specs.Gifts.{Begins, Follows, act_gift, gift_by, gift_to, moves_counters, Gift}
+use Rattle.node_hops.specs.Gifts.{latest_gift, PutsBack, state_at}
+use Rattle.node_hops.proofs.Gifts.{gift_is, IsGift, KeepsLabel, keeps_label, keeps_last, same_token}
 
 -- THE STEP OF AN ACT
 
@@ -38,23 +37,21 @@ pub record StepAt (s : State) (os : List Outcome) (n : ℕ) (a : NodeAct) : Type
 pub step_at : (s : State) (acts : List NodeAct) (os : List Outcome) → node_run_from s acts ≡ Some os
     → (n : ℕ) (a : NodeAct) → slice_get acts n ≡ Some a → StepAt s os n a
 step_at s [] os h n a at = absurd (none-some a at)
-step_at s (b ∷ acts) os h zero a at =
-    let run = node_run_parts s b acts os h in
-    subst (λ xs. StepAt s xs zero a) (sym run.is_whole) (record {
-      outcome = run.first;
+step_at s (b ∷ acts) [] h n a at = absurd (node_run_parts s b acts [] h)
+step_at s (b ∷ acts) (o ∷ os) h zero a at =
+    let run = node_run_parts s b acts (o ∷ os) h in
+    record {
+      outcome = o;
       is = refl;
-      parts = node_step_parts s a run.first
-          (ap (node_step s) (sym (same_Some b a at)) ∙ run.is_first);
-    })
-step_at s (b ∷ acts) os h (suc n) a at =
-    let run = node_run_parts s b acts os h in
-    let rest = step_at run.first.after acts run.others run.is_rest n a at in
-    subst (λ xs. StepAt s xs (suc n) a) (sym run.is_whole) (record {
+      parts = node_step_parts s a o (ap (node_step s) (sym (same_Some b a at)) ∙ run.0);
+    }
+step_at s (b ∷ acts) (o ∷ os) h (suc n) a at =
+    let rest = step_at o.after acts os (node_run_parts s b acts (o ∷ os) h).1 n a at in
+    record {
       outcome = rest.outcome;
       is = rest.is;
-      parts = subst (λ x. NodeStepped x a rest.outcome)
-          (sym (later_state s run.first run.others n)) rest.parts;
-    })
+      parts = subst (λ x. NodeStepped x a rest.outcome) (sym (later_state s o os n)) rest.parts;
+    }
 
 plain_at : (acts : List NodeAct) (n : ℕ) (a : NodeAct) → NoNodeReset acts
     → slice_get acts n ≡ Some a → is_reset (machine_act a) ≡ false

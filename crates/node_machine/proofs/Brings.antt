@@ -1,9 +1,8 @@
 -- How an act of a process that reports its stamps changes its token, with the origin that it has. A
 -- receive shows in the message that it takes.
-use Rattle.std.proofs.Common.{◌≡◌, ℕ, ◌⊎◌, ◌&&◌, max, Bool, true, false, cond, List, [], ◌∷◌, Option}
-use Rattle.std.proofs.Common.{Some, None, IsSome, inl, inr, refl, ap}
+use Rattle.std.proofs.Common.{◌≡◌, ℕ, ◌⊎◌, ◌&&◌, max, Bool, true, false, cond, List, [], ◌∷◌}
+use Rattle.std.proofs.Common.{Option, Some, None, IsSome, inl, inr, refl, ap}
 use Rattle.std.specs.List.{slice_get, AllByRecursion}
-use Rattle.std.proofs.lemmas.Option.{same_Some, none-some}
 use Rattle.st_core.specs.declared.types.Pid.{Pid}
 use Rattle.st_core.specs.declared.types.Label.{Label}
 use Rattle.st_core.specs.declared.types.Token.{Token}
@@ -20,17 +19,18 @@ use Rattle.st_core.specs.Report.{token_event}
 use Rattle.st_core.specs.Step.{Acted, receives}
 use Rattle.st_core.specs.Laws.{moves_token}
 use Rattle.node_machine.specs.Counts.{answer_count, node_token, serial_count}
-use Rattle.node_machine.specs.Node.{after_set, Answer, Common, machine_act}
-use Rattle.node_machine.specs.Node.{node_acted, NodeAct, node_found, seen, takes_answer}
+use Rattle.node_machine.specs.Node.{after_set, Answer, Common, machine_act, node_acted, NodeAct}
+use Rattle.node_machine.specs.Node.{node_found, seen, takes_answer}
 use Rattle.node_machine.specs.Premises.{IsAmong}
 use Rattle.node_machine.specs.Origins.{AfterRestore, AfterSet, Follows, Held, TokenOrigin}
 use Rattle.node_machine.specs.ByMessages.{AfterAnswer, AfterTake, LabelRule, MayGive, OriginBySends}
-use Rattle.node_machine.specs.ByMessages.{Past, SendsTo, message_send, stamp_in, stamps_token, taken_by}
+use Rattle.node_machine.specs.ByMessages.{Past, SendsTo, message_send, stamp_in, stamps_token}
+use Rattle.node_machine.specs.ByMessages.{taken_by}
 use Rattle.node_machine.proofs.Carried.{set_moves, SetsLabel}
-use Rattle.node_machine.proofs.Counts.{FitsSerial, serial_fits}
+use Rattle.node_machine.proofs.Counts.{FitsSerial}
 use Rattle.node_machine.proofs.Lists.{among_at}
-use Rattle.node_machine.proofs.Moves.{emptied, IsBack, IsQuiet, IsStamp, is_plain}
-use Rattle.node_machine.proofs.Moves.{plain_stamps, StampMoves, unmoved}
+use Rattle.node_machine.proofs.Moves.{emptied, IsBack, IsQuiet, IsStamp, is_plain, plain_stamps}
+use Rattle.node_machine.proofs.Moves.{put_back, StampMoves, taken_token, unmoved}
 
 -- nothing is stamped, and the token stays or goes
 pub record Stays (l m : LocalState) (told : List Event) (before now : TokenOrigin) : Type 0 where
@@ -38,7 +38,6 @@ pub record Stays (l m : LocalState) (told : List Event) (before now : TokenOrigi
   pub quiet : IsQuiet l m
   pub origin : now ≡ before
 
--- the token is stamped
 pub record Stamps (l m : LocalState) (told : List Event) (before now : TokenOrigin) : Type 0 where
   pub event : Event
   pub is : told ≡ event ∷ []
@@ -66,7 +65,6 @@ pub record Makes (Own : Label → Type 0) (l m : LocalState) (told : List Event)
   pub silent : told ≡ []
   pub made : SetsLabel Own l m now
 
--- the token is put back
 pub record PutsBack (Own : Label → Type 0) (held : List Held) (m : LocalState) (told : List Event)
     (now : TokenOrigin) : Type 0 where
   pub silent : told ≡ []
@@ -124,19 +122,21 @@ module _ (sent : SendsTo) (rule : LabelRule) (past : Past) (held : List Held)
       → Brings taken r.local done.local (stamp_in done.report))
   take_brings r place from v None same =
       inl (record { silent = refl; quiet = emptied r.local; origin = same })
-  take_brings r place from v (Some t) came = inr (inr (inl (record {
-    silent = no_stamp (r.local.traced && t.flags.receive) (node_token t) r.pid v;
-    gift = token_event kind.Send (node_token t) (Some r.pid) v;
-    is = refl;
-    index = came.0;
-    at = came.1;
-    origin = came.2;
-    fits = serial_fits t.serial.this;
-    clock = refl;
-    last = refl;
-    token = λ u at. ap (λ (x : Token). x.serial) (same_Some (node_token t) u at);
-    label = λ u at. ap (λ (x : Token). x.label) (same_Some (node_token t) u at);
-  })))
+  take_brings r place from v (Some t) came =
+      let take = taken_token r.local r.pid v t in
+      inr (inr (inl (record {
+        silent = no_stamp (r.local.traced && t.flags.receive) (node_token t) r.pid v;
+        gift = token_event kind.Send (node_token t) (Some r.pid) v;
+        is = refl;
+        index = came.0;
+        at = came.1;
+        origin = came.2;
+        fits = take.fits;
+        clock = refl;
+        last = refl;
+        token = take.token;
+        label = take.label;
+      })))
 
   receive_brings : (r : Process) (found : Option (ℕ × Message))
       → (let done : Acted = receives r (node_found found) in
@@ -152,8 +152,8 @@ module _ (sent : SendsTo) (rule : LabelRule) (past : Past) (held : List Held)
   answer_brings : (r : Process) (place : ℕ) (from : Pid) (v : ℕ) (token : Option Token)
       → (let m : Message = record { from = from; value = v; token = token } in
       let done : Acted = takes_answer r (node_found (Some (place, m))) in
-      AfterAnswer sent.answers past.asked (message_send r.pid (node_found (Some (place, m)))) past.origin
-      now
+      AfterAnswer sent.answers past.asked (message_send r.pid (node_found (Some (place, m))))
+      past.origin now
       → Brings [] r.local done.local (stamp_in done.report))
   answer_brings r place from v None same =
       inl (record { silent = refl; quiet = unmoved r.local; origin = same })
@@ -206,22 +206,14 @@ module _ (sent : SendsTo) (rule : LabelRule) (past : Past) (held : List Held)
   pub node_brings : (a : NodeAct) (r : Process) → PartBrings a r (node_acted r a)
   node_brings (Answer p place) r is came = answers_bring r (pick (want.Place place) r.queue) came
   node_brings (Common (act.Receive p w)) r is came = receive_brings r (pick w r.queue) came
-  node_brings (Common (act.Set p c)) r is after =
-      set_brings r.pid r.local c after
+  node_brings (Common (act.Set p c)) r is after = set_brings r.pid r.local c after
   node_brings (Common (act.Restore p t)) r is after = inr (inr (inr (inr (inl (record {
     token = node_token t;
     silent = refl;
-    back = record { fits = serial_fits t.serial.this; clock = refl; last = refl; token = refl };
+    back = put_back r.local t;
     after = after;
   })))))
-  node_brings (Common (act.Send p q v)) r is same = plain_brings (act.Send p q v) r refl is same
-  node_brings (Common (act.Print p v)) r is same = plain_brings (act.Print p v) r refl is same
-  node_brings (Common (act.PrintAt p n v)) r is same =
-      plain_brings (act.PrintAt p n v) r refl is same
-  node_brings (Common (act.Clear p)) r is same = plain_brings (act.Clear p) r refl is same
-  node_brings (Common (act.Look p)) r is same = plain_brings (act.Look p) r refl is same
-  node_brings (Common (act.Reset p)) r is same = plain_brings (act.Reset p) r refl is same
-  node_brings (Common (act.Tracer p b)) r is same = plain_brings (act.Tracer p b) r refl is same
+  node_brings (Common a) r is same = plain_brings a r refl is same
 
   -- the sends of what is taken are gifts
   gifts_found : (r : Process) (place : ℕ) (from : Pid) (v : ℕ) (token : Option Token)
@@ -242,14 +234,5 @@ module _ (sent : SendsTo) (rule : LabelRule) (past : Past) (held : List Held)
 
   pub gifts_taken : (a : NodeAct) (r : Process) → OriginBySends sent rule past held r a now
       → AllByRecursion (IsAmong sent.gifts) (taken_by r a)
-  gifts_taken (Answer p place) r came = tt
   gifts_taken (Common (act.Receive p w)) r came = gifts_in r (pick w r.queue) came
-  gifts_taken (Common (act.Set p c)) r came = tt
-  gifts_taken (Common (act.Restore p t)) r came = tt
-  gifts_taken (Common (act.Send p q v)) r came = tt
-  gifts_taken (Common (act.Print p v)) r came = tt
-  gifts_taken (Common (act.PrintAt p n v)) r came = tt
-  gifts_taken (Common (act.Clear p)) r came = tt
-  gifts_taken (Common (act.Look p)) r came = tt
-  gifts_taken (Common (act.Reset p)) r came = tt
-  gifts_taken (Common (act.Tracer p b)) r came = tt
+  gifts_taken a r came = tt

@@ -1,8 +1,7 @@
 -- In each run of the node each token of a process that reports its stamps is one whose origin its
 -- stamps and the sends to it allow: so they allow the origins of its stamps.
-use Rattle.std.proofs.Common.{◌≡◌, ℕ, ◌+◌, ◌⊎◌, zero, suc, true, false, List, [], ◌∷◌}
-use Rattle.std.proofs.Common.{◌++◌, map, length, Option, Some, None, IsSome, option_map}
-use Rattle.std.proofs.Common.{option_and_then, option_to_list, inl, inr, refl, arith, sym, ◌∙◌, ap}
+use Rattle.std.proofs.Common.{◌≡◌, ℕ, ◌+◌, ◌⊎◌, true, false, List, [], ◌∷◌, ◌++◌, map, length}
+use Rattle.std.proofs.Common.{Option, Some, None, IsSome, inl, inr, refl, arith, sym, ◌∙◌, ap}
 use Rattle.std.proofs.Common.{subst, append_assoc, append-nil, if◌then◌else◌}
 use Rattle.std.specs.List.{slice_get, AllByRecursion}
 use Rattle.std.proofs.lemmas.Option.{same_Some, none-some}
@@ -12,7 +11,7 @@ use Rattle.st_core.specs.declared.types.Kind.TheVariants as kind
 use Rattle.st_core.specs.declared.types.Event.{Event}
 use Rattle.st_core.specs.Event.{kind_eq}
 use Rattle.st_core.specs.Pid.{pid_eq}
-use Rattle.st_core.specs.State.{LocalState, Process, State, process, zero_local, zero_state}
+use Rattle.st_core.specs.State.{LocalState, State, process, zero_local, zero_state}
 use Rattle.st_core.specs.Step.{Outcome}
 use Rattle.st_core.proofs.ForCallers.{local_found, local_in, pid_same, zero_found}
 use Rattle.node_machine.specs.Counts.{serial_count}
@@ -21,30 +20,27 @@ use Rattle.node_machine.specs.Premises.{IsAmong, NoNodeReset}
 use Rattle.node_machine.specs.Given.{fresh}
 use Rattle.node_machine.specs.Origins.{Held, held_in, Home, TokenOrigin}
 use Rattle.node_machine.specs.ByMessages.{CanBeClock, CanBeHeld, CanBySends, clock_at_zero}
-use Rattle.node_machine.specs.ByMessages.{held_now, LabelRule}
-use Rattle.node_machine.specs.ByMessages.{made_at_zero}
-use Rattle.node_machine.specs.ByMessages.{no_past, OriginsAreBySends, Past, ReportsStamps}
-use Rattle.node_machine.specs.ByMessages.{send_in, SendsTo, stamp_in, stamp_origins}
-use Rattle.node_machine.specs.ByMessages.{stamp_stream, taken_by, taken_found}
+use Rattle.node_machine.specs.ByMessages.{held_now, LabelRule, made_at_zero, no_past}
+use Rattle.node_machine.specs.ByMessages.{OriginsAreBySends, Past, ReportsStamps, send_in, SendsTo}
+use Rattle.node_machine.specs.ByMessages.{stamp_in, stamp_origins, stamp_stream, taken_by}
+use Rattle.node_machine.specs.ByMessages.{taken_found}
 use Rattle.node_machine.proofs.Brings.{Brings, gifts_taken, node_brings, PartBrings}
 use Rattle.node_machine.proofs.Counts.{serial_same}
-use Rattle.node_machine.proofs.Lists.{all_append, all_change}
-use Rattle.node_machine.proofs.Lists.{item_behind, length_more, length_push}
-use Rattle.node_machine.proofs.Steps.{actor_found, actor_same, node_run_parts, node_step_parts}
-use Rattle.node_machine.proofs.Steps.{other_same, SameButTraced}
+use Rattle.node_machine.proofs.Lists.{all_append, all_change, item_behind, length_more, length_push}
+use Rattle.node_machine.proofs.Lists.{AllAlong, along_at}
+use Rattle.node_machine.proofs.Steps.{of_token, actor_found, actor_same, node_run_parts}
+use Rattle.node_machine.proofs.Steps.{node_step_parts, other_same, SameButTraced}
 use Rattle.node_machine.proofs.HeldBySends.{AreGifts, AreKnown, HasTokens, InForce, IsKnown}
-use Rattle.node_machine.proofs.HeldBySends.{IsSmall, JustStamped}
-use Rattle.node_machine.proofs.HeldBySends.{hold_later, in_force_more, in_force_same, known_more}
-use Rattle.node_machine.proofs.HeldBySends.{next_just, next_known, next_tokens, now_can, told_more}
+use Rattle.node_machine.proofs.HeldBySends.{IsSmall, JustStamped, hold_later, in_force_more}
+use Rattle.node_machine.proofs.HeldBySends.{in_force_same, known_more, next_just, next_known}
+use Rattle.node_machine.proofs.HeldBySends.{next_tokens, now_can, told_more}
 
 module _ (sent : SendsTo) (rule : LabelRule) (all : List Event) where
   abbrev Can : ℕ → TokenOrigin → Type 0
   Can = CanBySends sent rule all
 
   abbrev AllCan : ℕ → List Event → List TokenOrigin → Type 0
-  AllCan n [] hs = Unit {0}
-  AllCan n (e ∷ es) [] = Unit {0}
-  AllCan n (e ∷ es) (h ∷ hs) = Can n h × AllCan (suc n) es hs
+  AllCan = AllAlong (λ n _ h. Can n h)
 
   held_later : (es more taken new : List Event) (held : List Held)
       → AllByRecursion (IsKnown sent rule all es taken) held
@@ -57,22 +53,6 @@ module _ (sent : SendsTo) (rule : LabelRule) (all : List Event) where
             (length_more es more) is.0,
         told_more sent rule all es more taken new x.serial is.1,
       )) held known
-
-  held_known : (es taken : List Event) (found : Option Process) (h : TokenOrigin)
-      → HasTokens sent rule all es taken (local_found found) h
-      → AllByRecursion (IsKnown sent rule all es taken) (option_to_list (option_map
-      (λ (t : Token). let x : Held =
-      record { serial = t.serial; label = t.label; origin = h } in x)
-      (option_and_then (λ (r : Process). r.local.token) found)))
-  held_known es taken None h has = tt
-  held_known es taken (Some r) h has =
-      elim r.local.token as (λ o. r.local.token ≡ o → AllByRecursion (IsKnown sent rule all es
-      taken)
-      (option_to_list (option_map (λ (t : Token). let x : Held =
-      record { serial = t.serial; label = t.label; origin = h } in x) o))) [
-        | None ↦ λ _. tt
-        | Some t ↦ λ is. (((has t is).can, (has t is).told), tt)
-      ] refl
 
   known_traced : (es taken : List Event) (l m : LocalState) → SameButTraced l m
       → AreKnown sent rule all es taken l → AreKnown sent rule all es taken m
@@ -124,9 +104,8 @@ module _ (sent : SendsTo) (rule : LabelRule) (all : List Event) where
 
   can_from : (s : State) (acts : List NodeAct) (os : List Outcome) (hs : List TokenOrigin) (p : Pid)
       (past : Past)
-      → all ≡ past.stamped ++ stamp_stream acts os p → node_run_from s acts ≡ Some os →
-      NoNodeReset acts
-      → ReportsStamps p s acts os
+      → all ≡ past.stamped ++ stamp_stream acts os p → node_run_from s acts ≡ Some os
+      → NoNodeReset acts → ReportsStamps p s acts os
       → OriginsAreBySends sent rule p past s acts os hs → AreGifts sent rule all past.taken
       → AllByRecursion (IsKnown sent rule all past.stamped past.taken) past.held
       → AreKnown sent rule all past.stamped past.taken (local_in s p)
@@ -135,33 +114,26 @@ module _ (sent : SendsTo) (rule : LabelRule) (all : List Event) where
       → (local_in s p).token ≡ Some t
       → JustStamped sent rule all past.stamped request t.label past.origin)
       → AllCan (length past.stamped) (stamp_stream acts os p) (stamp_origins acts os hs p)
-  can_from s [] os hs p past split h none all_told origins gifts known are has just = tt
-  can_from s (a ∷ acts) os [] p past split h none all_told origins gifts known are has just =
-      let t = node_run_parts s a acts os h in
-      absurd (subst (λ xs. OriginsAreBySends sent rule p past s (a ∷ acts) xs []) t.is_whole
-      origins)
-  can_from s (a ∷ acts) os (now ∷ hs) p past split h none all_told origins gifts known are has
+  can_from s [] os hs p past split h none told parts gifts known are has just = tt
+  can_from s (a ∷ acts) [] hs p past split h none told parts gifts known are has just = tt
+  can_from s (a ∷ acts) (o ∷ os) [] p past split h none told parts gifts known are has just =
+      absurd parts
+  can_from s (a ∷ acts) (o ∷ os) (now ∷ hs) p past split h none told parts gifts known are has
       just =
-      let t = node_run_parts s a acts os h in
-      let o = t.first in
+      let run = node_run_parts s a acts (o ∷ os) h in
+      let x = node_step_parts s a o run.0 in
       let es = past.stamped in
       let taken = past.taken in
-      let tail = stamp_stream acts t.others p in
-      let later = stamp_origins acts t.others hs p in
-      let told = subst (ReportsStamps p s (a ∷ acts)) t.is_whole all_told in
-      let parts = subst (λ xs. OriginsAreBySends sent rule p past s (a ∷ acts) xs (now ∷ hs))
-      t.is_whole origins in
-      let whole = subst (λ xs. all ≡ es ++ stamp_stream (a ∷ acts) xs p) t.is_whole split in
-      let x = node_step_parts s a o t.is_first in
+      let tail = stamp_stream acts os p in
+      let later = stamp_origins acts os hs p in
       let holds = held_now p s past in
       let have : AllByRecursion (IsKnown sent rule all es taken) holds =
       all_append (IsKnown sent rule all es taken) past.held (held_in s p past.origin) known
-      (held_known es taken (process s p) past.origin has) in
+      (of_token (IsKnown sent rule all es taken) (λ (t : Token). let y : Held =
+      record { serial = t.serial; label = t.label; origin = past.origin } in y) (process s p)
+      (λ t is. ((has t is).can, (has t is).told))) in
       let new = taken_found (process s p) a in
-      subst (λ xs. AllCan (length es) (stamp_stream (a ∷ acts) xs p) (stamp_origins (a ∷ acts) xs
-      (now ∷ hs) p))
-      (sym t.is_whole)
-      (elim (pid_eq (node_actor a) p) as (λ b. pid_eq (node_actor a) p ≡ b
+      elim (pid_eq (node_actor a) p) as (λ b. pid_eq (node_actor a) p ≡ b
       → all ≡ es ++ ((if b then stamp_in o.report else []) ++ tail)
       → (let next : Past = record {
         stamped = es ++ (if b then stamp_in o.report else []);
@@ -169,7 +141,7 @@ module _ (sent : SendsTo) (rule : LabelRule) (all : List Event) where
         held = holds;
         asked = if b then send_in o.report else past.asked;
         origin = now;
-      } in OriginsAreBySends sent rule p next o.after acts t.others hs)
+      } in OriginsAreBySends sent rule p next o.after acts os hs)
       → AllCan (length es) ((if b then stamp_in o.report else []) ++ tail)
       (map (λ _. now) (if b then stamp_in o.report else []) ++ later)) [
         | true ↦ λ mine here are_later.
@@ -231,8 +203,8 @@ module _ (sent : SendsTo) (rule : LabelRule) (all : List Event) where
             here there gifts
             was have had asked brings request (send_stamp o.report request is) u
             (sym to.token ∙ at) in
-            let rest = can_from o.after acts t.others hs p next
-            (here ∙ sym (append_assoc es line tail)) t.is_rest none.1 told.1 are_later more_gifts
+            let rest = can_from o.after acts os hs p next
+            (here ∙ sym (append_assoc es line tail)) run.1 none.1 told.1 are_later more_gifts
             (held_later es line taken new holds have) counts tokens just_later in
             can_part es line tail now later (stamp_shape o.report)
             (now_can sent rule all past holds (line ++ tail) new r.local x.done.local line now
@@ -248,9 +220,8 @@ module _ (sent : SendsTo) (rule : LabelRule) (all : List Event) where
               asked = past.asked;
               origin = now;
             } in
-            let more_gifts : AreGifts sent rule all (taken ++ []) = subst (AreGifts sent rule
-            all) (sym (append-nil taken)) gifts
-            in
+            let more_gifts : AreGifts sent rule all (taken ++ []) =
+            subst (AreGifts sent rule all) (sym (append-nil taken)) gifts in
             let tokens : HasTokens sent rule all (es ++ []) (taken ++ []) (local_in o.after p)
             now = λ u is.
             subst (λ xs. InForce sent rule all xs (taken ++ []) (local_in o.after p) u now)
@@ -267,27 +238,15 @@ module _ (sent : SendsTo) (rule : LabelRule) (all : List Event) where
             subst (λ xs. JustStamped sent rule all xs request u.label now) (sym (append-nil es))
             (subst (JustStamped sent rule all es request u.label) (sym same)
             (just request is u (sym to.token ∙ at))) in
-            let rest = can_from o.after acts t.others hs p next
-            (here ∙ sym (append_assoc es [] tail)) t.is_rest none.1 told.1 are_later more_gifts
+            let rest = can_from o.after acts os hs p next
+            (here ∙ sym (append_assoc es [] tail)) run.1 none.1 told.1 are_later more_gifts
             (held_later es [] taken [] holds have)
             (known_more sent rule all es [] taken [] (local_in s p) (local_in o.after p) to.clock
             to.last are)
             tokens just_later in
             can_part es [] tail now later (inl refl)
             (λ e is. absurd (none-some e (ap (λ (xs : List Event). slice_get xs 0) is))) rest
-      ] refl whole parts.2)
-
-  can_at : (n : ℕ) (es : List Event) (hs : List TokenOrigin) (i : ℕ) (e : Event) (h : TokenOrigin)
-      → AllCan n es hs → slice_get es i ≡ Some e → slice_get hs i ≡ Some h
-      → Can (n + i) h
-  can_at n [] hs i e h can at is = absurd (none-some e at)
-  can_at n (d ∷ es) [] i e h can at is = absurd (none-some h is)
-  can_at n (d ∷ es) (g ∷ hs) zero e h can at is =
-      let same : n ≡ n + 0 = omega arith in
-      subst (λ k. Can k h) same (subst (Can n) (same_Some g h is) can.0)
-  can_at n (d ∷ es) (g ∷ hs) (suc i) e h can at is =
-      let same : suc n + i ≡ n + suc i = omega arith in
-      subst (λ k. Can k h) same (can_at (suc n) es hs i e h can.1 at is)
+      ] refl split parts.2
 
   zero_known : AreKnown sent rule all [] [] zero_local
   zero_known = record {
@@ -312,6 +271,7 @@ origins_by_sends pids acts os run none p tells sent rule hs origins i e h at is 
     let whole = can_from sent rule all (zero_state pids) acts os hs p no_past refl run none tells
     origins tt tt (subst (AreKnown sent rule all [] []) (sym (zero_found pids p))
     (zero_known sent rule all)) empty (λ request asks. absurd (none-some request asks)) in
-    let found = can_at sent rule all 0 all (stamp_origins acts os hs p) i e h whole at is in
+    let found = along_at (λ n _ h. CanBySends sent rule all n h) 0 all (stamp_origins acts os hs p)
+    i e h whole at is in
     let same : 0 + i ≡ i = omega arith in
     subst (λ k. CanBySends sent rule all k h) same found

@@ -1,8 +1,8 @@
 -- How an act of the node that is reported if it moves a token changes its actor's token, with the
 -- origin that it has.
 use Rattle.std.proofs.Common.{◌≡◌, ℕ, ◌⊎◌, ◌&&◌, Bool, true, false, cond, List, length, Option}
-use Rattle.std.proofs.Common.{Some, None}
-use Rattle.std.proofs.Common.{is_some, IsSome, option_map, inl, inr, refl, ◌∙◌, ap, subst}
+use Rattle.std.proofs.Common.{Some, None, is_some, IsSome, option_map, inl, inr, refl, ◌∙◌, ap}
+use Rattle.std.proofs.Common.{subst}
 use Rattle.std.specs.Option.{option_map_or}
 use Rattle.std.proofs.lemmas.Bool.{false≢true}
 use Rattle.std.proofs.lemmas.Option.{same_Some, none-some}
@@ -25,13 +25,12 @@ use Rattle.st_core.specs.Step.{Acted, receives}
 use Rattle.st_core.specs.Laws.{moves_token}
 use Rattle.node_machine.specs.Counts.{node_token}
 use Rattle.node_machine.specs.Node.{after_answer, after_set, Answer, Common, fresh_token, is_answer}
-use Rattle.node_machine.specs.Node.{machine_act, node_acted, node_found}
-use Rattle.node_machine.specs.Node.{NodeAct, Seen, seen, takes_answer}
+use Rattle.node_machine.specs.Node.{machine_act, node_acted, node_found, NodeAct, Seen, seen}
+use Rattle.node_machine.specs.Node.{takes_answer}
 use Rattle.node_machine.specs.Origins.{AfterRestore, AfterSet, Follows, Held, Home, IsOwnLabel}
 use Rattle.node_machine.specs.Origins.{TokenOrigin, OriginAfter}
-use Rattle.node_machine.proofs.Counts.{serial_fits}
-use Rattle.node_machine.proofs.Moves.{emptied, IsAnswered, IsBack, IsQuiet, IsStamp, IsStill}
-use Rattle.node_machine.proofs.Moves.{IsTake, is_plain}
+use Rattle.node_machine.proofs.Moves.{answered_token, put_back, taken_token, emptied, IsAnswered}
+use Rattle.node_machine.proofs.Moves.{IsBack, IsQuiet, IsStamp, IsStill, IsTake, is_plain}
 use Rattle.node_machine.proofs.Moves.{plain_stamps, set_serial, StampMoves, unmoved}
 
 -- A SET
@@ -92,12 +91,7 @@ module _ (Own : Label → Type 0) (before now : TokenOrigin) where
         let made : Token = with_component (component.Label x) u in
         subst (λ (y : Token). Own y.label) (same_Some made t is) after.1;
   })
-  set_moves p l (Some u) (component.Send b) had after =
-      quiet_set l u (with_component (component.Send b) u) had refl refl after
-  set_moves p l (Some u) (component.Receive b) had after =
-      quiet_set l u (with_component (component.Receive b) u) had refl refl after
-  set_moves p l (Some u) (component.Print b) had after =
-      quiet_set l u (with_component (component.Print b) u) had refl refl after
+  set_moves p l (Some u) c had after = quiet_set l u (with_component c u) had refl refl after
 
 -- nothing is reported, and the token stays or goes
 pub record StaysQuiet (l m : LocalState) (told : Option Seen) (before now : TokenOrigin) : Type 0
@@ -106,7 +100,6 @@ pub record StaysQuiet (l m : LocalState) (told : Option Seen) (before now : Toke
     pub quiet : IsQuiet l m
     pub origin : now ≡ before
 
--- the token was stamped
 pub record IsStamped (l m : LocalState) (told : Option Seen) (before now : TokenOrigin) : Type 0
   where
     pub event : Seen
@@ -114,7 +107,6 @@ pub record IsStamped (l m : LocalState) (told : Option Seen) (before now : Token
     pub stamp : IsStamp l m event
     pub origin : now ≡ before
 
--- the token came with a message
 pub record CameWith (k : ℕ) (l m : LocalState) (told : Option Seen) (now : TokenOrigin) : Type 0
   where
     pub event : Seen
@@ -138,7 +130,6 @@ pub record IsMade (front rest : List Seen) (l m : LocalState) (told : Option See
   pub origin : now ≡ Home
   pub own : (t : Token) → m.token ≡ Some t → IsOwnLabel front rest t.label
 
--- the token was put back
 pub record CameBack (front rest : List Seen) (held : List Held) (m : LocalState)
     (told : Option Seen) (now : TokenOrigin) : Type 0 where
   pub token : Token
@@ -186,15 +177,7 @@ module _ (front rest : List Seen) (held : List Held) (before now : TokenOrigin) 
         | true ↦ λ is. inr (inr (inl (record {
           event = seen false (token_event kind.Receive (node_token t) (Some r.pid) v);
           is = refl;
-          take = record {
-            kind = refl;
-            answer = refl;
-            fits = serial_fits t.serial.this;
-            clock = refl;
-            last = refl;
-            token = λ u at. ap (λ (x : Token). x.serial) (same_Some (node_token t) u at);
-            label = λ u at. ap (λ (x : Token). x.label) (same_Some (node_token t) u at);
-          };
+          take = taken_token r.local r.pid v t;
           origin = same;
         })))
         | false ↦ λ is. absurd (false≢true is)
@@ -249,13 +232,7 @@ module _ (front rest : List Seen) (held : List Held) (before now : TokenOrigin) 
         | true ↦ λ is. inr (inr (inr (inr (inr (record {
           event = seen true (token_event kind.Receive (node_token t) (Some r.pid) v);
           is = refl;
-          answer = record {
-            kind = refl;
-            answer = refl;
-            clock = refl;
-            last = refl;
-            token = refl;
-          };
+          answer = answered_token r.local r.pid v t;
           origin = same;
         })))))
         | false ↦ λ is. absurd (false≢true is)
@@ -282,19 +259,11 @@ module _ (front rest : List Seen) (held : List Held) (before now : TokenOrigin) 
   node_carries (Answer p place) r is after =
       answers_carry r (pick (want.Place place) r.queue) is after
   node_carries (Common (act.Receive p w)) r is after = received_carries r (pick w r.queue) is after
-  node_carries (Common (act.Set p c)) r is after =
-      set_carries r.pid r.local c after
+  node_carries (Common (act.Set p c)) r is after = set_carries r.pid r.local c after
   node_carries (Common (act.Restore p t)) r is after = inr (inr (inr (inr (inl (record {
     token = node_token t;
     silent = refl;
-    back = record { fits = serial_fits t.serial.this; clock = refl; last = refl; token = refl };
+    back = put_back r.local t;
     after = after;
   })))))
-  node_carries (Common (act.Send p q v)) r is same = plain_carries (act.Send p q v) r refl is same
-  node_carries (Common (act.Print p v)) r is same = plain_carries (act.Print p v) r refl is same
-  node_carries (Common (act.PrintAt p n v)) r is same =
-      plain_carries (act.PrintAt p n v) r refl is same
-  node_carries (Common (act.Clear p)) r is same = plain_carries (act.Clear p) r refl is same
-  node_carries (Common (act.Look p)) r is same = plain_carries (act.Look p) r refl is same
-  node_carries (Common (act.Reset p)) r is same = plain_carries (act.Reset p) r refl is same
-  node_carries (Common (act.Tracer p b)) r is same = plain_carries (act.Tracer p b) r refl is same
+  node_carries (Common a) r is same = plain_carries a r refl is same

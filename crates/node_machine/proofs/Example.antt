@@ -17,15 +17,15 @@ use Rattle.node_machine.specs.Premises.{NoNodeReset, put_backs, PutsBackOwn, Rep
 use Rattle.node_machine.specs.Readings.{NeedsAtLeast}
 use Rattle.node_machine.specs.Origins.{AnswersComeNext, Follows, Held, Home, OriginAfter}
 use Rattle.node_machine.specs.Origins.{OriginsAre}
-use Rattle.node_machine.specs.ByMessages.{CanBySends, clock_by_gift, gift_taken}
-use Rattle.node_machine.specs.ByMessages.{AfterTake, no_past, OriginsAreBySends, other_label}
-use Rattle.node_machine.specs.ByMessages.{ReportsSendsTo, ReportsStamps, sends_to, message_send}
-use Rattle.node_machine.specs.ByMessages.{stamp_origins, stamp_stream}
+use Rattle.node_machine.specs.ByMessages.{CanBySends, clock_by_gift, gift_taken, AfterTake, no_past}
+use Rattle.node_machine.specs.ByMessages.{OriginsAreBySends, other_label, ReportsSendsTo}
+use Rattle.node_machine.specs.ByMessages.{ReportsStamps, sends_to, message_send, stamp_origins}
+use Rattle.node_machine.specs.ByMessages.{stamp_stream}
 use Rattle.node_machine.specs.Example.{all_come, all_home, first_token, printer, prints_again}
 use Rattle.node_machine.specs.Example.{both_sends, other_send, other_sender, prints_what_came}
 use Rattle.node_machine.specs.Example.{reported_sends, second_comes, sender, sends_silently}
-use Rattle.node_machine.specs.Example.{the_print, the_send, the_sends, three}
-use Rattle.node_machine.specs.Example.{wrapped_serials, wraps}
+use Rattle.node_machine.specs.Example.{the_print, the_send, the_sends, three, wrapped_serials}
+use Rattle.node_machine.specs.Example.{wraps}
 
 abbrev pub outcomes : List Outcome
 outcomes = elim (node_run (printer ∷ []) prints_again) as (λ _. List Outcome) [
@@ -308,7 +308,11 @@ come_origins = (
       (
         λ mine. absurd (apart mine),
         λ _. refl,
-        (λ _ r is. receive_brings r is, λ no. absurd (false≢true (sym no)), (λ _ r _. refl, λ _. refl, tt)),
+        (
+          λ _ r is. receive_brings r is,
+          λ no. absurd (false≢true (sym no)),
+          (λ _ r _. refl, λ _. refl, tt),
+        ),
       ),
     ),
   ),

@@ -1,9 +1,9 @@
 -- In each run of the node each token that a process holds is one whose origin its events allow: so
 -- they allow the origins of its stamps.
-use Rattle.std.proofs.Common.{◌≡◌, ◌≢◌, ℕ, ◌+◌, ◌<◌, ◌≤◌, ◌⊎◌, zero, suc, Bool, true, false, List}
-use Rattle.std.proofs.Common.{[], ◌∷◌, ◌++◌, length, max, take, Option, Some, None, is_some, IsSome}
-use Rattle.std.proofs.Common.{option_map, option_and_then, option_to_list, inl, inr, refl, arith}
-use Rattle.std.proofs.Common.{sym, ◌∙◌, ap, subst, append_assoc, append-nil, if◌then◌else◌}
+use Rattle.std.proofs.Common.{◌≡◌, ◌≢◌, ℕ, ◌+◌, ◌<◌, ◌≤◌, ◌⊎◌, suc, Bool, true, false, List, []}
+use Rattle.std.proofs.Common.{◌∷◌, ◌++◌, length, max, take, Option, Some, None, is_some, IsSome}
+use Rattle.std.proofs.Common.{option_map, option_to_list, inl, inr, refl, arith, sym, ◌∙◌, ap}
+use Rattle.std.proofs.Common.{subst, append_assoc, append-nil, if◌then◌else◌}
 use Rattle.std.specs.List.{slice_get, AllByRecursion}
 use Rattle.std.specs.Option.{option_map_or}
 use Rattle.std.proofs.lemmas.Bool.{false≢true}
@@ -31,10 +31,10 @@ use Rattle.node_machine.specs.Origins.{answered, AnswersComeNext, Can, Follows, 
 use Rattle.node_machine.specs.Origins.{home, IsOwnLabel, TokenOrigin, OriginAfter, OriginsAre}
 use Rattle.node_machine.specs.Origins.{origins_told, received, stamped, taken, told_send}
 use Rattle.node_machine.proofs.Counts.{next_of_clock}
-use Rattle.node_machine.proofs.Lists.{all_append, all_change, all_of, item_behind, length_more}
-use Rattle.node_machine.proofs.Lists.{length_push, take_front}
-use Rattle.node_machine.proofs.Steps.{node_run_parts, node_step_parts}
-use Rattle.node_machine.proofs.Steps.{actor_found, actor_same, other_same}
+use Rattle.node_machine.proofs.Lists.{AllAlong, along_at, all_append, all_change, all_of}
+use Rattle.node_machine.proofs.Lists.{item_behind, length_more, length_push, take_front}
+use Rattle.node_machine.proofs.Steps.{node_run_parts, node_step_parts, of_token, actor_found}
+use Rattle.node_machine.proofs.Steps.{actor_same, other_same}
 use Rattle.node_machine.proofs.Tokens.{tokens_more}
 use Rattle.node_machine.proofs.Givens.{AreTold, IsHeld, no_receive, reached_way, step_moves}
 use Rattle.node_machine.proofs.Givens.{step_told, told_same, zero_told}
@@ -43,27 +43,26 @@ use Rattle.node_machine.proofs.Carried.{CameBack, Carries, IsStamped, node_carri
 module _ (all : List Seen) where
   -- WHICH ORIGINS A HELD TOKEN CAN HAVE
 
-  record HeldByReceive (n : ℕ) (x : Serial) (label : Label) (h : TokenOrigin) : Type 0 where
+  -- a receive, or else a stamp, of a token with this label
+  record HasShown (receipt : Bool) (label : Label) : Type 0 where
     index : ℕ
-    before : index < n
     event : Seen
     at : slice_get all index ≡ Some event
-    kind : is_receipt event ≡ true
+    kind : is_receipt event ≡ receipt
     own : event.answer ≡ false
-    serial : event.serial ≡ x
     same : event.label ≡ label
-    origin : h ≡ Follows index
+
+  record HeldByReceive (n : ℕ) (x : Serial) (label : Label) (h : TokenOrigin) : Type 0 where
+    shown : HasShown true label
+    before : shown.index < n
+    serial : shown.event.serial ≡ x
+    origin : h ≡ Follows shown.index
 
   record HeldByStamp (n : ℕ) (x : Serial) (label : Label) (h : TokenOrigin) : Type 0 where
-    index : ℕ
-    before : index < n
-    event : Seen
-    at : slice_get all index ≡ Some event
-    kind : is_receipt event ≡ false
-    own : event.answer ≡ false
-    serial : event.serial ≡ x
-    same : event.label ≡ label
-    can : Can all index h
+    shown : HasShown false label
+    before : shown.index < n
+    serial : shown.event.serial ≡ x
+    can : Can all shown.index h
 
   record HeldAtHome (n : ℕ) (x : Serial) (label : Label) (h : TokenOrigin) : Type 0 where
     front : List Seen
@@ -84,27 +83,17 @@ module _ (all : List Seen) where
   can_more m n x label h le (inl by) =
       let before = by.before in
       inl (record {
-        index = by.index;
+        shown = by.shown;
         before = omega arith;
-        event = by.event;
-        at = by.at;
-        kind = by.kind;
-        own = by.own;
         serial = by.serial;
-        same = by.same;
         origin = by.origin;
       })
   can_more m n x label h le (inr (inl by)) =
       let before = by.before in
       inr (inl (record {
-        index = by.index;
+        shown = by.shown;
         before = omega arith;
-        event = by.event;
-        at = by.at;
-        kind = by.kind;
-        own = by.own;
         serial = by.serial;
-        same = by.same;
         can = by.can;
       }))
   can_more m n x label h le (inr (inr by)) =
@@ -124,28 +113,30 @@ module _ (all : List Seen) where
       → x.prev ≡ e.serial.prev → e.serial.this ≡ stamp_count x.this → CanHold i x e.label h
       → Can all i h
   can_succeed i e x h at prev count (inl by) =
-      subst (Can all i) (sym by.origin) (received i by.index (record {
+      let shown = by.shown in
+      subst (Can all i) (sym by.origin) (received i shown.index (record {
         stamp = e;
         is_stamp = at;
-        event = by.event;
-        at = by.at;
+        event = shown.event;
+        at = shown.at;
         before = by.before;
-        kind = by.kind;
-        own = by.own;
-        label = by.same;
+        kind = shown.kind;
+        own = shown.own;
+        label = shown.same;
         prev = ap (λ (y : Serial). y.prev) by.serial ∙ prev;
         count = count ∙ sym (ap (λ (y : Serial). stamp_count y.this) by.serial);
       }))
   can_succeed i e x h at prev count (inr (inl by)) =
-      stamped i by.index h (record {
+      let shown = by.shown in
+      stamped i shown.index h (record {
         stamp = e;
         is_stamp = at;
-        event = by.event;
-        at = by.at;
+        event = shown.event;
+        at = shown.at;
         before = by.before;
-        kind = by.kind;
-        own = by.own;
-        label = by.same;
+        kind = shown.kind;
+        own = shown.own;
+        label = shown.same;
         prev = ap (λ (y : Serial). y.prev) by.serial ∙ prev;
         count = count ∙ sym (ap (λ (y : Serial). stamp_count y.this) by.serial);
       }) by.can
@@ -165,20 +156,15 @@ module _ (all : List Seen) where
 
   record LastTaken (es : List Seen) (clock last : ℕ) (label : Label) (h : TokenOrigin) : Type 0
     where
-      index : ℕ
-      event : Seen
-      at : slice_get all index ≡ Some event
-      behind : length es ≡ suc index
-      kind : is_receipt event ≡ true
-      own : event.answer ≡ false
+      shown : HasShown true label
+      behind : length es ≡ suc shown.index
       clock_before : ℕ
       last_before : ℕ
-      way : IsStraight (take index all) clock_before last_before
-          ⊎ IsPutBack (take index all) clock_before last_before
-      lifted : clock ≡ max clock_before event.serial.this
-      count : event.serial.this ≡ last
-      same : event.label ≡ label
-      origin : h ≡ Follows index
+      way : IsStraight (take shown.index all) clock_before last_before
+          ⊎ IsPutBack (take shown.index all) clock_before last_before
+      lifted : clock ≡ max clock_before shown.event.serial.this
+      count : shown.event.serial.this ≡ last
+      origin : h ≡ Follows shown.index
 
   record NowAtHome (es : List Seen) (label : Label) (h : TokenOrigin) : Type 0 where
     rest : List Seen
@@ -188,27 +174,19 @@ module _ (all : List Seen) where
 
   -- the last event is a stamp with this label and origin
   record JustStamped (es : List Seen) (label : Label) (h : TokenOrigin) : Type 0 where
-    index : ℕ
-    event : Seen
-    at : slice_get all index ≡ Some event
-    behind : length es ≡ suc index
-    kind : is_receipt event ≡ false
-    same : event.label ≡ label
-    can : Can all index h
+    shown : HasShown false label
+    behind : length es ≡ suc shown.index
+    can : Can all shown.index h
 
   -- the last is an answer, and before it is such a stamp
   record JustAnswered (es : List Seen) (clock last : ℕ) (label : Label) (h : TokenOrigin) : Type 0
     where
-      index : ℕ
-      event : Seen
-      at : slice_get all index ≡ Some event
-      kind : is_receipt event ≡ false
-      same : event.label ≡ label
-      can : Can all index h
+      shown : HasShown false label
+      can : Can all shown.index h
       answer : Seen
-      answer_at : slice_get all (suc index) ≡ Some answer
+      answer_at : slice_get all (suc shown.index) ≡ Some answer
       answers : answer.answer ≡ true
-      behind : length es ≡ suc (suc index)
+      behind : length es ≡ suc (suc shown.index)
       lifted : clock ≡ answer_count answer.serial.this
       count : serial_count (answer_count answer.serial.this) ≡ last
 
@@ -243,7 +221,6 @@ module _ (all : List Seen) where
   abbrev IsKnown : List Seen → Held → Type 0
   IsKnown es x = CanHold (length es) x.serial x.label x.origin × IsHeld es x.serial
 
-  -- a stamp
   stamp_can : (es : List Seen) (l : LocalState) (t : Token) (e : Seen) (h : TokenOrigin)
       → slice_get all (length es) ≡ Some e → e.serial.prev ≡ l.last
       → e.serial.this ≡ stamp_count l.clock → t.label ≡ e.label → InForce es l t h
@@ -254,28 +231,29 @@ module _ (all : List Seen) where
             (count ∙ sym own.1)
             (subst (λ x. CanHold (length es) t.serial x h) label now.can)
         | inr (inl by) ↦
-            subst (Can all (length es)) (sym by.origin) (taken (length es) by.index (record {
+            let shown = by.shown in
+            subst (Can all (length es)) (sym by.origin) (taken (length es) shown.index (record {
               stamp = e;
               is_stamp = at;
-              event = by.event;
-              at = by.at;
+              event = shown.event;
+              at = shown.at;
               before = by.behind;
-              receive = by.kind;
-              own = by.own;
-              label = by.same ∙ label;
+              receive = shown.kind;
+              own = shown.own;
+              label = shown.same ∙ label;
               clock = by.clock_before;
               last = by.last_before;
               way = by.way;
               prev = by.count ∙ sym prev;
               count = count ∙ ap stamp_count by.lifted;
             }))
-        | inr (inr (inr by)) ↦ answered (length es) by.index h (record {
+        | inr (inr (inr by)) ↦ answered (length es) by.shown.index h (record {
           stamp = e;
           is_stamp = at;
-          event = by.event;
-          at = by.at;
-          kind = by.kind;
-          label = by.same ∙ label;
+          event = by.shown.event;
+          at = by.shown.at;
+          kind = by.shown.kind;
+          label = by.shown.same ∙ label;
           answer = by.answer;
           answer_at = by.answer_at;
           answers = by.answers;
@@ -313,22 +291,36 @@ module _ (all : List Seen) where
         (stamp_can es l had.0 c.event before (there c.event c.is) c.stamp.prev c.stamp.count had.2
         (has had.0 had.1))
 
-    now_can : Carries es rest held l m told before now → (e : Seen) → told ≡ Some e
-        → is_receipt e ≡ false
-        → Can all (length es) now
-    now_can (inl c) e is stamp = absurd (none-some e (sym c.silent ∙ is))
-    now_can (inr (inl c)) e is stamp = stamped_can c
-    now_can (inr (inr (inl c))) e is stamp =
+    abbrev stamp_shown : (c : IsStamped l m told before now) (u : Token) → m.token ≡ Some u
+        → HasShown false u.label
+    stamp_shown c u is = record {
+      index = length es;
+      event = c.event;
+      at = there c.event c.is;
+      kind = c.stamp.kind;
+      own = c.stamp.answer;
+      same = c.stamp.label u is;
+    }
+
+    only_stamp : Carries es rest held l m told before now → (e : Seen) → told ≡ Some e
+        → is_receipt e ≡ false → IsStamped l m told before now
+    only_stamp (inl c) e is stamp = absurd (none-some e (sym c.silent ∙ is))
+    only_stamp (inr (inl c)) e is stamp = c
+    only_stamp (inr (inr (inl c))) e is stamp =
         let same = same_Some c.event e (sym c.is ∙ is) in
         absurd (false≢true (sym (ap is_receipt same ∙ stamp) ∙ c.take.kind))
-    now_can (inr (inr (inr (inl c)))) e is stamp = absurd (none-some e (sym c.silent ∙ is))
-    now_can (inr (inr (inr (inr (inl c))))) e is stamp =
+    only_stamp (inr (inr (inr (inl c)))) e is stamp = absurd (none-some e (sym c.silent ∙ is))
+    only_stamp (inr (inr (inr (inr (inl c))))) e is stamp =
         absurd (none-some e (sym c.silent ∙ is))
-    now_can (inr (inr (inr (inr (inr c))))) e is stamp =
+    only_stamp (inr (inr (inr (inr (inr c))))) e is stamp =
         let same = same_Some c.event e (sym c.is ∙ is) in
         absurd (false≢true (sym (ap is_receipt same ∙ stamp) ∙ c.answer.kind))
 
-    -- nothing was reported
+    now_can : Carries es rest held l m told before now → (e : Seen) → told ≡ Some e
+        → is_receipt e ≡ false
+        → Can all (length es) now
+    now_can carries e is stamp = stamped_can (only_stamp carries e is stamp)
+
     silently : told ≡ None → HasTokens es m now → HasTokens (es ++ option_to_list told) m now
     silently none carried =
         subst (λ r. HasTokens (es ++ option_to_list r) m now) (sym none)
@@ -366,14 +358,9 @@ module _ (all : List Seen) where
         let long = length_push es e in
         subst (λ r. HasTokens (es ++ option_to_list r) m now) (sym c.is) (λ u is. record {
           can = inr (inl (record {
-            index = length es;
+            shown = stamp_shown c u is;
             before = omega arith;
-            event = e;
-            at = there e c.is;
-            kind = c.stamp.kind;
-            own = c.stamp.answer;
             serial = c.stamp.token u is;
-            same = c.stamp.label u is;
             can = stamped_can c;
           }));
           form = inl (
@@ -387,25 +374,25 @@ module _ (all : List Seen) where
     next_tokens (inr (inr (inl c))) =
         let e = c.event in
         let long = length_push es e in
-        subst (λ r. HasTokens (es ++ option_to_list r) m now) (sym c.is) (λ u is. record {
+        subst (λ r. HasTokens (es ++ option_to_list r) m now) (sym c.is) (λ u is.
+        let receive : HasShown true u.label = record {
+          index = length es;
+          event = e;
+          at = there e c.is;
+          kind = c.take.kind;
+          own = c.take.answer;
+          same = c.take.label u is;
+        } in
+        record {
           can = inl (record {
-            index = length es;
+            shown = receive;
             before = omega arith;
-            event = e;
-            at = there e c.is;
-            kind = c.take.kind;
-            own = c.take.answer;
             serial = c.take.token u is;
-            same = c.take.label u is;
             origin = c.origin;
           });
           form = inr (inl (record {
-            index = length es;
-            event = e;
-            at = there e c.is;
+            shown = receive;
             behind = long;
-            kind = c.take.kind;
-            own = c.take.answer;
             clock_before = l.clock;
             last_before = l.last;
             way = subst (λ xs. IsStraight xs l.clock l.last ⊎ IsPutBack xs l.clock l.last)
@@ -413,7 +400,6 @@ module _ (all : List Seen) where
                 (reached_way es l.clock l.last tells.reached);
             lifted = c.take.clock;
             count = sym c.take.last;
-            same = c.take.label u is;
             origin = c.origin;
           }));
         })
@@ -449,12 +435,8 @@ module _ (all : List Seen) where
               (length_more es (e ∷ []))
               (subst (CanHold (length es) u.serial u.label) (sym c.origin) old.can);
           form = inr (inr (inr (record {
-            index = stamp.index;
-            event = stamp.event;
-            at = stamp.at;
-            kind = stamp.kind;
-            same = stamp.same;
-            can = subst (Can all stamp.index) (sym c.origin) stamp.can;
+            shown = stamp.shown;
+            can = subst (Can all stamp.shown.index) (sym c.origin) stamp.can;
             answer = e;
             answer_at = ap (slice_get all) (sym stamp.behind) ∙ there e c.is;
             answers = c.answer.answer;
@@ -476,34 +458,21 @@ module _ (all : List Seen) where
     next_just : Carries es rest held l m told before now → (e : Seen) → told ≡ Some e
         → is_receipt e ≡ false
         → (u : Token) → m.token ≡ Some u → JustStamped (es ++ option_to_list told) u.label now
-    next_just (inr (inl c)) e is stamp u at =
+    next_just carries e is stamp u at =
+        let c = only_stamp carries e is stamp in
         subst (λ r. JustStamped (es ++ option_to_list r) u.label now) (sym c.is) (record {
-          index = length es;
-          event = c.event;
-          at = there c.event c.is;
+          shown = stamp_shown c u at;
           behind = length_push es c.event;
-          kind = c.stamp.kind;
-          same = c.stamp.label u at;
           can = stamped_can c;
         })
-    next_just (inl c) e is stamp u at = absurd (none-some e (sym c.silent ∙ is))
-    next_just (inr (inr (inl c))) e is stamp u at =
-        let same = same_Some c.event e (sym c.is ∙ is) in
-        absurd (false≢true (sym (ap is_receipt same ∙ stamp) ∙ c.take.kind))
-    next_just (inr (inr (inr (inl c)))) e is stamp u at =
-        absurd (none-some e (sym c.silent ∙ is))
-    next_just (inr (inr (inr (inr (inl c))))) e is stamp u at =
-        absurd (none-some e (sym c.silent ∙ is))
-    next_just (inr (inr (inr (inr (inr c))))) e is stamp u at =
-        let same = same_Some c.event e (sym c.is ∙ is) in
-        absurd (false≢true (sym (ap is_receipt same ∙ stamp) ∙ c.answer.kind))
 
   -- RUNS
 
+  abbrev CanIfStamp : ℕ → Seen → TokenOrigin → Type 0
+  CanIfStamp n e h = is_receipt e ≡ false → Can all n h
+
   abbrev AllCan : ℕ → List Seen → List TokenOrigin → Type 0
-  AllCan n [] hs = Unit {0}
-  AllCan n (e ∷ es) [] = Unit {0}
-  AllCan n (e ∷ es) (h ∷ hs) = (is_receipt e ≡ false → Can all n h) × AllCan (suc n) es hs
+  AllCan = AllAlong CanIfStamp
 
   known_more : (es more : List Seen) (held : List Held)
       → ((x : Serial) → IsHeld es x → IsHeld (es ++ more) x)
@@ -523,22 +492,6 @@ module _ (all : List Seen) where
       subst (λ xs. AllByRecursion (IsKnown xs) held) (sym (append-nil es)) known
   known_told es (Some e) held known = known_more es (e ∷ []) held (tokens_more e es) known
 
-  held_known : (es : List Seen) (found : Option Process) (h : TokenOrigin)
-      → HasTokens es (local_found found) h
-      → ((t : Token) → (local_found found).token ≡ Some t → IsHeld es t.serial)
-      → AllByRecursion (IsKnown es) (option_to_list (option_map
-      (λ (t : Token). let x : Held =
-      record { serial = t.serial; label = t.label; origin = h } in x)
-      (option_and_then (λ (r : Process). r.local.token) found)))
-  held_known es None h has held = tt
-  held_known es (Some r) h has held =
-      elim r.local.token as (λ o. r.local.token ≡ o → AllByRecursion (IsKnown es)
-      (option_to_list (option_map (λ (t : Token). let x : Held =
-      record { serial = t.serial; label = t.label; origin = h } in x) o))) [
-        | None ↦ λ _. tt
-        | Some t ↦ λ is. (((has t is).can, held t is), tt)
-      ] refl
-
   restored_held : (es rest : List Seen) (held : List Held) (r : Process) (a : NodeAct)
       (before now : TokenOrigin)
       → AllByRecursion (IsKnown es) held → OriginAfter es rest held r a before now → (t : Token)
@@ -557,9 +510,8 @@ module _ (all : List Seen) where
       next (ap (λ (x : Seen). x.answer) parts.2 ∙ answer) (ap is_some parts.1)
 
   send_kind : (k : Kind) → kind_eq k kind.Send ≡ true → kind_eq k kind.Receive ≡ false
-  send_kind kind.Send is = refl
   send_kind kind.Receive is = absurd (false≢true is)
-  send_kind kind.Print is = refl
+  send_kind k is = refl
 
   seen_send_by : (answer : Bool) (report : Option Event)
       → option_map_or (λ (e : Event). kind_eq e.kind kind.Send) report false ≡ true
@@ -580,37 +532,29 @@ module _ (all : List Seen) where
       → HasTokens es (local_in s p) before → (sent : Bool) → AnswersComeNext p sent acts os
       → (sent ≡ true → (t : Token) → (local_in s p).token ≡ Some t → JustStamped es t.label before)
       → AllCan (length es) (seen_stream acts os p) (origins_told acts os hs p)
-  can_from s [] os hs p es held before split h none all_told origins known tells has
-      sent nexts just = tt
-  can_from s (a ∷ acts) os [] p es held before split h none all_told origins known tells has
-      sent nexts just =
-      let t = node_run_parts s a acts os h in
-      absurd (subst (λ xs. OriginsAre p es held before s (a ∷ acts) xs []) t.is_whole origins)
-  can_from s (a ∷ acts) os (now ∷ hs) p es held before split h none all_told origins known
-      tells has sent nexts just =
-      let t = node_run_parts s a acts os h in
-      let o = t.first in
-      let tail = seen_stream acts t.others p in
-      let later = origins_told acts t.others hs p in
-      let told = subst (ReportsTokens p s (a ∷ acts)) t.is_whole all_told in
-      let are = subst (λ xs. OriginsAre p es held before s (a ∷ acts) xs (now ∷ hs)) t.is_whole
-      origins in
-      let next_of = subst (AnswersComeNext p sent (a ∷ acts)) t.is_whole nexts in
-      let whole = subst (λ xs. all ≡ es ++ seen_stream (a ∷ acts) xs p) t.is_whole split in
-      let x = node_step_parts s a o t.is_first in
+  can_from s [] os hs p es held before split h none told are known tells has sent next_of just = tt
+  can_from s (a ∷ acts) [] hs p es held before split h none told are known tells has sent next_of
+      just = tt
+  can_from s (a ∷ acts) (o ∷ os) [] p es held before split h none told are known tells has sent
+      next_of just = absurd are
+  can_from s (a ∷ acts) (o ∷ os) (now ∷ hs) p es held before split h none told are known tells has
+      sent next_of just =
+      let run = node_run_parts s a acts (o ∷ os) h in
+      let x = node_step_parts s a o run.0 in
+      let tail = seen_stream acts os p in
+      let later = origins_told acts os hs p in
       let holds = held ++ held_in s p before in
       let have : AllByRecursion (IsKnown es) holds =
       all_append (IsKnown es) held (held_in s p before) known
-      (held_known es (process s p) before has tells.token) in
-      let rest = seen_stream (a ∷ acts) (o ∷ t.others) p in
-      subst (λ xs. AllCan (length es) (seen_stream (a ∷ acts) xs p) (origins_told (a ∷ acts) xs
-      (now ∷ hs) p))
-      (sym t.is_whole)
-      (elim (pid_eq (node_actor a) p) as (λ b. pid_eq (node_actor a) p ≡ b
+      (of_token (IsKnown es) (λ (t : Token). let y : Held =
+      record { serial = t.serial; label = t.label; origin = before } in y) (process s p)
+      (λ t is. ((has t is).can, tells.token t is))) in
+      let rest = seen_stream (a ∷ acts) (o ∷ os) p in
+      elim (pid_eq (node_actor a) p) as (λ b. pid_eq (node_actor a) p ≡ b
       → all ≡ es ++ ((if b then option_to_list (seen_by a o) else []) ++ tail)
       → OriginsAre p (es ++ (if b then option_to_list (seen_by a o) else [])) holds now o.after acts
-      t.others hs
-      → AnswersComeNext p (if b then told_send o else sent) acts t.others
+      os hs
+      → AnswersComeNext p (if b then told_send o else sent) acts os
       → AllCan (length es) ((if b then option_to_list (seen_by a o) else []) ++ tail)
       ((if b then option_to_list (option_map (λ _. now) (seen_by a o)) else []) ++ later)) [
         | true ↦ λ mine here are_later nexts_later.
@@ -639,7 +583,7 @@ module _ (all : List Seen) where
             λ e is answer. seen_answer a o e is answer sent (next_of.0 who) in
             let next = next_tokens es rest holds x.before.local x.done.local (seen_by a o) before
             now
-            whole there was have had sent just_before right_behind carries in
+            split there was have had sent just_before right_behind carries in
             let next_there : HasTokens (es ++ option_to_list (seen_by a o)) (local_in o.after p)
             now =
             (let to = actor_same s a o x none.0 p mine in λ u is.
@@ -654,16 +598,15 @@ module _ (all : List Seen) where
             λ yes u is.
             let sends = seen_send a o yes in
             next_just es rest holds x.before.local x.done.local (seen_by a o) before now
-            whole there was have had sent just_before right_behind carries sends.0 sends.1 sends.2 u
+            split there was have had sent just_before right_behind carries sends.0 sends.1 sends.2 u
             (sym (actor_same s a o x none.0 p mine).token ∙ is) in
-            let rest_can = can_from o.after acts t.others hs p
+            let rest_can = can_from o.after acts os hs p
             (es ++ option_to_list (seen_by a o)) holds now
-            (here ∙ sym (append_assoc es (option_to_list (seen_by a o)) tail)) t.is_rest none.1
-            told.1
+            (here ∙ sym (append_assoc es (option_to_list (seen_by a o)) tail)) run.1 none.1 told.1
             are_later next_known next_told next_there (told_send o) nexts_later just_later in
             let now_here = now_can es rest holds x.before.local x.done.local (seen_by a o) before
             now
-            whole there was have had sent just_before right_behind carries in
+            split there was have had sent just_before right_behind carries in
             elim (seen_by a o) as (λ r. ((e : Seen) → r ≡ Some e → is_receipt e ≡ false
             → Can all (length es) now)
             → AllCan (length (es ++ option_to_list r)) tail later
@@ -676,30 +619,15 @@ module _ (all : List Seen) where
             ] now_here rest_can
         | false ↦ λ other here are_later nexts_later.
             let to = other_same s a o x none.0 p other in
-            can_from o.after acts t.others hs p es holds now here t.is_rest none.1 told.1
-            (subst (λ xs. OriginsAre p xs holds now o.after acts t.others hs) (append-nil es)
-            are_later) have
+            can_from o.after acts os hs p es holds now here run.1 none.1 told.1
+            (subst (λ xs. OriginsAre p xs holds now o.after acts os hs) (append-nil es) are_later)
+            have
             (told_same es (local_in s p) (local_in o.after p) to tells)
             (λ u is. in_force_same es (local_in s p) (local_in o.after p) u u before now to.clock
             to.last refl refl (are.1 other) (has u (sym to.token ∙ is))) sent nexts_later
             (λ yes u is. subst (JustStamped es u.label) (sym (are.1 other))
             (just yes u (sym to.token ∙ is)))
-      ] refl whole are.2 next_of.1)
-
-  can_at : (n : ℕ) (es : List Seen) (hs : List TokenOrigin) (i : ℕ) (e : Seen) (h : TokenOrigin)
-      → AllCan n es hs
-      → slice_get es i ≡ Some e → slice_get hs i ≡ Some h → is_receipt e ≡ false
-      → Can all (n + i) h
-  can_at n [] hs i e h can at is stamp = absurd (none-some e at)
-  can_at n (d ∷ es) [] i e h can at is stamp = absurd (none-some h is)
-  can_at n (d ∷ es) (g ∷ hs) zero e h can at is stamp =
-      let same : n ≡ n + 0 = omega arith in
-      subst (λ k. Can all k h) same
-      (subst (Can all n) (same_Some g h is)
-      (can.0 (ap is_receipt (same_Some d e at) ∙ stamp)))
-  can_at n (d ∷ es) (g ∷ hs) (suc i) e h can at is stamp =
-      let same : suc n + i ≡ n + suc i = omega arith in
-      subst (λ k. Can all k h) same (can_at (suc n) es hs i e h can.1 at is stamp)
+      ] refl split are.2 next_of.1
 
 pub origins_can : (pids : List Pid) (acts : List NodeAct) (os : List Outcome)
     → node_run pids acts ≡ Some os → NoNodeReset acts → (p : Pid)
@@ -717,7 +645,7 @@ origins_can pids acts os run none p tells hs origins nexts i e h at other is =
     let whole = can_from all (zero_state pids) acts os hs p [] [] Home refl run none tells
     origins tt (subst (AreTold []) (sym (zero_found pids p)) zero_told) empty false nexts
     (λ yes. absurd (false≢true yes)) in
-    let found = can_at all 0 all (origins_told acts os hs p) i e h whole at is
+    let found = along_at (CanIfStamp all) 0 all (origins_told acts os hs p) i e h whole at is
     (no_receive e other) in
     let same : 0 + i ≡ i = omega arith in
     subst (λ k. Can all k h) same found

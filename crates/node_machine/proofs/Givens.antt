@@ -1,9 +1,9 @@
 -- In each run of the node the counts of a process are those that its events lead to, or that a
 -- token of its own led to which was put back: so its stamps are given.
 use Rattle.std.proofs.Common.{◌≡◌, ◌≢◌, ℕ, ◌⊎◌, max, zero, suc, true, false, List, [], ◌∷◌, ◌++◌}
-use Rattle.std.proofs.Common.{take, Option, Some, None, IsSome, option_map, option_and_then}
-use Rattle.std.proofs.Common.{option_to_list, inl, inr, refl, sym, ◌∙◌, ap, subst, append_assoc}
-use Rattle.std.proofs.Common.{append-nil, if◌then◌else◌}
+use Rattle.std.proofs.Common.{take, Option, Some, None, IsSome, option_map, option_to_list, inl}
+use Rattle.std.proofs.Common.{inr, refl, sym, ◌∙◌, ap, subst, append_assoc, append-nil}
+use Rattle.std.proofs.Common.{if◌then◌else◌}
 use Rattle.std.specs.List.{slice_get, AllByRecursion}
 use Rattle.std.proofs.lemmas.Bool.{false≢true}
 use Rattle.std.proofs.lemmas.Option.{same_Some, none-some}
@@ -30,7 +30,7 @@ use Rattle.node_machine.proofs.Lists.{all_append, all_change, all_of}
 use Rattle.node_machine.proofs.Readings.{clock_fits, next_true, put_back_reads, some_reading}
 use Rattle.node_machine.proofs.Readings.{stamp_reads, take_reads}
 use Rattle.node_machine.proofs.Steps.{node_run_parts, node_step_parts, NodeStepped, SameButTraced}
-use Rattle.node_machine.proofs.Steps.{actor_found, actor_same, other_same}
+use Rattle.node_machine.proofs.Steps.{actor_found, actor_same, of_token, other_same}
 use Rattle.node_machine.proofs.Moves.{IsAnswered, IsBack, IsStamp, IsStill, IsTake, Moves}
 use Rattle.node_machine.proofs.Moves.{node_acted_moves, PartMoves}
 use Rattle.node_machine.proofs.Tokens.{clock_by_answer, clock_by_receive, clock_push}
@@ -55,18 +55,8 @@ pub record AreTold (es : List Seen) (l : LocalState) : Type 0 where
   pub last : IsHeld es (fresh l.last)
   pub token : (t : Token) → l.token ≡ Some t → IsHeld es t.serial
 
-pub told_same : (es : List Seen) (l m : LocalState) → SameButTraced l m → AreTold es l
-    → AreTold es m
-told_same es l m same told = record {
-  reached = subst (λ n. IsReached es n m.last) (sym same.clock)
-      (subst (IsReached es l.clock) (sym same.last) told.reached);
-  last = subst (λ n. IsHeld es (fresh n)) (sym same.last) told.last;
-  token = λ t is. told.token t (sym same.token ∙ is);
-}
-
 -- ONE ACT
 
--- last after a stamp is its prev
 pub stamp_last : (es : List Seen) (l m : LocalState) (e : Seen) → IsStamp l m e
     → m.last ≡ last_behind 0 (es ++ e ∷ [])
 stamp_last es l m e stamp =
@@ -98,7 +88,6 @@ stamp_plain es l m e stamp plain =
       last_is = stamp_last es l m e stamp;
     }
 
--- a stamp after a put-back
 pub stamp_back : (es : List Seen) (l m : LocalState) (e : Seen) → IsStamp l m e
     → FitsSerial l.clock
     → IsStraight (es ++ e ∷ []) m.clock m.last
@@ -134,7 +123,6 @@ answer_plain es l m e answer =
       last_is = answer.last ∙ sym (last_push es e 0 ∙ last_by_answer e answer.kind answer.answer);
     }
 
--- a receive lifts a clock that fits a serial to one
 pub take_fits : (l m : LocalState) (e : Seen) → IsTake l m e → FitsSerial l.clock
     → FitsSerial m.clock
 take_fits l m e take fits =
@@ -210,6 +198,14 @@ still_told es l m still told = record {
   ];
 }
 
+pub told_same : (es : List Seen) (l m : LocalState) → SameButTraced l m → AreTold es l
+    → AreTold es m
+told_same es l m same = still_told es l m (record {
+  clock = same.clock;
+  last = same.last;
+  token = λ t is. inl (t, sym same.token ∙ is, refl);
+})
+
 back_told : (es : List Seen) (t : Token) (m : LocalState) → IsBack t m → IsHeld es t.serial
     → AreTold es m
 back_told es t m back held = record {
@@ -250,7 +246,6 @@ pub reached_way : (es : List Seen) (clock last : ℕ) → IsReached es clock las
 reached_way es clock last (inl plain) = inl plain
 reached_way es clock last (inr back) = inr back.0
 
--- a stamp is given
 now_given : (es : List Seen) (back : Option Token) (l m : LocalState) (e : Seen)
     → Moves back l m (Some e)
     → is_receipt e ≡ false → AreTold es l → IsGiven es e
@@ -267,37 +262,36 @@ now_given es None l m e (inr (inr answer)) is told =
 
 -- RUNS
 
--- each stamp among the later events is given by the events before it
-abbrev AreGiven : List Seen → List Seen → Type 0
-AreGiven es [] = Unit {0}
-AreGiven es (e ∷ rest) = (is_receipt e ≡ false → IsGiven es e) × AreGiven (es ++ e ∷ []) rest
+-- what holds of each stamp among the later events and of the events before it
+abbrev pub EachStamp : (List Seen → Seen → Type 0) → List Seen → List Seen → Type 0
+EachStamp P es [] = Unit {0}
+EachStamp P es (e ∷ rest) = (is_receipt e ≡ false → P es e) × EachStamp P (es ++ e ∷ []) rest
 
-given_part : (es : List Seen) (report : Option Seen) (rest : List Seen)
-    → ((e : Seen) → report ≡ Some e → is_receipt e ≡ false → IsGiven es e)
-    → AreGiven (es ++ option_to_list report) rest
-    → AreGiven es (option_to_list report ++ rest)
-given_part es None rest now later = subst (λ xs. AreGiven xs rest) (append-nil es) later
-given_part es (Some e) rest now later = (now e refl, later)
+pub stamps_part : (P : List Seen → Seen → Type 0) (es : List Seen) (report : Option Seen)
+    (rest : List Seen) → ((e : Seen) → report ≡ Some e → is_receipt e ≡ false → P es e)
+    → EachStamp P (es ++ option_to_list report) rest
+    → EachStamp P es (option_to_list report ++ rest)
+stamps_part P es None rest now later = subst (λ xs. EachStamp P xs rest) (append-nil es) later
+stamps_part P es (Some e) rest now later = (now e refl, later)
 
-held_more : (es : List Seen) (report : Option Seen) (held : List Serial)
-    → AllByRecursion (IsHeld es) held
-    → AllByRecursion (IsHeld (es ++ option_to_list report)) held
-held_more es None held all =
-    subst (λ xs. AllByRecursion (IsHeld xs) held) (sym (append-nil es)) all
-held_more es (Some e) held all =
-    all_change (IsHeld es) (IsHeld (es ++ e ∷ [])) (tokens_more e es) held all
+pub stamp_at : (P : List Seen → Seen → Type 0) (es rest : List Seen) (i : ℕ) (e : Seen)
+    → EachStamp P es rest → slice_get rest i ≡ Some e → is_receipt e ≡ false
+    → P (es ++ take i rest) e
+stamp_at P es [] i e all at is = absurd (none-some e at)
+stamp_at P es (d ∷ rest) zero e all at is =
+    subst (λ xs. P xs e) (sym (append-nil es))
+    (subst (λ x. is_receipt x ≡ false → P es x) (same_Some d e at) all.0 is)
+stamp_at P es (d ∷ rest) (suc i) e all at is =
+    subst (λ xs. P xs e) (append_assoc es (d ∷ []) (take i rest))
+    (stamp_at P (es ++ d ∷ []) rest i e all.1 at is)
 
-serial_held : (es : List Seen) (found : Option Process)
-    → ((t : Token) → (local_found found).token ≡ Some t → IsHeld es t.serial)
-    → AllByRecursion (IsHeld es) (option_to_list (option_map (λ (t : Token). t.serial)
-    (option_and_then (λ (r : Process). r.local.token) found)))
-serial_held es None token = tt
-serial_held es (Some r) token =
-    elim r.local.token as (λ o. r.local.token ≡ o → AllByRecursion (IsHeld es)
-    (option_to_list (option_map (λ (t : Token). t.serial) o))) [
-      | None ↦ λ _. tt
-      | Some t ↦ λ is. (token t is, tt)
-    ] refl
+pub held_more : (P : List Seen → Serial → Type 0) (es : List Seen)
+    → ((e : Seen) (x : Serial) → P es x → P (es ++ e ∷ []) x) → (report : Option Seen)
+    (held : List Serial) → AllByRecursion (P es) held
+    → AllByRecursion (P (es ++ option_to_list report)) held
+held_more P es more None held all =
+    subst (λ xs. AllByRecursion (P xs) held) (sym (append-nil es)) all
+held_more P es more (Some e) held all = all_change (P es) (P (es ++ e ∷ [])) (more e) held all
 
 module _ (s : State) (a : NodeAct) (o : Outcome) (x : NodeStepped s a o)
     (plain : is_reset (machine_act a) ≡ false) (p : Pid) where
@@ -328,55 +322,42 @@ given_from : (s : State) (acts : List NodeAct) (os : List Outcome) (p : Pid)
     (es : List Seen) (held : List Serial)
     → node_run_from s acts ≡ Some os → NoNodeReset acts → ReportsTokens p s acts os
     → PutsBackOwn p held s acts os → AllByRecursion (IsHeld es) held → AreTold es (local_in s p)
-    → AreGiven es (seen_stream acts os p)
-given_from s [] os p es held h none all own had now = tt
-given_from s (a ∷ acts) os p es held h none all own had now =
-    let t = node_run_parts s a acts os h in
-    let o = t.first in
-    let tail = seen_stream acts t.others p in
-    let tells = subst (ReportsTokens p s (a ∷ acts)) t.is_whole all in
-    let owns = subst (PutsBackOwn p held s (a ∷ acts)) t.is_whole own in
-    let x = node_step_parts s a o t.is_first in
+    → EachStamp IsGiven es (seen_stream acts os p)
+given_from s [] os p es held h none tells owns had now = tt
+given_from s (a ∷ acts) [] p es held h none tells owns had now = tt
+given_from s (a ∷ acts) (o ∷ os) p es held h none tells owns had now =
+    let run = node_run_parts s a acts (o ∷ os) h in
+    let x = node_step_parts s a o run.0 in
+    let tail = seen_stream acts os p in
     let holds = held ++ serials_in s p in
     let have : AllByRecursion (IsHeld es) holds =
-    all_append (IsHeld es) held (serials_in s p) had (serial_held es (process s p) now.token) in
-    subst (λ xs. AreGiven es (seen_stream (a ∷ acts) xs p)) (sym t.is_whole)
-    (elim (pid_eq (node_actor a) p) as (λ b. pid_eq (node_actor a) p ≡ b
-    → AreGiven es ((if b then option_to_list (seen_by a o) else []) ++ tail)) [
+    all_append (IsHeld es) held (serials_in s p) had
+    (of_token (IsHeld es) (λ (t : Token). t.serial) (process s p) now.token) in
+    elim (pid_eq (node_actor a) p) as (λ b. pid_eq (node_actor a) p ≡ b
+    → EachStamp IsGiven es ((if b then option_to_list (seen_by a o) else []) ++ tail)) [
       | true ↦ λ mine.
           let found = actor_found s a o x none.0 p mine in
           let here : AreTold es x.before.local = subst (AreTold es) (ap local_found found) now in
           let moves = step_moves s a o x none.0 p mine tells.0 in
           let mine_own = λ (t : Token) (is : token_put_back a ≡ Some t).
           all_of (IsHeld es) holds t.serial have (owns.0 (pid_same (node_actor a) p mine) t is) in
-          given_part es (seen_by a o) tail
+          stamps_part IsGiven es (seen_by a o) tail
           (λ e is stamp. now_given es (token_put_back a) x.before.local x.done.local e
           (subst (Moves (token_put_back a) x.before.local x.done.local) is moves) stamp here)
-          (given_from o.after acts t.others p (es ++ option_to_list (seen_by a o)) holds t.is_rest
-          none.1 tells.1 owns.1 (held_more es (seen_by a o) holds have)
+          (given_from o.after acts os p (es ++ option_to_list (seen_by a o)) holds run.1
+          none.1 tells.1 owns.1
+          (held_more IsHeld es (λ e. tokens_more e es) (seen_by a o) holds have)
           (step_told s a o x none.0 p es mine moves mine_own here))
       | false ↦ λ other.
-          given_from o.after acts t.others p es holds t.is_rest none.1 tells.1 owns.1 have
+          given_from o.after acts os p es holds run.1 none.1 tells.1 owns.1 have
           (told_same es (local_in s p) (local_in o.after p)
           (other_same s a o x none.0 p other) now)
-    ] refl)
-
-given_at : (es rest : List Seen) (i : ℕ) (e : Seen) → AreGiven es rest
-    → slice_get rest i ≡ Some e
-    → is_receipt e ≡ false → IsGiven (es ++ take i rest) e
-given_at es [] i e all at is = absurd (none-some e at)
-given_at es (d ∷ rest) zero e all at is =
-    subst (λ xs. IsGiven xs e) (sym (append-nil es))
-    (subst (λ x. is_receipt x ≡ false → IsGiven es x) (same_Some d e at) all.0 is)
-given_at es (d ∷ rest) (suc i) e all at is =
-    subst (λ xs. IsGiven xs e) (append_assoc es (d ∷ []) (take i rest))
-    (given_at (es ++ d ∷ []) rest i e all.1 at is)
+    ] refl
 
 pub no_receive : (e : Seen) → e.kind ≢ kind.Receive → is_receipt e ≡ false
 no_receive e other = elim e.kind as (λ k. k ≢ kind.Receive → kind_eq k kind.Receive ≡ false) [
-  | kind.Send ↦ λ _. refl
   | kind.Receive ↦ λ no. absurd (no refl)
-  | kind.Print ↦ λ _. refl
+  | _ ↦ λ _. refl
 ] other
 
 pub zero_straight : IsStraight [] zero_local.clock zero_local.last
@@ -400,6 +381,6 @@ pub stamps_given : (pids : List Pid) (acts : List NodeAct) (os : List Outcome)
     → (i : ℕ) (e : Seen) → slice_get (seen_stream acts os p) i ≡ Some e → e.kind ≢ kind.Receive
     → IsGiven (take i (seen_stream acts os p)) e
 stamps_given pids acts os h none p tells own i e at other =
-    given_at [] (seen_stream acts os p) i e
+    stamp_at IsGiven [] (seen_stream acts os p) i e
     (given_from (zero_state pids) acts os p [] [] h none tells own tt
     (subst (AreTold []) (sym (zero_found pids p)) zero_told)) at (no_receive e other)

@@ -1,9 +1,8 @@
 -- What an act of a process that reports its stamps leaves: its token has an origin that its stamps
 -- and the sends to it allow, and its counts are among those that they show.
-use Rattle.std.proofs.Common.{◌≡◌, ℕ, ◌+◌, ◌^◌, ◌<◌, ◌≤◌, ◌⊎◌, suc, true, List, [], ◌∷◌}
-use Rattle.std.proofs.Common.{◌++◌, length, max, take, Some}
-use Rattle.std.proofs.Common.{inl, inr, refl, arith, sym, ◌∙◌, ap}
-use Rattle.std.proofs.Common.{subst, append-nil}
+use Rattle.std.proofs.Common.{◌≡◌, ℕ, ◌+◌, ◌^◌, ◌<◌, ◌≤◌, ◌⊎◌, suc, true, List, [], ◌∷◌, ◌++◌}
+use Rattle.std.proofs.Common.{length, max, take, Some, inl, inr, refl, arith, sym, ◌∙◌, ap, subst}
+use Rattle.std.proofs.Common.{append-nil}
 use Rattle.std.specs.List.{slice_get, AllByRecursion}
 use Rattle.std.proofs.lemmas.Bool.{cases_order}
 use Rattle.std.proofs.lemmas.Option.{same_Some, none-some}
@@ -11,7 +10,7 @@ use Rattle.st_core.specs.declared.types.Label.{Label}
 use Rattle.st_core.specs.declared.types.Serial.{Serial}
 use Rattle.st_core.specs.declared.types.Token.{Token}
 use Rattle.st_core.specs.declared.types.Event.{Event}
-use Rattle.st_core.specs.State.{LocalState, process}
+use Rattle.st_core.specs.State.{LocalState}
 use Rattle.node_machine.specs.Counts.{answer_count, serial_count, stamp_count}
 use Rattle.node_machine.specs.Premises.{IsAmong}
 use Rattle.node_machine.specs.Given.{fresh}
@@ -19,19 +18,14 @@ use Rattle.node_machine.specs.Origins.{Follows, Held, Home, TokenOrigin}
 use Rattle.node_machine.specs.ByMessages.{CanBeClock, CanBeHeld, CanBySends, clock_at_zero}
 use Rattle.node_machine.specs.ByMessages.{clock_by_answer, clock_by_gift, clock_by_stamp}
 use Rattle.node_machine.specs.ByMessages.{gift_put_back, gift_taken, held_by_gift, held_by_stamp}
-use Rattle.node_machine.specs.ByMessages.{LabelRule}
-use Rattle.node_machine.specs.ByMessages.{made_at_answer, made_at_count}
-use Rattle.node_machine.specs.ByMessages.{made_at_prev, made_at_zero, MayGive, MayHaveWrapped}
-use Rattle.node_machine.specs.ByMessages.{Past}
-use Rattle.node_machine.specs.ByMessages.{SendsTo}
-use Rattle.node_machine.specs.ByMessages.{stamp_put_back}
-use Rattle.node_machine.specs.ByMessages.{token_at_home, token_kept}
-use Rattle.node_machine.proofs.Brings.{Brings, Makes}
-use Rattle.node_machine.proofs.Brings.{PutsBack, Stamps, Takes}
+use Rattle.node_machine.specs.ByMessages.{LabelRule, made_at_answer, made_at_count, made_at_prev}
+use Rattle.node_machine.specs.ByMessages.{made_at_zero, MayGive, MayHaveWrapped, Past, SendsTo}
+use Rattle.node_machine.specs.ByMessages.{stamp_put_back, token_at_home, token_kept}
+use Rattle.node_machine.proofs.Brings.{Brings, Makes, PutsBack, Stamps, Takes}
 use Rattle.node_machine.proofs.Counts.{FitsSerial, max_either, next_below, next_of_clock}
 use Rattle.node_machine.proofs.Counts.{serial_after, serial_fits, serial_same, stamp_of_serial}
-use Rattle.node_machine.proofs.Lists.{all_of, among_at, among_back}
-use Rattle.node_machine.proofs.Lists.{among_front, length_push, take_front}
+use Rattle.node_machine.proofs.Lists.{all_of, among_at, among_back, among_front, length_push}
+use Rattle.node_machine.proofs.Lists.{take_front}
 
 module _ (sent : SendsTo) (rule : LabelRule) (all : List Event) where
   abbrev pub Can : ℕ → TokenOrigin → Type 0
@@ -343,7 +337,6 @@ module _ (sent : SendsTo) (rule : LabelRule) (all : List Event) where
       inl (omega arith)
   above_gift clock count this below stamp (inr wraps) = inr wraps
 
-  -- a stamp
   stamp_can : (es rest taken : List Event) (l : LocalState) (t : Token) (e : Event)
       (h : TokenOrigin) → all ≡ es ++ rest
       → slice_get all (length es) ≡ Some e → e.serial.prev ≡ l.last
@@ -442,15 +435,17 @@ module _ (sent : SendsTo) (rule : LabelRule) (all : List Event) where
         (there c.event c.is) c.stamp.prev c.stamp.count had.2 gifts are (has had.0
         had.1))
 
-    pub now_can : BringsHere → (e : Event) → told ≡ e ∷ [] → Can (length before) now
-    now_can (inl c) e is = absurd (nothing e c.silent is)
-    now_can (inr (inl c)) e is = stamped_can c
-    now_can (inr (inr (inl c))) e is = absurd (nothing e c.silent is)
-    now_can (inr (inr (inr (inl c)))) e is = absurd (nothing e c.silent is)
-    now_can (inr (inr (inr (inr (inl c))))) e is = absurd (nothing e c.silent is)
-    now_can (inr (inr (inr (inr (inr c))))) e is = absurd (nothing e c.silent is)
+    only_stamp : BringsHere → (e : Event) → told ≡ e ∷ [] → Stamps l m told past.origin now
+    only_stamp (inl c) e is = absurd (nothing e c.silent is)
+    only_stamp (inr (inl c)) e is = c
+    only_stamp (inr (inr (inl c))) e is = absurd (nothing e c.silent is)
+    only_stamp (inr (inr (inr (inl c)))) e is = absurd (nothing e c.silent is)
+    only_stamp (inr (inr (inr (inr (inl c))))) e is = absurd (nothing e c.silent is)
+    only_stamp (inr (inr (inr (inr (inr c))))) e is = absurd (nothing e c.silent is)
 
-    -- nothing was stamped
+    pub now_can : BringsHere → (e : Event) → told ≡ e ∷ [] → Can (length before) now
+    now_can brings e is = stamped_can (only_stamp brings e is)
+
     silently : (P : List Event → Type 0) → told ≡ [] → P before → P (before ++ told)
     silently P none carried =
         subst (λ r. P (before ++ r)) (sym none) (subst P (sym (append-nil before)) carried)
@@ -694,7 +689,8 @@ module _ (sent : SendsTo) (rule : LabelRule) (all : List Event) where
     pub next_just : BringsHere → (request : Event) → told ≡ request ∷ [] → (u : Token)
         → m.token ≡ Some u
         → JustStamped (before ++ told) request u.label now
-    next_just (inr (inl c)) request is u at =
+    next_just brings request is u at =
+        let c = only_stamp brings request is in
         let e = c.event in
         subst (λ r. JustStamped (before ++ told) r u.label now) (one_only e request c.is is)
         (subst (λ r. JustStamped (before ++ r) e u.label now) (sym c.is) (record {
@@ -704,10 +700,3 @@ module _ (sent : SendsTo) (rule : LabelRule) (all : List Event) where
           same = c.stamp.label u at;
           can = stamped_can c;
         }))
-    next_just (inl c) request is u at = absurd (nothing request c.silent is)
-    next_just (inr (inr (inl c))) request is u at = absurd (nothing request c.silent is)
-    next_just (inr (inr (inr (inl c)))) request is u at = absurd (nothing request c.silent is)
-    next_just (inr (inr (inr (inr (inl c))))) request is u at =
-        absurd (nothing request c.silent is)
-    next_just (inr (inr (inr (inr (inr c))))) request is u at =
-        absurd (nothing request c.silent is)

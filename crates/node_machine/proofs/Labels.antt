@@ -1,8 +1,7 @@
 -- A label that is new when it is given is on no earlier stamp and no message. So what the rules for
 -- labels say of the origins that sends allow is in the stamps and the messages before.
-use Rattle.std.proofs.Common.{◌≡◌, ℕ, ◌<◌, ◌≤◌, ◌==◌, ◌||◌, zero, suc, not, Bool, true, false, List}
-use Rattle.std.proofs.Common.{[], ◌∷◌, ◌++◌, length, Some, inl, inr, refl, arith, sym, ◌∙◌, ap}
-use Rattle.std.proofs.Common.{subst}
+use Rattle.std.proofs.Common.{◌≡◌, ℕ, ◌<◌, ◌≤◌, ◌==◌, ◌||◌, zero, suc, not, true, false, List, []}
+use Rattle.std.proofs.Common.{◌∷◌, ◌++◌, length, Some, inl, inr, refl, arith, sym, ◌∙◌, ap}
 use Rattle.std.specs.List.{slice_get, AllByRecursion, list_any}
 use Rattle.std.proofs.lemmas.Bool.{cases_order, eq-eqb, false≢true}
 use Rattle.std.proofs.lemmas.Option.{same_Some}
@@ -97,10 +96,11 @@ pub earlier_token : (sent : SendsTo) (es : List Event) (i k : ℕ) (stamp first 
 earlier_token sent es i k stamp first at less there label home =
     let here = same_Some home.stamp stamp (sym home.is_stamp ∙ at) in
     let same = ap (λ (x : Event). x.label) here in
+    let shown = home.front ++ home.taken in
     let none = not_true
-    (list_any (λ (e : Event). e.label.0 == home.stamp.label.0) (home.front ++ home.taken)) home.own in
-    let other : (e : Event) → IsAmong (home.front ++ home.taken) e → ¬ (e.label ≡ stamp.label) =
-    λ e is equal. no_such (home.front ++ home.taken) home.stamp.label none e is (equal ∙ sym same) in
+    (list_any (λ (e : Event). e.label.0 == home.stamp.label.0) shown) home.own in
+    let other : (e : Event) → IsAmong shown e → ¬ (e.label ≡ stamp.label) =
+    λ e is equal. no_such shown home.stamp.label none e is (equal ∙ sym same) in
     let within : length home.front ≤ k = elim (cases_order (length home.front) k) [
       | inl even ↦ omega arith
       | inr apart ↦ elim apart [

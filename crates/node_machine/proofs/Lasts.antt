@@ -1,9 +1,7 @@
 -- Whatever is stamped unreported, the prev of each stamp is a last that its process's events show.
-use Rattle.std.proofs.Common.{◌≡◌, ◌≢◌, ℕ, ◌⊎◌, zero, suc, true, false, cond, List, [], ◌∷◌, ◌++◌}
-use Rattle.std.proofs.Common.{take, Option, Some, None, is_some, IsSome, option_map}
-use Rattle.std.proofs.Common.{option_and_then, option_to_list}
-use Rattle.std.proofs.Common.{inl, inr, refl, sym, ◌∙◌, ap, subst, append_assoc, append-nil}
-use Rattle.std.proofs.Common.{if◌then◌else◌}
+use Rattle.std.proofs.Common.{◌≡◌, ◌≢◌, ℕ, ◌⊎◌, true, false, List, [], ◌∷◌, ◌++◌, take, Option}
+use Rattle.std.proofs.Common.{Some, None, is_some, IsSome, option_map, option_to_list, inl, inr}
+use Rattle.std.proofs.Common.{refl, sym, ◌∙◌, ap, subst, append-nil, if◌then◌else◌}
 use Rattle.std.specs.List.{slice_get, AllByRecursion}
 use Rattle.std.proofs.lemmas.Bool.{false≢true}
 use Rattle.std.proofs.lemmas.Option.{same_Some, none-some}
@@ -13,31 +11,29 @@ use Rattle.st_core.specs.declared.types.Token.{Token}
 use Rattle.st_core.specs.declared.types.Kind.TheVariants as kind
 use Rattle.st_core.specs.declared.types.Act.{Act}
 use Rattle.st_core.specs.declared.types.Act.TheVariants as act
-use Rattle.st_core.specs.declared.types.Reply.TheVariants as reply
 use Rattle.st_core.specs.Pid.{pid_eq}
 use Rattle.st_core.specs.State.{LocalState, Process, State, process, zero_state}
-use Rattle.st_core.specs.Local.{has_label}
 use Rattle.st_core.specs.Laws.{is_reset, moves_token}
-use Rattle.st_core.specs.Step.{Acted, answers, Outcome, prints}
+use Rattle.st_core.specs.Step.{Acted, Outcome}
 use Rattle.st_core.proofs.ForCallers.{local_found, local_in, pid_same, zero_found}
-use Rattle.node_machine.specs.Counts.{next_clock}
 use Rattle.node_machine.specs.Node.{after_stamp, Answer, Common, is_answer, machine_act, node_acted}
-use Rattle.node_machine.specs.Node.{node_actor}
-use Rattle.node_machine.specs.Node.{node_run, node_run_from, node_stamped_token, NodeAct, Seen}
-use Rattle.node_machine.specs.Node.{seen, seen_by, seen_stream}
+use Rattle.node_machine.specs.Node.{node_actor, node_run, node_run_from, node_stamped_token}
+use Rattle.node_machine.specs.Node.{NodeAct, Seen, seen, seen_by, seen_stream}
 use Rattle.node_machine.specs.Premises.{IsAmong, NoNodeReset, PutsBackOwn, ReportsTaken, serials_in}
 use Rattle.node_machine.specs.Premises.{takes_token, token_put_back}
 use Rattle.node_machine.specs.Readings.{is_receipt}
 use Rattle.node_machine.specs.Given.{fresh}
 use Rattle.node_machine.specs.Ways.{lasts}
-use Rattle.node_machine.proofs.Lists.{all_append, all_change, all_of}
+use Rattle.node_machine.proofs.Lists.{all_append, all_of}
 use Rattle.node_machine.proofs.Steps.{node_run_parts, node_step_parts, NodeStepped, SameButTraced}
-use Rattle.node_machine.proofs.Steps.{actor_found, actor_same, other_same}
+use Rattle.node_machine.proofs.Steps.{actor_found, actor_same, of_token, other_same}
+use Rattle.node_machine.proofs.Steps.{print_at_either, stamp_either}
 use Rattle.node_machine.proofs.Moves.{IsAnswered, IsBack, is_plain, IsStamp, IsTake, Moves}
 use Rattle.node_machine.proofs.Moves.{node_acted_moves, plain_moves}
 use Rattle.node_machine.proofs.Tokens.{tokens_answer, tokens_count, tokens_fresh, tokens_more}
 use Rattle.node_machine.proofs.Tokens.{tokens_receive}
-use Rattle.node_machine.proofs.Givens.{IsHeld, no_receive}
+use Rattle.node_machine.proofs.Givens.{EachStamp, held_more, IsHeld, no_receive, stamp_at}
+use Rattle.node_machine.proofs.Givens.{stamps_part}
 use Rattle.node_machine.proofs.Ways.{made_last}
 
 -- ONE ACT
@@ -53,20 +49,11 @@ keeps_same : (l : LocalState) → KeepsLast l l
 keeps_same l = record { last = refl; token = λ t is. inl (t, is, refl) }
 
 stamp_keeps : (p : Pid) (l : LocalState) → KeepsLast l (after_stamp p l)
-stamp_keeps p l = elim l.token as (λ token. (let m : LocalState = elim token [
-  | None ↦ l
-  | Some t ↦ record l {
-    token = Some (node_stamped_token p l t);
-    clock = next_clock l.clock;
-  }
-] in KeepsLast l m)) [
-  | None ↦ keeps_same l
-  | Some t ↦ record {
-    last = refl;
-    token = λ u is.
-        inr (ap (λ (x : Token). x.serial.prev) (sym (same_Some (node_stamped_token p l t) u is)));
-  }
-]
+stamp_keeps p l = stamp_either (KeepsLast l) p l (λ _. keeps_same l) (λ t _. record {
+  last = refl;
+  token = λ u is.
+      inr (ap (λ (x : Token). x.serial.prev) (sym (same_Some (node_stamped_token p l t) u is)));
+})
 
 plain_keeps : (a : Act) (r : Process) → is_plain a ≡ true
     → KeepsLast r.local (node_acted r (Common a)).local
@@ -74,18 +61,13 @@ plain_keeps (act.Send p q v) r plain = stamp_keeps r.pid r.local
 plain_keeps (act.Receive p w) r plain = absurd (false≢true plain)
 plain_keeps (act.Print p v) r plain = stamp_keeps r.pid r.local
 plain_keeps (act.PrintAt p n v) r plain =
-    elim (has_label n r.local.token) as (λ b. KeepsLast r.local
-    (cond b (prints r v (after_stamp r.pid r.local)) (answers r r.local reply.Done)).local) [
-      | true ↦ stamp_keeps r.pid r.local
-      | false ↦ keeps_same r.local
-    ]
+    print_at_either (λ (done : Acted). KeepsLast r.local done.local) r p n v
+    (stamp_keeps r.pid r.local) (keeps_same r.local)
 plain_keeps (act.Set p c) r plain = absurd (false≢true plain)
 plain_keeps (act.Clear p) r plain =
     record { last = refl; token = λ t is. absurd (none-some t is) }
 plain_keeps (act.Restore p t) r plain = absurd (false≢true plain)
-plain_keeps (act.Look p) r plain = keeps_same r.local
-plain_keeps (act.Reset p) r plain = keeps_same r.local
-plain_keeps (act.Tracer p b) r plain = keeps_same r.local
+plain_keeps a r plain = keeps_same r.local
 
 -- how an act changes its actor, if it may stamp unreported
 abbrev pub Loosely : Option Token → LocalState → LocalState → Option Seen → Type 0
@@ -140,13 +122,7 @@ acted_loose (Common (act.Set p c)) r is =
     other_loose (Common (act.Set p c)) r (λ no. absurd (false≢true no))
 acted_loose (Common (act.Restore p t)) r is =
     other_loose (Common (act.Restore p t)) r (λ no. absurd (false≢true no))
-acted_loose (Common (act.Send p q v)) r is = plain_loose (act.Send p q v) r refl
-acted_loose (Common (act.Print p v)) r is = plain_loose (act.Print p v) r refl
-acted_loose (Common (act.PrintAt p n v)) r is = plain_loose (act.PrintAt p n v) r refl
-acted_loose (Common (act.Clear p)) r is = plain_loose (act.Clear p) r refl
-acted_loose (Common (act.Look p)) r is = plain_loose (act.Look p) r refl
-acted_loose (Common (act.Reset p)) r is = plain_loose (act.Reset p) r refl
-acted_loose (Common (act.Tracer p b)) r is = plain_loose (act.Tracer p b) r refl
+acted_loose (Common a) r is = plain_loose a r refl
 
 module _ (s : State) (a : NodeAct) (o : Outcome) (x : NodeStepped s a o)
     (plain : is_reset (machine_act a) ≡ false) (p : Pid) where
@@ -232,62 +208,29 @@ now_shown es None l m e (inr (inr answer)) is are = absurd (false≢true (sym is
 
 -- RUNS
 
-abbrev AllShown : List Seen → List Seen → Type 0
-AllShown es [] = Unit {0}
-AllShown es (e ∷ rest) =
-    (is_receipt e ≡ false → WasLast es e.serial.prev)
-    × AllShown (es ++ e ∷ []) rest
-
-shown_part : (es : List Seen) (report : Option Seen) (rest : List Seen)
-    → ((e : Seen) → report ≡ Some e → is_receipt e ≡ false
-    → WasLast es e.serial.prev)
-    → AllShown (es ++ option_to_list report) rest
-    → AllShown es (option_to_list report ++ rest)
-shown_part es None rest now later = subst (λ xs. AllShown xs rest) (append-nil es) later
-shown_part es (Some e) rest now later = (now e refl, later)
-
-prevs_more : (es : List Seen) (report : Option Seen) (held : List Serial)
-    → AllByRecursion (WasPrev es) held
-    → AllByRecursion (WasPrev (es ++ option_to_list report)) held
-prevs_more es None held all =
-    subst (λ xs. AllByRecursion (WasPrev xs) held) (sym (append-nil es)) all
-prevs_more es (Some e) held all =
-    all_change (WasPrev es) (WasPrev (es ++ e ∷ [])) (λ x is. tokens_more e es (fresh x.prev) is)
-    held all
-
-prev_held : (es : List Seen) (found : Option Process)
-    → ((t : Token) → (local_found found).token ≡ Some t → WasPrev es t.serial)
-    → AllByRecursion (WasPrev es) (option_to_list (option_map (λ (t : Token). t.serial)
-    (option_and_then (λ (r : Process). r.local.token) found)))
-prev_held es None token = tt
-prev_held es (Some r) token =
-    elim r.local.token as (λ o. r.local.token ≡ o → AllByRecursion (WasPrev es)
-    (option_to_list (option_map (λ (t : Token). t.serial) o))) [
-      | None ↦ λ _. tt
-      | Some t ↦ λ is. (token t is, tt)
-    ] refl
+-- the prev of the stamp was a last
+abbrev HasShown : List Seen → Seen → Type 0
+HasShown es e = WasLast es e.serial.prev
 
 shown_from : (s : State) (acts : List NodeAct) (os : List Outcome) (p : Pid)
     (es : List Seen) (held : List Serial)
     → node_run_from s acts ≡ Some os → NoNodeReset acts → ReportsTaken p s acts os
     → PutsBackOwn p held s acts os → AllByRecursion (WasPrev es) held
     → AreShown es (local_in s p)
-    → AllShown es (seen_stream acts os p)
-shown_from s [] os p es held h none all own had now = tt
-shown_from s (a ∷ acts) os p es held h none all own had now =
-    let t = node_run_parts s a acts os h in
-    let o = t.first in
-    let tail = seen_stream acts t.others p in
-    let tells = subst (ReportsTaken p s (a ∷ acts)) t.is_whole all in
-    let owns = subst (PutsBackOwn p held s (a ∷ acts)) t.is_whole own in
-    let x = node_step_parts s a o t.is_first in
+    → EachStamp HasShown es (seen_stream acts os p)
+shown_from s [] os p es held h none tells owns had now = tt
+shown_from s (a ∷ acts) [] p es held h none tells owns had now = tt
+shown_from s (a ∷ acts) (o ∷ os) p es held h none tells owns had now =
+    let run = node_run_parts s a acts (o ∷ os) h in
+    let x = node_step_parts s a o run.0 in
+    let tail = seen_stream acts os p in
     let back = token_put_back a in
     let holds = held ++ serials_in s p in
     let have : AllByRecursion (WasPrev es) holds =
-    all_append (WasPrev es) held (serials_in s p) had (prev_held es (process s p) now.token) in
-    subst (λ xs. AllShown es (seen_stream (a ∷ acts) xs p)) (sym t.is_whole)
-    (elim (pid_eq (node_actor a) p) as (λ b. pid_eq (node_actor a) p ≡ b
-    → AllShown es ((if b then option_to_list (seen_by a o) else []) ++ tail)) [
+    all_append (WasPrev es) held (serials_in s p) had
+    (of_token (WasPrev es) (λ (t : Token). t.serial) (process s p) now.token) in
+    elim (pid_eq (node_actor a) p) as (λ b. pid_eq (node_actor a) p ≡ b
+    → EachStamp HasShown es ((if b then option_to_list (seen_by a o) else []) ++ tail)) [
       | true ↦ λ mine.
           let who = pid_same (node_actor a) p mine in
           let found = actor_found s a o x none.0 p mine in
@@ -296,31 +239,21 @@ shown_from s (a ∷ acts) os p es held h none all own had now =
           let moves = step_loose s a o x none.0 p mine tells.0 in
           let mine_own = λ (t : Token) (is : back ≡ Some t).
           all_of (WasPrev es) holds t.serial have (owns.0 who t is) in
-          shown_part es (seen_by a o) tail
+          stamps_part HasShown es (seen_by a o) tail
           (λ e is stamp. now_shown es back x.before.local x.done.local e
           (subst (Loosely back x.before.local x.done.local) is moves) stamp here)
-          (shown_from o.after acts t.others p (es ++ option_to_list (seen_by a o)) holds
-          t.is_rest none.1 tells.1 owns.1 (prevs_more es (seen_by a o) holds have)
+          (shown_from o.after acts os p (es ++ option_to_list (seen_by a o)) holds
+          run.1 none.1 tells.1 owns.1
+          (held_more WasPrev es (λ e x is. tokens_more e es (fresh x.prev) is) (seen_by a o) holds
+          have)
           (shown_same (es ++ option_to_list (seen_by a o)) x.done.local (local_in o.after p)
           (actor_same s a o x none.0 p mine)
           (next_shown es back x.before.local x.done.local (seen_by a o) moves mine_own here)))
       | false ↦ λ other.
-          shown_from o.after acts t.others p es holds t.is_rest none.1 tells.1 owns.1 have
+          shown_from o.after acts os p es holds run.1 none.1 tells.1 owns.1 have
           (shown_same es (local_in s p) (local_in o.after p)
           (other_same s a o x none.0 p other) now)
-    ] refl)
-
-shown_at : (es rest : List Seen) (i : ℕ) (e : Seen) → AllShown es rest → slice_get rest i ≡ Some e
-    → is_receipt e ≡ false → WasLast (es ++ take i rest) e.serial.prev
-shown_at es [] i e all at is = absurd (none-some e at)
-shown_at es (d ∷ rest) zero e all at is =
-    subst (λ xs. WasLast xs e.serial.prev) (sym (append-nil es))
-    (subst (λ (x : Seen). is_receipt x ≡ false → WasLast es x.serial.prev)
-    (same_Some d e at) all.0 is)
-shown_at es (d ∷ rest) (suc i) e all at is =
-    subst (λ xs. WasLast xs e.serial.prev)
-    (append_assoc es (d ∷ []) (take i rest))
-    (shown_at (es ++ d ∷ []) rest i e all.1 at is)
+    ] refl
 
 pub prevs_shown : (pids : List Pid) (acts : List NodeAct) (os : List Outcome)
     → node_run pids acts ≡ Some os → NoNodeReset acts → (p : Pid)
@@ -328,7 +261,7 @@ pub prevs_shown : (pids : List Pid) (acts : List NodeAct) (os : List Outcome)
     → (i : ℕ) (e : Seen) → slice_get (seen_stream acts os p) i ≡ Some e → e.kind ≢ kind.Receive
     → IsAmong (lasts (take i (seen_stream acts os p))) e.serial.prev
 prevs_shown pids acts os h none p tells own i e at other =
-    let found = shown_at [] (seen_stream acts os p) i e
+    let found = stamp_at HasShown [] (seen_stream acts os p) i e
     (shown_from (zero_state pids) acts os p [] [] h none tells own tt
     (subst (AreShown []) (sym (zero_found pids p))
     (record { last = inl refl; token = λ t is. absurd (none-some t is) }))) at

@@ -1,6 +1,6 @@
 -- Facts about each member of a list, and which lists have it.
-use Rattle.std.proofs.Common.{◌≡◌, ℕ, ◌⊎◌, zero, suc, List, [], ◌∷◌, ◌++◌, length, Some}
-use Rattle.std.proofs.Common.{◌≤◌, take, inl, inr, refl, arith, ap, subst}
+use Rattle.std.proofs.Common.{◌≡◌, ℕ, ◌+◌, ◌⊎◌, zero, suc, List, [], ◌∷◌, ◌++◌, length, Some, ◌≤◌}
+use Rattle.std.proofs.Common.{take, inl, inr, refl, arith, ap, subst}
 use Rattle.std.specs.List.{AllByRecursion, slice_get}
 use Rattle.std.proofs.lemmas.Option.{same_Some, none-some}
 use Rattle.node_machine.specs.Premises.{IsAmong}
@@ -53,6 +53,25 @@ length_push (y ∷ xs) x = ap suc (length_push xs x)
 pub length_more : {A : Type 0} (xs more : List A) → length xs ≤ length (xs ++ more)
 length_more [] more = omega arith
 length_more (y ∷ xs) more = let rest = length_more xs more in omega arith
+
+-- what holds of each item, its number from n on, and the item of another list at its place
+abbrev pub AllAlong : {A B : Type 0} → (ℕ → A → B → Type 0) → ℕ → List A → List B → Type 0
+AllAlong P n [] ys = Unit {0}
+AllAlong P n (x ∷ xs) [] = Unit {0}
+AllAlong P n (x ∷ xs) (y ∷ ys) = P n x y × AllAlong P (suc n) xs ys
+
+pub along_at : {A B : Type 0} (P : ℕ → A → B → Type 0) (n : ℕ) (xs : List A) (ys : List B) (i : ℕ)
+    (x : A) (y : B)
+    → AllAlong P n xs ys → slice_get xs i ≡ Some x → slice_get ys i ≡ Some y → P (n + i) x y
+along_at P n [] ys i x y all at is = absurd (none-some x at)
+along_at P n (a ∷ xs) [] i x y all at is = absurd (none-some y is)
+along_at P n (a ∷ xs) (b ∷ ys) zero x y all at is =
+    let same : n ≡ n + 0 = omega arith in
+    subst (λ k. P k x y) same
+    (subst (P n x) (same_Some b y is) (subst (λ z. P n z b) (same_Some a x at) all.0))
+along_at P n (a ∷ xs) (b ∷ ys) (suc i) x y all at is =
+    let same : suc n + i ≡ n + suc i = omega arith in
+    subst (λ k. P k x y) same (along_at P (suc n) xs ys i x y all.1 at is)
 
 pub take_front : {A : Type 0} (xs rest : List A) → take (length xs) (xs ++ rest) ≡ xs
 take_front [] rest = refl

@@ -1,6 +1,6 @@
 -- How an act of the node that is reported if it moves a token changes its actor's counts and token.
-use Rattle.std.proofs.Common.{◌≡◌, ◌≢◌, ℕ, ◌⊎◌, ◌&&◌, max, Bool, true, false, cond, Option}
-use Rattle.std.proofs.Common.{Some, None, is_some, IsSome, option_map, inl, inr, refl, sym, ◌∙◌, ap}
+use Rattle.std.proofs.Common.{◌≡◌, ◌≢◌, ℕ, ◌⊎◌, ◌&&◌, max, Bool, true, false, cond, Option, Some}
+use Rattle.std.proofs.Common.{None, is_some, IsSome, option_map, inl, inr, refl, sym, ◌∙◌, ap}
 use Rattle.std.proofs.Common.{subst}
 use Rattle.std.specs.Option.{option_map_or}
 use Rattle.std.proofs.lemmas.Bool.{false≢true}
@@ -25,13 +25,14 @@ use Rattle.st_core.specs.Step.{Acted, answers, prints, receives}
 use Rattle.st_core.specs.Laws.{moves_token}
 use Rattle.node_machine.specs.Counts.{answer_count, next_clock, stamp_count, node_token}
 use Rattle.node_machine.specs.Counts.{serial_count}
-use Rattle.node_machine.specs.Node.{after_answer, after_stamp, Answer, Common, fresh_token}
-use Rattle.node_machine.specs.Node.{is_answer, machine_act, node_acted, node_found}
+use Rattle.node_machine.specs.Node.{after_answer, after_put_back, after_stamp, Answer, Common}
+use Rattle.node_machine.specs.Node.{fresh_token, is_answer, machine_act, node_acted, node_found}
 use Rattle.node_machine.specs.Node.{node_stamped_token, NodeAct, Seen, seen, takes_answer}
 use Rattle.node_machine.specs.Node.{token_to_set}
 use Rattle.node_machine.specs.Premises.{token_put_back}
 use Rattle.node_machine.specs.Readings.{is_receipt}
 use Rattle.node_machine.proofs.Counts.{FitsSerial, serial_fits}
+use Rattle.node_machine.proofs.Steps.{stamp_either}
 
 -- nothing is reported and the counts stay. A token that is there has the serial of the one before,
 -- or of one that was made
@@ -138,45 +139,19 @@ module _ (l : LocalState) (k : Kind)
   }
   made_moves t false had is = absurd (false≢true is)
 
-  abbrev stamped_as : Option Token → LocalState
-  stamped_as None = l
-  stamped_as (Some t) = record l {
-    token = Some (node_stamped_token p l t);
-    clock = next_clock l.clock;
-  }
-
-  moves_at : (token : Option Token) → l.token ≡ token
-      → (let m = stamped_as token in
-      (is_some token ≡ true → IsSome (report traced k m.token to v))
-      → StampMoves l m (report traced k m.token to v))
-  moves_at None e is =
-      subst (λ token. StampMoves l l (report traced k token to v)) (sym e) (unmoved l)
-  moves_at (Some t) e is = made_moves t (traced && flag_of k t.flags) e (is refl)
-
-  stamped_same : (token : Option Token) → (let m : LocalState = elim token [
-    | None ↦ l
-    | Some t ↦ record l {
-      token = Some (node_stamped_token p l t);
-      clock = next_clock l.clock;
-    }
-  ] in stamped_as token ≡ m)
-  stamped_same None = refl
-  stamped_same (Some t) = refl
-
   pub stamp_moves : (is_some l.token ≡ true
       → IsSome (report traced k (after_stamp p l).token to v))
       → StampMoves l (after_stamp p l) (report traced k (after_stamp p l).token to v)
-  stamp_moves is =
-      let same = stamped_same l.token in
-      subst (λ (m : LocalState). (is_some l.token ≡ true
-      → IsSome (report traced k m.token to v)) → StampMoves l m (report traced k m.token to v))
-      same (moves_at l.token refl) is
+  stamp_moves = stamp_either (λ (m : LocalState). (is_some l.token ≡ true
+      → IsSome (report traced k m.token to v)) → StampMoves l m (report traced k m.token to v)) p l
+      (λ none _.
+      subst (λ token. StampMoves l l (report traced k token to v)) (sym none) (unmoved l))
+      (λ t had is. made_moves t (traced && flag_of k t.flags) had (is (ap is_some had)))
 
 pub no_receive : (k : Kind) → k ≢ kind.Receive → (e : Event) → e.kind ≡ k
     → is_receipt (seen false e) ≡ false
-no_receive kind.Send other e is = rw is refl
 no_receive kind.Receive other e is = absurd (other refl)
-no_receive kind.Print other e is = rw is refl
+no_receive k other e is = rw is refl
 
 -- THE ACTOR'S PART
 
@@ -218,15 +193,36 @@ plain_stamps (act.PrintAt p n v) r plain =
 plain_stamps (act.Set p c) r plain = absurd (false≢true plain)
 plain_stamps (act.Clear p) r plain = λ _. emptied r.local
 plain_stamps (act.Restore p t) r plain = absurd (false≢true plain)
-plain_stamps (act.Look p) r plain = λ _. unmoved r.local
-plain_stamps (act.Reset p) r plain = λ _. unmoved r.local
-plain_stamps (act.Tracer p b) r plain = λ _. unmoved r.local
+plain_stamps a r plain = λ _. unmoved r.local
 
 pub plain_moves : (a : Act) (r : Process) → is_plain a ≡ true
     → PartMoves None false r (node_acted r (Common a)) (moves_token r a)
 plain_moves a r plain is =
     let done = node_acted r (Common a) in
     stamp_moves_on r.local done.local done.report (plain_stamps a r plain is)
+
+pub taken_token : (l : LocalState) (p : Pid) (v : ℕ) (t : Token)
+    → IsTake l (received l (Some (node_token t)))
+    (seen false (token_event kind.Receive (node_token t) (Some p) v))
+taken_token l p v t = record {
+  kind = refl;
+  answer = refl;
+  fits = serial_fits t.serial.this;
+  clock = refl;
+  last = refl;
+  token = λ u at. ap (λ (x : Token). x.serial) (same_Some (node_token t) u at);
+  label = λ u at. ap (λ (x : Token). x.label) (same_Some (node_token t) u at);
+}
+
+pub answered_token : (l : LocalState) (p : Pid) (v : ℕ) (t : Token)
+    → IsAnswered l (after_answer l (Some (node_token t)))
+    (seen true (token_event kind.Receive (node_token t) (Some p) v))
+answered_token l p v t =
+    record { kind = refl; answer = refl; clock = refl; last = refl; token = refl }
+
+pub put_back : (l : LocalState) (t : Token) → IsBack (node_token t) (after_put_back t l)
+put_back l t =
+    record { fits = serial_fits t.serial.this; clock = refl; last = refl; token = refl }
 
 take_moves : (r : Process) (place : ℕ) (from : Pid) (v : ℕ) (token : Option Token)
     → (let m : Message = record { from = from; value = v; token = token } in
@@ -238,15 +234,7 @@ take_moves r place from v (Some t) is =
     cond b (Some (token_event kind.Receive (node_token t) (Some r.pid) v)) None in
     IsSome told
     → Moves None r.local (received r.local (Some (node_token t))) (option_map (seen false) told))) [
-      | true ↦ λ is. inr (inl (record {
-        kind = refl;
-        answer = refl;
-        fits = serial_fits t.serial.this;
-        clock = refl;
-        last = refl;
-        token = λ u at. ap (λ (x : Token). x.serial) (same_Some (node_token t) u at);
-        label = λ u at. ap (λ (x : Token). x.label) (same_Some (node_token t) u at);
-      }))
+      | true ↦ λ is. inr (inl (taken_token r.local r.pid v t))
       | false ↦ λ is. absurd (false≢true is)
     ] (is refl)
 
@@ -260,9 +248,7 @@ received_moves r (Some found) is =
 
 same_in_set : (c : Component) (t : Token) → (with_component c t).serial ≡ t.serial
 same_in_set (component.Label n) t = refl
-same_in_set (component.Send b) t = refl
-same_in_set (component.Receive b) t = refl
-same_in_set (component.Print b) t = refl
+same_in_set c t = refl
 
 pub set_serial : (p : Pid) (c : Component) (l : LocalState) (token : Option Token)
     → (let made : Token = elim token [ None ↦ fresh_token p l | Some t ↦ t ] in
@@ -285,13 +271,7 @@ answer_moves r place from v (Some t) is =
     IsSome told
     → Moves None r.local (after_answer r.local (Some (node_token t)))
     (option_map (seen true) told))) [
-      | true ↦ λ is. inr (inr (record {
-        kind = refl;
-        answer = refl;
-        clock = refl;
-        last = refl;
-        token = refl;
-      }))
+      | true ↦ λ is. inr (inr (answered_token r.local r.pid v t))
       | false ↦ λ is. absurd (false≢true is)
     ] (is refl)
 
@@ -313,14 +293,5 @@ node_acted_moves (Common (act.Set p c)) r = λ _. record {
   token = λ t is. set_serial r.pid c r.local r.local.token t
       (same_Some (with_component c (token_to_set r.pid r.local)) t is);
 }
-node_acted_moves (Common (act.Restore p t)) r = λ _. (
-  refl,
-  record { fits = serial_fits t.serial.this; clock = refl; last = refl; token = refl },
-)
-node_acted_moves (Common (act.Send p q v)) r = plain_moves (act.Send p q v) r refl
-node_acted_moves (Common (act.Print p v)) r = plain_moves (act.Print p v) r refl
-node_acted_moves (Common (act.PrintAt p n v)) r = plain_moves (act.PrintAt p n v) r refl
-node_acted_moves (Common (act.Clear p)) r = plain_moves (act.Clear p) r refl
-node_acted_moves (Common (act.Look p)) r = plain_moves (act.Look p) r refl
-node_acted_moves (Common (act.Reset p)) r = plain_moves (act.Reset p) r refl
-node_acted_moves (Common (act.Tracer p b)) r = plain_moves (act.Tracer p b) r refl
+node_acted_moves (Common (act.Restore p t)) r = λ _. (refl, put_back r.local t)
+node_acted_moves (Common a) r = plain_moves a r refl

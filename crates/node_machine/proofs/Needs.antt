@@ -1,9 +1,8 @@
 -- A run reads its events in one way: where it puts tokens back. So it puts back at least as many as
 -- each way to read them needs.
 use Rattle.std.proofs.Common.{◌≡◌, ℕ, ◌+◌, ◌⊎◌, ◌&&◌, ◌≤◌, max, true, false, cond, List, [], ◌∷◌}
-use Rattle.std.proofs.Common.{◌++◌}
-use Rattle.std.proofs.Common.{Option, Some, None, is_some, option_to_list, inl, inr, refl, arith}
-use Rattle.std.proofs.Common.{sym, ◌∙◌, ap, subst, append_assoc, append-nil, if◌then◌else◌}
+use Rattle.std.proofs.Common.{◌++◌, Option, Some, None, is_some, option_to_list, inl, inr, refl}
+use Rattle.std.proofs.Common.{arith, sym, ◌∙◌, ap, subst, append_assoc, append-nil, if◌then◌else◌}
 use Rattle.st_core.specs.declared.types.Pid.{Pid}
 use Rattle.st_core.specs.declared.types.Token.{Token}
 use Rattle.st_core.specs.Pid.{pid_eq}
@@ -20,8 +19,8 @@ use Rattle.node_machine.specs.Readings.{Reading, readings, taking}
 use Rattle.node_machine.proofs.Counts.{FitsSerial}
 use Rattle.node_machine.proofs.Lists.{all_of}
 use Rattle.node_machine.proofs.Readings.{clock_fits, put_back_reads, stamp_reads, take_reads}
-use Rattle.node_machine.proofs.Steps.{node_run_parts, node_step_parts}
-use Rattle.node_machine.proofs.Steps.{actor_found, actor_same, other_same}
+use Rattle.node_machine.proofs.Steps.{node_run_parts, node_step_parts, actor_found, actor_same}
+use Rattle.node_machine.proofs.Steps.{other_same}
 use Rattle.node_machine.proofs.Moves.{IsStamp, Moves}
 use Rattle.node_machine.proofs.Tokens.{clock_by_answer, clock_by_receive, last_by_answer}
 use Rattle.node_machine.proofs.Tokens.{last_by_receive, last_push}
@@ -137,21 +136,18 @@ read_from : (s : State) (acts : List NodeAct) (os : List Outcome) (p : Pid)
     → node_run_from s acts ≡ Some os → NoNodeReset acts → ReportsTokens p s acts os
     → IsRead es spent (local_in s p)
     → ReadsWithin (es ++ seen_stream acts os p) (put_backs p acts + spent)
-read_from s [] os p es spent h none all now =
+read_from s [] os p es spent h none tells now =
     let within = read_within es spent (local_in s p) now in
     subst (λ xs. ReadsWithin xs (0 + spent)) (sym (append-nil es))
     (now.reading, now.reads, omega arith)
-read_from s (a ∷ acts) os p es spent h none all now =
-    let t = node_run_parts s a acts os h in
-    let o = t.first in
-    let tail = seen_stream acts t.others p in
-    let tells = subst (ReportsTokens p s (a ∷ acts)) t.is_whole all in
-    let x = node_step_parts s a o t.is_first in
+read_from s (a ∷ acts) [] p es spent h none tells now = absurd (node_run_parts s a acts [] h)
+read_from s (a ∷ acts) (o ∷ os) p es spent h none tells now =
+    let run = node_run_parts s a acts (o ∷ os) h in
+    let x = node_step_parts s a o run.0 in
+    let tail = seen_stream acts os p in
     let back = token_put_back a in
     let backs = put_backs p acts in
-    subst (λ xs. ReadsWithin (es ++ seen_stream (a ∷ acts) xs p) (put_backs p (a ∷ acts) + spent))
-    (sym t.is_whole)
-    (elim (pid_eq (node_actor a) p) as (λ b. pid_eq (node_actor a) p ≡ b
+    elim (pid_eq (node_actor a) p) as (λ b. pid_eq (node_actor a) p ≡ b
     → ReadsWithin (es ++ ((if b then option_to_list (seen_by a o) else []) ++ tail))
     (cond (b && is_some back) 1 0 + backs + spent)) [
       | true ↦ λ mine.
@@ -165,7 +161,7 @@ read_from s (a ∷ acts) os p es spent h none all now =
           let same = counted_is back spent in
           let next = read_same told more x.done.local (local_in o.after p) to.clock to.last
           (next_read es spent back x.before.local x.done.local (seen_by a o) moves here) in
-          let rest = read_from o.after acts t.others p told more t.is_rest none.1 tells.1 next in
+          let rest = read_from o.after acts os p told more run.1 none.1 tells.1 next in
           subst (λ xs. ReadsWithin xs (cond (is_some back) 1 0 + backs + spent))
           (append_assoc es (option_to_list (seen_by a o)) tail)
           (within_more (told ++ tail) (backs + more) (cond (is_some back) 1 0 + backs + spent)
@@ -173,9 +169,9 @@ read_from s (a ∷ acts) os p es spent h none all now =
       | false ↦ λ other.
           let to = other_same s a o x none.0 p other in
           within_more (es ++ tail) (backs + spent) (0 + backs + spent) (omega arith)
-          (read_from o.after acts t.others p es spent t.is_rest none.1 tells.1
+          (read_from o.after acts os p es spent run.1 none.1 tells.1
           (read_same es spent (local_in s p) (local_in o.after p) to.clock to.last now))
-    ] refl)
+    ] refl
 
 zero_read : IsRead [] 0 zero_local
 zero_read = record {

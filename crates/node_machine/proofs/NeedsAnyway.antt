@@ -15,8 +15,8 @@ use Rattle.node_machine.specs.Node.{seen_stream}
 use Rattle.node_machine.specs.Premises.{NoNodeReset, put_backs, ReportsTaken, token_put_back}
 use Rattle.node_machine.specs.Readings.{is_receipt, last_by}
 use Rattle.node_machine.specs.Given.{strange_prevs, strange_prevs_from}
-use Rattle.node_machine.proofs.Steps.{node_run_parts, node_step_parts, SameButTraced}
-use Rattle.node_machine.proofs.Steps.{actor_found, actor_same, other_same}
+use Rattle.node_machine.proofs.Steps.{node_run_parts, node_step_parts, SameButTraced, actor_found}
+use Rattle.node_machine.proofs.Steps.{actor_same, other_same}
 use Rattle.node_machine.proofs.Lasts.{Loosely, step_loose}
 use Rattle.node_machine.proofs.Tokens.{last_by_answer, last_by_receive, last_by_stamp}
 
@@ -70,57 +70,38 @@ act_paid spare last None l m None moves (inl is) =
     record { more = spare; later = (inl (moves.last ∙ is), omega arith) }
 act_paid spare last None l m None moves (inr is) =
     record { more = spare; later = (inr is, omega arith) }
-act_paid spare last None l m (Some e) (inl stamp) (inl is) =
-    let none = next_no_need last e stamp.kind (stamp.prev ∙ is) in
-    record {
-      more = 0;
-      later = (
-        inl (stamp.last ∙ sym stamp.prev ∙ sym (last_by_stamp e stamp.kind)),
-        omega arith,
-      );
-    }
-act_paid spare last None l m (Some e) (inl stamp) (inr is) =
-    let within = need_within last e in
-    record {
-      more = 0;
-      later = (
-        inl (stamp.last ∙ sym stamp.prev ∙ sym (last_by_stamp e stamp.kind)),
-        omega arith,
-      );
-    }
+act_paid spare last None l m (Some e) (inl stamp) now =
+    let enough : need last e ≤ spare = elim now as (λ _. need last e ≤ spare) [
+      | inl is ↦ let none = next_no_need last e stamp.kind (stamp.prev ∙ is) in omega arith
+      | inr is ↦ let within = need_within last e in omega arith
+    ] in
+    let behind = stamp.last ∙ sym stamp.prev ∙ sym (last_by_stamp e stamp.kind) in
+    record { more = 0; later = (inl behind, omega arith) }
 act_paid spare last None l m (Some e) (inr (inl take)) now =
     let none = no_need last e take.kind in
-    record {
-      more = 0;
-      later = (inl (take.last ∙ sym (last_by_receive e take.kind take.answer)), omega arith);
-    }
+    let behind = take.last ∙ sym (last_by_receive e take.kind take.answer) in
+    record { more = 0; later = (inl behind, omega arith) }
 act_paid spare last None l m (Some e) (inr (inr answer)) now =
     let none = no_need last e answer.kind in
-    record {
-      more = 0;
-      later = (inl (answer.last ∙ sym (last_by_answer e answer.kind answer.answer)), omega arith);
-    }
+    let behind = answer.last ∙ sym (last_by_answer e answer.kind answer.answer) in
+    record { more = 0; later = (inl behind, omega arith) }
 
 paid_for : (s : State) (acts : List NodeAct) (os : List Outcome) (p : Pid)
     (spare last : ℕ)
     → node_run_from s acts ≡ Some os → NoNodeReset acts → ReportsTaken p s acts os
     → Spare spare last (local_in s p)
     → strange_prevs_from last (seen_stream acts os p) ≤ put_backs p acts + spare
-paid_for s [] os p spare last h none all now = omega arith
-paid_for s (a ∷ acts) os p spare last h none all now =
-    let t = node_run_parts s a acts os h in
-    let o = t.first in
-    let tail = seen_stream acts t.others p in
-    let tells = subst (ReportsTaken p s (a ∷ acts)) t.is_whole all in
-    let x = node_step_parts s a o t.is_first in
+paid_for s [] os p spare last h none tells now = omega arith
+paid_for s (a ∷ acts) [] p spare last h none tells now = omega arith
+paid_for s (a ∷ acts) (o ∷ os) p spare last h none tells now =
+    let run = node_run_parts s a acts (o ∷ os) h in
+    let x = node_step_parts s a o run.0 in
+    let tail = seen_stream acts os p in
     let later = λ (spare last : ℕ) (now : Spare spare last (local_in o.after p)).
-    paid_for o.after acts t.others p spare last t.is_rest none.1 tells.1 now in
+    paid_for o.after acts os p spare last run.1 none.1 tells.1 now in
     let backs = put_backs p acts in
     let some = is_some (token_put_back a) in
-    subst (λ xs. strange_prevs_from last (seen_stream (a ∷ acts) xs p)
-    ≤ put_backs p (a ∷ acts) + spare)
-    (sym t.is_whole)
-    (elim (pid_eq (node_actor a) p) as (λ b. pid_eq (node_actor a) p ≡ b
+    elim (pid_eq (node_actor a) p) as (λ b. pid_eq (node_actor a) p ≡ b
     → strange_prevs_from last ((if b then option_to_list (seen_by a o) else []) ++ tail)
     ≤ cond (b && some) 1 0 + backs + spare) [
       | true ↦ λ mine.
@@ -150,7 +131,7 @@ paid_for s (a ∷ acts) os p spare last h none all now =
           let rest = later spare last (spare_same spare last (local_in s p)
           (local_in o.after p) (other_same s a o x none.0 p other) now) in
           omega arith
-    ] refl)
+    ] refl
 
 pub needs_put_back_anyway : (pids : List Pid) (acts : List NodeAct) (os : List Outcome)
     → node_run pids acts ≡ Some os → NoNodeReset acts → (p : Pid)

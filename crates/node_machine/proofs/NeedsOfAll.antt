@@ -1,6 +1,6 @@
 -- An act is of one process, so the put-backs of several are no more than all.
-use Rattle.std.proofs.Common.{◌≡◌, ℕ, ◌+◌, ◌≤◌, ◌&&◌, cond, Bool, true, false, List, [], ◌∷◌}
-use Rattle.std.proofs.Common.{Some, is_some, refl, arith, sym, ap, subst}
+use Rattle.std.proofs.Common.{◌≡◌, ℕ, ◌+◌, ◌≤◌, ◌&&◌, cond, Bool, true, false, List, [], ◌∷◌, Some}
+use Rattle.std.proofs.Common.{is_some, refl, arith, sym, ap, subst}
 use Rattle.std.specs.List.{AllByRecursion, count_by, sum_by}
 use Rattle.std.proofs.lemmas.List.Sums.{sum_by-cons}
 use Rattle.st_core.specs.declared.types.Pid.{Pid}
@@ -52,7 +52,7 @@ sum_of_both f g (p ∷ ps) =
     let second = sum_by-cons g p ps in
     omega arith
 
-count_first : {A : Type 0} (test : A → Bool) (x : A) (xs : List A)
+pub count_first : {A : Type 0} (test : A → Bool) (x : A) (xs : List A)
     → count_by test (x ∷ xs) ≡ cond (test x) 1 0 + count_by test xs
 count_first {A} test x xs = sum_by-cons (λ (y : A). cond (test y) 1 0) x xs
 

@@ -1,12 +1,11 @@
 -- A stamp that doesn't go on from the counts before it has a put-back between the stamp before it
 -- and itself.
-use Rattle.std.proofs.Common.{◌≡◌, ◌≢◌, ℕ, ◌⊎◌, ◌&&◌, zero, suc, true, false, cond, List, [], ◌∷◌}
-use Rattle.std.proofs.Common.{◌++◌, length, take, Option, Some, None, is_some, option_to_list, inl}
-use Rattle.std.proofs.Common.{inr, refl, sym, ◌∙◌, ap, subst, append_assoc, append-nil}
-use Rattle.std.proofs.Common.{if◌then◌else◌}
+use Rattle.std.proofs.Common.{◌≡◌, ◌≢◌, ℕ, ◌⊎◌, ◌&&◌, true, false, cond, List, [], ◌∷◌, ◌++◌}
+use Rattle.std.proofs.Common.{length, take, Option, Some, None, is_some, option_to_list, inl, inr}
+use Rattle.std.proofs.Common.{refl, sym, ◌∙◌, ap, subst, append_assoc, append-nil, if◌then◌else◌}
 use Rattle.std.specs.List.{slice_get}
 use Rattle.std.proofs.lemmas.Bool.{false≢true}
-use Rattle.std.proofs.lemmas.Option.{same_Some, none-some}
+use Rattle.std.proofs.lemmas.Option.{none-some}
 use Rattle.st_core.specs.declared.types.Pid.{Pid}
 use Rattle.st_core.specs.declared.types.Token.{Token}
 use Rattle.st_core.specs.declared.types.Kind.TheVariants as kind
@@ -22,13 +21,13 @@ use Rattle.node_machine.specs.Readings.{readings}
 use Rattle.node_machine.specs.Given.{IsMet, IsStraight, takes}
 use Rattle.node_machine.proofs.Counts.{FitsSerial}
 use Rattle.node_machine.proofs.Lists.{all_append, all_of, among_back}
-use Rattle.node_machine.proofs.Steps.{node_run_parts, node_step_parts}
-use Rattle.node_machine.proofs.Steps.{actor_found, actor_same, other_same}
+use Rattle.node_machine.proofs.Steps.{node_run_parts, node_step_parts, actor_found, actor_same}
+use Rattle.node_machine.proofs.Steps.{other_same}
 use Rattle.node_machine.proofs.Moves.{Moves}
 use Rattle.node_machine.proofs.Tokens.{takes_true}
-use Rattle.node_machine.proofs.Givens.{answer_plain, next_stamp, no_receive, stamp_back}
-use Rattle.node_machine.proofs.Givens.{stamp_plain, step_moves}
-use Rattle.node_machine.proofs.Givens.{take_fits, take_plain, zero_straight}
+use Rattle.node_machine.proofs.Givens.{answer_plain, next_stamp, no_receive, stamp_back, EachStamp}
+use Rattle.node_machine.proofs.Givens.{stamp_at, stamps_part, stamp_plain, step_moves, take_fits}
+use Rattle.node_machine.proofs.Givens.{take_plain, zero_straight}
 
 -- the counts are those that the events lead to, or a token was put back since the last stamp
 abbrev IsCounted : List ℕ → List Seen → LocalState → Type 0
@@ -93,47 +92,34 @@ now_met all es None l m e (inr (inl take)) is needs (inl plain) =
 now_met all es None l m e (inr (inr answer)) is needs (inl plain) =
     absurd (false≢true (sym is ∙ answer.kind))
 
--- each needing stamp among the later events is met
-abbrev AreMet : List ℕ → List Seen → List Seen → Type 0
-AreMet all es [] = Unit {0}
-AreMet all es (e ∷ rest) = (is_receipt e ≡ false → NeedsPutBack es e → IsMet all es)
-    × AreMet all (es ++ e ∷ []) rest
-
-met_part : (all : List ℕ) (es : List Seen) (report : Option Seen) (rest : List Seen)
-    → ((e : Seen) → report ≡ Some e → is_receipt e ≡ false → NeedsPutBack es e → IsMet all es)
-    → AreMet all (es ++ option_to_list report) rest
-    → AreMet all es (option_to_list report ++ rest)
-met_part all es None rest now later = subst (λ xs. AreMet all xs rest) (append-nil es) later
-met_part all es (Some e) rest now later = (now e refl, later)
+-- a stamp that needs a put-back has one
+abbrev HasMet : List ℕ → List Seen → Seen → Type 0
+HasMet all es e = NeedsPutBack es e → IsMet all es
 
 met_from : (all : List ℕ) (s : State) (acts : List NodeAct) (os : List Outcome) (p : Pid)
     (es : List Seen)
     → ((n : ℕ) → IsAmong (places p es acts os) n → IsAmong all n)
     → node_run_from s acts ≡ Some os → NoNodeReset acts → ReportsTokens p s acts os
     → IsCounted all es (local_in s p)
-    → AreMet all es (seen_stream acts os p)
-met_from all s [] os p es among h none told now = tt
-met_from all s (a ∷ acts) os p es among h none told now =
-    let t = node_run_parts s a acts os h in
-    let o = t.first in
-    let tail = seen_stream acts t.others p in
-    let tells = subst (ReportsTokens p s (a ∷ acts)) t.is_whole told in
-    let placed = subst (λ xs. (n : ℕ) → IsAmong (places p es (a ∷ acts) xs) n → IsAmong all n)
-    t.is_whole among in
-    let x = node_step_parts s a o t.is_first in
+    → EachStamp (HasMet all) es (seen_stream acts os p)
+met_from all s [] os p es placed h none tells now = tt
+met_from all s (a ∷ acts) [] p es placed h none tells now = tt
+met_from all s (a ∷ acts) (o ∷ os) p es placed h none tells now =
+    let run = node_run_parts s a acts (o ∷ os) h in
+    let x = node_step_parts s a o run.0 in
+    let tail = seen_stream acts os p in
     let back = token_put_back a in
-    subst (λ xs. AreMet all es (seen_stream (a ∷ acts) xs p)) (sym t.is_whole)
-    (elim (pid_eq (node_actor a) p) as (λ b. pid_eq (node_actor a) p ≡ b
+    elim (pid_eq (node_actor a) p) as (λ b. pid_eq (node_actor a) p ≡ b
     → ((n : ℕ) → IsAmong ((if b && is_some back then length es ∷ [] else [])
-    ++ places p (es ++ (if b then option_to_list (seen_by a o) else [])) acts t.others) n
+    ++ places p (es ++ (if b then option_to_list (seen_by a o) else [])) acts os) n
     → IsAmong all n)
-    → AreMet all es ((if b then option_to_list (seen_by a o) else []) ++ tail)) [
+    → EachStamp (HasMet all) es ((if b then option_to_list (seen_by a o) else []) ++ tail)) [
       | true ↦ λ mine placed.
           let found = actor_found s a o x none.0 p mine in
           let here : IsCounted all es x.before.local =
           subst (IsCounted all es) (ap local_found found) now in
           let moves = step_moves s a o x none.0 p mine tells.0 in
-          let rest = places p (es ++ option_to_list (seen_by a o)) acts t.others in
+          let rest = places p (es ++ option_to_list (seen_by a o)) acts os in
           let meets : is_some back ≡ true → IsMet all es =
           λ yes. record {
             front = es;
@@ -145,37 +131,23 @@ met_from all s (a ∷ acts) os p es among h none told now =
                 (inl refl));
           } in
           let to = actor_same s a o x none.0 p mine in
-          met_part all es (seen_by a o) tail
+          stamps_part (HasMet all) es (seen_by a o) tail
           (λ e is stamp needs. now_met all es back x.before.local x.done.local e
           (subst (Moves back x.before.local x.done.local) is moves) stamp needs here)
-          (met_from all o.after acts t.others p (es ++ option_to_list (seen_by a o))
+          (met_from all o.after acts os p (es ++ option_to_list (seen_by a o))
           (λ n is. placed n (among_back (cond (is_some back) (length es ∷ []) []) rest n is))
-          t.is_rest none.1 tells.1
+          run.1 none.1 tells.1
           (counted_same all (es ++ option_to_list (seen_by a o)) x.done.local (local_in o.after p)
           to.clock to.last
           (next_counted all es back x.before.local x.done.local (seen_by a o) moves meets here)))
       | false ↦ λ other placed.
           let to = other_same s a o x none.0 p other in
-          met_from all o.after acts t.others p es
-          (λ n is. placed n (subst (λ xs. IsAmong (places p xs acts t.others) n)
+          met_from all o.after acts os p es
+          (λ n is. placed n (subst (λ xs. IsAmong (places p xs acts os) n)
           (sym (append-nil es)) is))
-          t.is_rest none.1 tells.1
+          run.1 none.1 tells.1
           (counted_same all es (local_in s p) (local_in o.after p) to.clock to.last now)
-    ] refl placed)
-
-met_at : (all : List ℕ) (es rest : List Seen) (i : ℕ) (e : Seen) → AreMet all es rest
-    → slice_get rest i ≡ Some e
-    → is_receipt e ≡ false → NeedsPutBack (es ++ take i rest) e → IsMet all (es ++ take i rest)
-met_at all es [] i e are at is needs = absurd (none-some e at)
-met_at all es (d ∷ rest) zero e are at is needs =
-    subst (IsMet all) (sym (append-nil es))
-    (subst (λ x. is_receipt x ≡ false → NeedsPutBack es x → IsMet all es) (same_Some d e at) are.0
-    is
-    (subst (λ xs. NeedsPutBack xs e) (append-nil es) needs))
-met_at all es (d ∷ rest) (suc i) e are at is needs =
-    subst (IsMet all) (append_assoc es (d ∷ []) (take i rest))
-    (met_at all (es ++ d ∷ []) rest i e are.1 at is
-    (subst (λ xs. NeedsPutBack xs e) (sym (append_assoc es (d ∷ []) (take i rest))) needs))
+    ] refl placed
 
 pub needs_met : (pids : List Pid) (acts : List NodeAct) (os : List Outcome)
     → node_run pids acts ≡ Some os → NoNodeReset acts → (p : Pid)
@@ -185,7 +157,7 @@ pub needs_met : (pids : List Pid) (acts : List NodeAct) (os : List Outcome)
     NeedsPutBack es e → IsMet (places p [] acts os) es)
 needs_met pids acts os h none p tells i e at other needs =
     let all = places p [] acts os in
-    met_at all [] (seen_stream acts os p) i e
+    stamp_at (HasMet all) [] (seen_stream acts os p) i e
     (met_from all (zero_state pids) acts os p [] (λ n is. is) h none tells
     (subst (IsCounted all []) (sym (zero_found pids p)) (inl zero_straight))) at
     (no_receive e other) needs

@@ -3,12 +3,11 @@
 -- than were sent. They may be fewer, since a reset takes tokens away, and receives may go
 -- unreported.
 use Rattle.std.proofs.Common.{◌≡◌, ℕ, ◌+◌, ◌≤◌, ◌⊎◌, ◌&&◌, Bool, true, false, cond, List, [], ◌∷◌}
-use Rattle.std.proofs.Common.{◌++◌, map, Option, Some, None, is_some, option_map, inl, inr}
-use Rattle.std.proofs.Common.{refl, arith, sym, ◌∙◌, ap, subst}
+use Rattle.std.proofs.Common.{◌++◌, map, Option, Some, None, is_some, option_map, inl, inr, refl}
+use Rattle.std.proofs.Common.{arith, sym, ◌∙◌, ap, subst}
 use Rattle.std.specs.List.{count_by, remove, slice_get}
 use Rattle.std.proofs.lemmas.List.Sums.{sum_by-append, sum_by-cons, sum_by-remove}
-use Rattle.std.proofs.lemmas.Option.{get_or_from_slice_get, none-some, same_Some}
-use Rattle.std.proofs.lemmas.Option.{slice_get_within}
+use Rattle.std.proofs.lemmas.Option.{get_or_from_slice_get, none-some, same_Some, slice_get_within}
 use Rattle.st_core.specs.declared.types.Pid.{Pid}
 use Rattle.st_core.specs.declared.types.Token.{Token}
 use Rattle.st_core.specs.declared.types.Message.{Message}
@@ -22,21 +21,22 @@ use Rattle.st_core.specs.declared.types.Want.{Want}
 use Rattle.st_core.specs.declared.types.Want.TheVariants as want
 use Rattle.st_core.specs.Pid.{node_eq, pid_eq}
 use Rattle.st_core.specs.Event.{kind_eq}
-use Rattle.st_core.specs.Local.{has_label, received, wiped}
+use Rattle.st_core.specs.Local.{received, wiped}
 use Rattle.st_core.specs.Pick.{pick}
 use Rattle.st_core.specs.Report.{flag_of, report, token_event}
-use Rattle.st_core.specs.State.{LocalState, Process, State, process, zero_local}
-use Rattle.st_core.specs.State.{zero_state}
+use Rattle.st_core.specs.State.{LocalState, Process, State, process, zero_local, zero_state}
 use Rattle.st_core.specs.Step.{Acted, actor, answers, changed, Outcome, prints, reached, receives}
 use Rattle.st_core.specs.Step.{untraced}
 use Rattle.st_core.specs.Streams.{is_own}
-use Rattle.st_core.proofs.ForCallers.{local_found, mapped, pick_found, pid_eq-refl, pid_eq-swap}
-use Rattle.st_core.proofs.ForCallers.{pid_same, process_pid, zero_found}
+use Rattle.st_core.proofs.ForCallers.{both_true, local_found, mapped, some_if, pick_found}
+use Rattle.st_core.proofs.ForCallers.{pid_eq-refl, pid_eq-swap, pid_same, process_pid, zero_found}
 use Rattle.node_machine.specs.Counts.{node_token, stamp_count, next_clock}
 use Rattle.node_machine.specs.Node.{after_stamp, Answer, Common, machine_act, node_acted}
-use Rattle.node_machine.specs.Node.{node_actor, NodeAct, node_found, node_stamped_token, takes_answer}
+use Rattle.node_machine.specs.Node.{node_actor, NodeAct, node_found, node_stamped_token}
+use Rattle.node_machine.specs.Node.{takes_answer}
 use Rattle.node_machine.proofs.Counts.{FitsSerial, serial_fits, serial_same}
-use Rattle.node_machine.proofs.Steps.{node_process_after, NodeStepped}
+use Rattle.node_machine.proofs.Steps.{node_process_after, NodeStepped, print_at_either}
+use Rattle.node_machine.proofs.Steps.{reached_same, stamp_either}
 
 -- ALIKE MESSAGES
 
@@ -103,9 +103,6 @@ one_if : (b : Bool) → cond (true && b) 1 0 ≤ cond b 1 0
 one_if true = omega arith
 one_if false = omega arith
 
-none_if : (b : Bool) → 0 ≤ cond b 1 0
-none_if b = omega arith
-
 taken_most : (alike : Event → Bool) (x : Pid) (traced : Bool) (token : Option Token) (from : Pid)
     (v : ℕ)
     → (let m : Message = record { from = from; value = v; token = token } in
@@ -117,7 +114,7 @@ taken_most alike x traced (Some t) from v =
     elim (traced && t.flags.receive) as (λ b.
     takes_alike alike (cond b (Some e) None) ≤ cond (alike e) 1 0) [
       | true ↦ one_if (alike e)
-      | false ↦ none_if (alike e)
+      | false ↦ omega arith
     ]
 
 found_keeps : (alike : Event → Bool) (r : Process) (found : ℕ × Message)
@@ -143,6 +140,11 @@ answer_keeps : (alike : Event → Bool) (r : Process) (found : Option (ℕ × Me
 answer_keeps alike r None keeps = keeps
 answer_keeps alike r (Some found) keeps = keeps
 
+print_keeps : (alike : Event → Bool) (r : Process) (v : ℕ)
+    → PartKeeps alike r (prints r v (after_stamp r.pid r.local))
+print_keeps alike r v = same_queue alike r (prints r v (after_stamp r.pid r.local)) refl
+    (no_take alike kind.Print refl r.local.traced (after_stamp r.pid r.local).token None v)
+
 part_keeps : (alike : Event → Bool) (a : NodeAct) (r : Process)
     → PartKeeps alike r (node_acted r a)
 part_keeps alike (Answer p place) r =
@@ -152,28 +154,11 @@ part_keeps alike (Common (act.Receive p w)) r = picked_keeps alike r w
 part_keeps alike (Common (act.Send p q v)) r =
     same_queue alike r (node_acted r (Common (act.Send p q v))) refl
     (no_take alike kind.Send refl r.local.traced (after_stamp r.pid r.local).token (Some q) v)
-part_keeps alike (Common (act.Print p v)) r =
-    same_queue alike r (node_acted r (Common (act.Print p v))) refl
-    (no_take alike kind.Print refl r.local.traced (after_stamp r.pid r.local).token None v)
+part_keeps alike (Common (act.Print p v)) r = print_keeps alike r v
 part_keeps alike (Common (act.PrintAt p n v)) r =
-    elim (has_label n r.local.token) as (λ b. PartKeeps alike r
-    (cond b (prints r v (after_stamp r.pid r.local)) (answers r r.local reply.Done))) [
-      | true ↦ same_queue alike r (prints r v (after_stamp r.pid r.local)) refl
-          (no_take alike kind.Print refl r.local.traced (after_stamp r.pid r.local).token None v)
-      | false ↦ same_queue alike r (answers r r.local reply.Done) refl refl
-    ]
-part_keeps alike (Common (act.Set p c)) r =
-    same_queue alike r (node_acted r (Common (act.Set p c))) refl refl
-part_keeps alike (Common (act.Clear p)) r =
-    same_queue alike r (node_acted r (Common (act.Clear p))) refl refl
-part_keeps alike (Common (act.Restore p t)) r =
-    same_queue alike r (node_acted r (Common (act.Restore p t))) refl refl
-part_keeps alike (Common (act.Look p)) r =
-    same_queue alike r (node_acted r (Common (act.Look p))) refl refl
-part_keeps alike (Common (act.Reset p)) r =
-    same_queue alike r (node_acted r (Common (act.Reset p))) refl refl
-part_keeps alike (Common (act.Tracer p b)) r =
-    same_queue alike r (node_acted r (Common (act.Tracer p b))) refl refl
+    print_at_either (PartKeeps alike r) r p n v (print_keeps alike r v)
+    (same_queue alike r (answers r r.local reply.Done) refl refl)
+part_keeps alike (Common a) r = same_queue alike r (node_acted r (Common a)) refl refl
 
 -- WHAT REACHES A QUEUE
 
@@ -217,13 +202,7 @@ reached_keeps alike (act.Tracer p on) token r =
       | true ↦ omega arith
       | false ↦ omega arith
     ]
-reached_keeps alike (act.Receive p w) token r = omega arith
-reached_keeps alike (act.Print p v) token r = omega arith
-reached_keeps alike (act.PrintAt p n v) token r = omega arith
-reached_keeps alike (act.Set p c) token r = omega arith
-reached_keeps alike (act.Clear p) token r = omega arith
-reached_keeps alike (act.Restore p x) token r = omega arith
-reached_keeps alike (act.Look p) token r = omega arith
+reached_keeps alike a token r = omega arith
 
 -- EACH STEP
 
@@ -232,7 +211,6 @@ module _ (alike : Event → Bool) (s : State) (a : NodeAct) (o : Outcome)
   abbrev takes : ℕ
   takes = takes_alike alike o.report
 
-  -- the actor's process
   actor_is : (r : Process) → process s r.pid ≡ Some r → pid_eq r.pid (node_actor a) ≡ true
       → t.before ≡ r
   actor_is r is mine = same_Some t.before r
@@ -291,7 +269,8 @@ module _ (alike : Event → Bool) (s : State) (a : NodeAct) (o : Outcome)
         | Some r ↦ λ is.
             let who = process_pid s x r is in
             let here = process_keeps r (ap (process s) who ∙ is) in
-            let there = subst (λ q. count_by (bears alike q) (changed (machine_act a) t.done r).queue
+            let there = subst (λ q.
+            count_by (bears alike q) (changed (machine_act a) t.done r).queue
             + cond (pid_eq q (node_actor a)) takes 0 ≤ count_by (bears alike q) r.queue
             + arrives alike (machine_act a) t.done.local.token q) who here in
             subst (λ b. count_by (bears alike x) (changed (machine_act a) t.done r).queue
@@ -306,16 +285,8 @@ abbrev pub LastsFit : State → Type 0
 LastsFit s = (p : Pid) (r : Process) → process s p ≡ Some r → FitsSerial r.local.last
 
 pub stamp_last : (p : Pid) (l : LocalState) → (after_stamp p l).last ≡ l.last
-stamp_last p l = elim l.token as (λ token. (let m : LocalState = elim token [
-  | None ↦ l
-  | Some t ↦ record l {
-    token = Some (node_stamped_token p l t);
-    clock = next_clock l.clock;
-  }
-] in m.last ≡ l.last)) [
-  | None ↦ refl
-  | Some t ↦ refl
-]
+stamp_last p l =
+    stamp_either (λ (m : LocalState). m.last ≡ l.last) p l (λ _. refl) (λ _ _. refl)
 
 stamp_fits : (p : Pid) (l : LocalState) → FitsSerial l.last → FitsSerial (after_stamp p l).last
 stamp_fits p l fits = subst FitsSerial (sym (stamp_last p l)) fits
@@ -350,49 +321,20 @@ acted_fits (Common (act.Receive p w)) r fits = found_fits r (pick w r.queue) fit
 acted_fits (Common (act.Send p q v)) r fits = stamp_fits r.pid r.local fits
 acted_fits (Common (act.Print p v)) r fits = stamp_fits r.pid r.local fits
 acted_fits (Common (act.PrintAt p n v)) r fits =
-    elim (has_label n r.local.token) as (λ b. FitsSerial
-    (cond b (prints r v (after_stamp r.pid r.local)) (answers r r.local reply.Done)).local.last) [
-      | true ↦ stamp_fits r.pid r.local fits
-      | false ↦ fits
-    ]
-acted_fits (Common (act.Set p c)) r fits = fits
-acted_fits (Common (act.Clear p)) r fits = fits
+    print_at_either (λ (done : Acted). FitsSerial done.local.last) r p n v
+    (stamp_fits r.pid r.local fits) fits
 acted_fits (Common (act.Restore p t)) r fits = serial_fits t.serial.prev
-acted_fits (Common (act.Look p)) r fits = fits
-acted_fits (Common (act.Reset p)) r fits = fits
-acted_fits (Common (act.Tracer p b)) r fits = fits
-
-zero_fits : FitsSerial 0
-zero_fits = omega arith
+acted_fits (Common a) r fits = fits
 
 reached_fits : (a : Act) (token : Option Token) (r : Process) → FitsSerial r.local.last
     → FitsSerial (reached a token r).local.last
-reached_fits (act.Send p q v) token r fits =
-    let m : Message = record { from = p; value = v; token = token } in
-    elim (pid_eq r.pid q) as (λ b.
-    FitsSerial (cond b (record r { queue = r.queue ++ m ∷ [] }) r).local.last) [
-      | true ↦ fits
-      | false ↦ fits
-    ]
 reached_fits (act.Reset p) token r fits =
     elim (node_eq r.pid p) as (λ b. FitsSerial
     (cond b (record r { local = wiped r.local; queue = map untraced r.queue }) r).local.last) [
-      | true ↦ zero_fits
+      | true ↦ omega arith
       | false ↦ fits
     ]
-reached_fits (act.Tracer p on) token r fits =
-    elim (node_eq r.pid p) as (λ b. FitsSerial
-    (cond b (record r { local = record r.local { traced = on } }) r).local.last) [
-      | true ↦ fits
-      | false ↦ fits
-    ]
-reached_fits (act.Receive p w) token r fits = fits
-reached_fits (act.Print p v) token r fits = fits
-reached_fits (act.PrintAt p n v) token r fits = fits
-reached_fits (act.Set p c) token r fits = fits
-reached_fits (act.Clear p) token r fits = fits
-reached_fits (act.Restore p x) token r fits = fits
-reached_fits (act.Look p) token r fits = fits
+reached_fits a token r fits = subst FitsSerial (sym (reached_same a token r refl).last) fits
 
 changed_fits : (a : Act) (done : Acted) (r : Process) → FitsSerial done.local.last
     → FitsSerial r.local.last
@@ -418,7 +360,7 @@ lasts_fit_then s a o t fit p r is =
 pub zero_lasts_fit : (pids : List Pid) → LastsFit (zero_state pids)
 zero_lasts_fit pids p r is =
     subst (λ (l : LocalState). FitsSerial l.last)
-    (sym (ap local_found (sym is) ∙ zero_found pids p)) zero_fits
+    (sym (ap local_found (sym is) ∙ zero_found pids p)) (omega arith)
 
 -- SENDS
 
@@ -485,41 +427,35 @@ module _ (alike : Event → Bool)
       → alike (token_event kind.Receive (node_token t) (Some q) v) ≡ true → (e : Event)
       → report traced kind.Send (Some t) (Some q) v ≡ Some e
       → (kind_eq e.kind kind.Send && alike e) ≡ true
-  told_alike traced t q v same is e =
-      let told = sent_alike t q v same is in
-      elim (traced && t.flags.send) as (λ b.
-      cond b (Some (token_event kind.Send t (Some q) v)) None ≡ Some e
-      → (kind_eq e.kind kind.Send && alike e) ≡ true) [
-        | true ↦ λ at. subst (λ (d : Event). (kind_eq d.kind kind.Send && alike d) ≡ true)
-            (same_Some (token_event kind.Send t (Some q) v) e at) told
-        | false ↦ λ at. absurd (none-some e at)
-      ]
+  told_alike traced t q v same is e at =
+      subst (λ (d : Event). (kind_eq d.kind kind.Send && alike d) ≡ true)
+      (some_if (traced && t.flags.send) (token_event kind.Send t (Some q) v) e at).1
+      (sent_alike t q v same is)
 
-  -- nothing alike is sent with the local state m, or a token is, and told so
-  abbrev SentWith : Pid → Pid → ℕ → Bool → Option Token → LocalState → Type 0
-  SentWith p q v traced token m =
+  -- nothing alike is sent with the local state m, which was l, or a token is, and told so
+  abbrev SentWith : Pid → Pid → ℕ → LocalState → LocalState → Type 0
+  SentWith p q v l m =
       (arrives alike (act.Send p q v) m.token q ≡ 0)
-      ⊎ ((is_some token ≡ true)
-      × ((e : Event) → report traced kind.Send m.token (Some q) v ≡ Some e
+      ⊎ ((is_some l.token ≡ true)
+      × ((e : Event) → report l.traced kind.Send m.token (Some q) v ≡ Some e
       → (kind_eq e.kind kind.Send && alike e) ≡ true)
       × ((u : Token) × (m.token ≡ Some u)
       × (alike (token_event kind.Send u (Some q) v) ≡ true)))
 
   stamped_with : (p q : Pid) (v : ℕ) (x : Pid) (l : LocalState) (t : Token) → FitsSerial l.last
-      → (let m : LocalState = record l {
-        token = Some (node_stamped_token x l t);
-        clock = next_clock l.clock;
-      } in SentWith p q v l.traced (Some t) m)
-  stamped_with p q v x l t fits =
+      → l.token ≡ Some t
+      → (let stamped = Some (node_stamped_token x l t) in
+      SentWith p q v l (record l { token = stamped; clock = next_clock l.clock }))
+  stamped_with p q v x l t fits had =
       let stamped = node_stamped_token x l t in
       let m : LocalState = record l { token = Some stamped; clock = next_clock l.clock } in
       (elim (alike (token_event kind.Receive (node_token stamped) (Some q) v)) as (λ b.
       alike (token_event kind.Receive (node_token stamped) (Some q) v) ≡ b
-      → SentWith p q v l.traced (Some t) m) [
+      → SentWith p q v l m) [
         | true ↦ λ is.
             let same = stamp_same x l t fits in
             inr (
-              refl,
+              ap is_some had,
               told_alike l.traced stamped q v same is,
               (stamped, refl, sent_alike stamped q v same is),
             )
@@ -527,18 +463,11 @@ module _ (alike : Event → Bool)
       ]) refl
 
   sent_with : (p q : Pid) (v : ℕ) (x : Pid) (l : LocalState) → FitsSerial l.last
-      → SentWith p q v l.traced l.token (after_stamp x l)
-  sent_with p q v x l fits = elim l.token as (λ token. (let m : LocalState = elim token [
-    | None ↦ l
-    | Some t ↦ record l {
-      token = Some (node_stamped_token x l t);
-      clock = next_clock l.clock;
-    }
-  ] in l.token ≡ token → SentWith p q v l.traced token m)) [
-    | None ↦ λ none. inl (ap (λ token. arrives alike (act.Send p q v) token q) none
-        ∙ no_one (pid_eq q q))
-    | Some t ↦ λ _. stamped_with p q v x l t fits
-  ] refl
+      → SentWith p q v l (after_stamp x l)
+  sent_with p q v x l fits = stamp_either (SentWith p q v l) x l
+      (λ none. inl
+      (ap (λ token. arrives alike (act.Send p q v) token q) none ∙ no_one (pid_eq q q)))
+      (λ t had. stamped_with p q v x l t fits had)
 
   -- nothing alike is put into x's queue, or the act sends a token to x
   abbrev SendsOrNot : NodeAct → Process → Pid → Type 0
@@ -574,16 +503,7 @@ module _ (alike : Event → Bool)
   sends_or_not : (a : NodeAct) (r : Process) (x : Pid) → FitsSerial r.local.last
       → SendsOrNot a r x
   sends_or_not (Common (act.Send p q v)) r x fits = sends_to p q v r x fits
-  sends_or_not (Answer p place) r x fits = inl refl
-  sends_or_not (Common (act.Receive p w)) r x fits = inl refl
-  sends_or_not (Common (act.Print p v)) r x fits = inl refl
-  sends_or_not (Common (act.PrintAt p n v)) r x fits = inl refl
-  sends_or_not (Common (act.Set p c)) r x fits = inl refl
-  sends_or_not (Common (act.Clear p)) r x fits = inl refl
-  sends_or_not (Common (act.Restore p t)) r x fits = inl refl
-  sends_or_not (Common (act.Look p)) r x fits = inl refl
-  sends_or_not (Common (act.Reset p)) r x fits = inl refl
-  sends_or_not (Common (act.Tracer p on)) r x fits = inl refl
+  sends_or_not a r x fits = inl refl
 
   pub queue_step : (s : State) (o : Outcome) (a : NodeAct) → NodeStepped s a o → LastsFit s
       → (x : Pid) → KeepsQueue alike s a o x ⊎ SentAlike alike s a o x
@@ -638,47 +558,32 @@ own_report : (p : Pid) (k : Kind) (to : Option Pid) → OwnIf p k to → (token 
     → is_own p e ≡ true
 own_report p k to own None from traced v e is = absurd (none-some e is)
 own_report p k to own (Some t) from traced v e is =
-    (elim (traced && flag_of k t.flags) as (λ b.
-    cond b (Some (token_event k t to v)) None ≡ Some e → is_own p e ≡ true) [
-      | true ↦ λ at. subst (λ d. is_own p d ≡ true) (same_Some (token_event k t to v) e at)
-          (own t v (from t refl))
-      | false ↦ λ at. absurd (none-some e at)
-    ]) is
+    subst (λ d. is_own p d ≡ true)
+    (some_if (traced && flag_of k t.flags) (token_event k t to v) e is).1 (own t v (from t refl))
 
 stamp_from : (p : Pid) (l : LocalState) (t : Token) → (after_stamp p l).token ≡ Some t
     → t.from ≡ p
-stamp_from p l t = elim l.token as (λ token. (let m : LocalState = elim token [
-  | None ↦ l
-  | Some u ↦ record l {
-    token = Some (node_stamped_token p l u);
-    clock = next_clock l.clock;
-  }
-] in l.token ≡ token → m.token ≡ Some t → t.from ≡ p)) [
-  | None ↦ λ none is. absurd (none-some t (sym none ∙ is))
-  | Some u ↦ λ _ is.
-      ap (λ (x : Token). x.from) (sym (same_Some (node_stamped_token p l u) t is))
-] refl
+stamp_from p l t = stamp_either (λ (m : LocalState). m.token ≡ Some t → t.from ≡ p) p l
+    (λ none is. absurd (none-some t (sym none ∙ is)))
+    (λ u _ is. ap (λ (x : Token). x.from) (sym (same_Some (node_stamped_token p l u) t is)))
 
-true_and : (b : Bool) → b ≡ true → (b && true) ≡ true
-true_and true is = refl
-true_and false is = is
+from_own : (p : Pid) (t : Token) → t.from ≡ p → (pid_eq t.from p && true) ≡ true
+from_own p t from =
+    both_true (pid_eq t.from p) true (ap (λ x. pid_eq x p) from ∙ pid_eq-refl p) refl
 
 send_own : (p q : Pid) → OwnIf p kind.Send (Some q)
-send_own p q t v from = true_and (pid_eq t.from p) (ap (λ x. pid_eq x p) from ∙ pid_eq-refl p)
+send_own p q t v from = from_own p t from
 
 print_own : (p : Pid) → OwnIf p kind.Print None
-print_own p t v from = true_and (pid_eq t.from p) (ap (λ x. pid_eq x p) from ∙ pid_eq-refl p)
+print_own p t v from = from_own p t from
 
 taken_own : (p : Pid) (token : Option Token) (traced : Bool) (v : ℕ) (e : Event)
     → report traced kind.Receive token (Some p) v ≡ Some e → is_own p e ≡ true
 taken_own p None traced v e is = absurd (none-some e is)
 taken_own p (Some t) traced v e is =
-    (elim (traced && t.flags.receive) as (λ b.
-    cond b (Some (token_event kind.Receive t (Some p) v)) None ≡ Some e → is_own p e ≡ true) [
-      | true ↦ λ at. subst (λ d. is_own p d ≡ true)
-          (same_Some (token_event kind.Receive t (Some p) v) e at) (pid_eq-refl p)
-      | false ↦ λ at. absurd (none-some e at)
-    ]) is
+    subst (λ d. is_own p d ≡ true)
+    (some_if (traced && t.flags.receive) (token_event kind.Receive t (Some p) v) e is).1
+    (pid_eq-refl p)
 
 found_own : (r : Process) (found : Option (ℕ × Message)) (e : Event)
     → (receives r (node_found found)).report ≡ Some e → is_own r.pid e ≡ true
@@ -707,18 +612,9 @@ acted_own (Common (act.Send p q v)) r e is =
     (stamp_from r.pid r.local) r.local.traced v e is
 acted_own (Common (act.Print p v)) r e is = print_report_own r v e is
 acted_own (Common (act.PrintAt p n v)) r e is =
-    (elim (has_label n r.local.token) as (λ b.
-    (cond b (prints r v (after_stamp r.pid r.local)) (answers r r.local reply.Done)).report ≡ Some e
-    → is_own r.pid e ≡ true) [
-      | true ↦ λ at. print_report_own r v e at
-      | false ↦ λ at. absurd (none-some e at)
-    ]) is
-acted_own (Common (act.Set p c)) r e is = absurd (none-some e is)
-acted_own (Common (act.Clear p)) r e is = absurd (none-some e is)
-acted_own (Common (act.Restore p t)) r e is = absurd (none-some e is)
-acted_own (Common (act.Look p)) r e is = absurd (none-some e is)
-acted_own (Common (act.Reset p)) r e is = absurd (none-some e is)
-acted_own (Common (act.Tracer p on)) r e is = absurd (none-some e is)
+    print_at_either (λ (done : Acted). done.report ≡ Some e → is_own r.pid e ≡ true) r p n v
+    (print_report_own r v e) (λ at. absurd (none-some e at)) is
+acted_own (Common a) r e is = absurd (none-some e is)
 
 -- what an act reports is its actor's own
 pub report_own : (s : State) (a : NodeAct) (o : Outcome) → NodeStepped s a o → (e : Event)

@@ -1,7 +1,6 @@
 -- The ways to read events grow with each event: each way to read the front ones goes on.
 use Rattle.std.proofs.Common.{◌≡◌, ℕ, ◌⊎◌, ◌+◌, ◌==◌, ◌^◌, Bool, true, false, cond, List, [], ◌∷◌}
-use Rattle.std.proofs.Common.{◌++◌, map}
-use Rattle.std.proofs.Common.{inl, inr, refl, arith, sym, ◌∙◌, ap, subst, if◌then◌else◌}
+use Rattle.std.proofs.Common.{◌++◌, map, inl, inr, refl, arith, sym, ◌∙◌, ap, subst, if◌then◌else◌}
 use Rattle.std.specs.Prelude.{flat_map}
 use Rattle.std.proofs.lemmas.Bool.{and_parts, cases_order, eq-eqb, eqb-true}
 use Rattle.st_core.proofs.ForCallers.{both_true}
@@ -9,8 +8,7 @@ use Rattle.node_machine.specs.Counts.{next_clock, stamp_count}
 use Rattle.node_machine.specs.Node.{Seen}
 use Rattle.node_machine.specs.Premises.{IsAmong}
 use Rattle.node_machine.specs.Readings.{clock_put_back, going_on, is_next, is_receipt, last_behind}
-use Rattle.node_machine.specs.Readings.{last_by}
-use Rattle.node_machine.specs.Readings.{put_back_before, Reading, readings, readings_by}
+use Rattle.node_machine.specs.Readings.{last_by, put_back_before, Reading, readings, readings_by}
 use Rattle.node_machine.specs.Readings.{readings_from, stamp_readings, taking}
 use Rattle.node_machine.proofs.Counts.{FitsSerial, next_below, next_wraps}
 use Rattle.node_machine.proofs.Lists.{among_back, among_front, among_parts}

@@ -1,8 +1,8 @@
 -- Only a send puts a message with a token into a queue. So if each send of a token to a process is
 -- reported, the sends of the messages that it takes are among the reported ones.
-use Rattle.std.proofs.Common.{◌≡◌, ℕ, ◌≤◌, Bool, true, cond, List, [], ◌∷◌, ◌++◌}
-use Rattle.std.proofs.Common.{Option, Some, None, is_some, IsSome, inl, inr, refl, arith, sym, ◌∙◌}
-use Rattle.std.proofs.Common.{ap, subst, append_assoc}
+use Rattle.std.proofs.Common.{◌≡◌, ℕ, ◌≤◌, Bool, true, cond, List, [], ◌∷◌, ◌++◌, Option, Some}
+use Rattle.std.proofs.Common.{None, is_some, IsSome, inl, inr, refl, arith, sym, ◌∙◌, ap, subst}
+use Rattle.std.proofs.Common.{append_assoc}
 use Rattle.std.specs.List.{AllByRecursion, count_by, slice_get}
 use Rattle.std.proofs.lemmas.Bool.{and_parts, false≢true}
 use Rattle.st_core.specs.declared.types.Pid.{Pid}
@@ -43,8 +43,7 @@ QueueSent sends s p = (e : Event) → 1 ≤ alike_in (like e) s p → IsAmong se
 
 send_is : (k : Kind) → kind_eq k kind.Send ≡ true → k ≡ kind.Send
 send_is kind.Send is = refl
-send_is kind.Receive is = absurd (false≢true is)
-send_is kind.Print is = absurd (false≢true is)
+send_is k is = absurd (false≢true is)
 
 like_same : (e d : Event) → kind_eq d.kind kind.Send ≡ true → like e d ≡ true → d ≡ e
 like_same e d send is =
@@ -120,15 +119,7 @@ module _ (sends : List Event) (r : Process)
   all_sent : (a : NodeAct) → AllByRecursion (IsAmong sends) (message_of r a)
   all_sent (Answer p place) = found_sent (want.Place place)
   all_sent (Common (act.Receive p w)) = found_sent w
-  all_sent (Common (act.Set p c)) = tt
-  all_sent (Common (act.Restore p t)) = tt
-  all_sent (Common (act.Send p q v)) = tt
-  all_sent (Common (act.Print p v)) = tt
-  all_sent (Common (act.PrintAt p n v)) = tt
-  all_sent (Common (act.Clear p)) = tt
-  all_sent (Common (act.Look p)) = tt
-  all_sent (Common (act.Reset p)) = tt
-  all_sent (Common (act.Tracer p b)) = tt
+  all_sent a = tt
 
 -- RUNS
 
@@ -137,16 +128,14 @@ taken_from : (s : State) (acts : List NodeAct) (os : List Outcome) (p : Pid) (se
     → QueueSent sends s p
     → TakesOnly (sends ++ sends_to os p) p s acts os
 taken_from s [] os p sends h fit tells all = tt
-taken_from s (a ∷ acts) os p sends h fit tells all =
-    let t = node_run_parts s a acts os h in
-    let o = t.first in
-    let told = subst (ReportsSendsTo p s (a ∷ acts)) t.is_whole tells in
-    let x = node_step_parts s a o t.is_first in
-    let later = sends_to t.others p in
-    let rest = taken_from o.after acts t.others p (sends ++ send_to p o.report) t.is_rest
-    (lasts_fit_then s a o x fit) told.1 (sent_then s a o x fit p sends told.0 all) in
-    let whole = sends ++ (send_to p o.report ++ later) in
-    subst (λ xs. TakesOnly (sends ++ sends_to xs p) p s (a ∷ acts) xs) (sym t.is_whole) (
+taken_from s (a ∷ acts) [] p sends h fit tells all = tt
+taken_from s (a ∷ acts) (o ∷ os) p sends h fit tells all =
+    let run = node_run_parts s a acts (o ∷ os) h in
+    let x = node_step_parts s a o run.0 in
+    let later = sends_to os p in
+    let rest = taken_from o.after acts os p (sends ++ send_to p o.report) run.1
+    (lasts_fit_then s a o x fit) tells.1 (sent_then s a o x fit p sends tells.0 all) in
+    let whole = sends ++ (send_to p o.report ++ later) in (
       λ _ r is.
           let who = process_pid s p r is in
           let here = subst (λ q. (e : Event) → 1 ≤ count_by (bears (like e) q) r.queue
@@ -156,7 +145,7 @@ taken_from s (a ∷ acts) os p sends h fit tells all =
           all_change (IsAmong sends) (IsAmong whole)
           (λ e among. among_front sends (send_to p o.report ++ later) e among)
           (message_of r a) (all_sent sends r here a),
-      subst (λ xs. TakesOnly xs p o.after acts t.others)
+      subst (λ xs. TakesOnly xs p o.after acts os)
           (append_assoc sends (send_to p o.report) later) rest,
     )
 

@@ -1,21 +1,28 @@
 -- A step of the node in parts, and what of it reaches each process.
-use Rattle.std.proofs.Common.{◌≡◌, true, false, Bool, cond, List, [], ◌∷◌, ◌++◌, Option, Some, None}
-use Rattle.std.proofs.Common.{option_map, refl, sym, ◌∙◌, ap, subst}
+use Rattle.std.proofs.Common.{◌≡◌, ℕ, zero, suc, take, true, false, Bool, cond, List, [], ◌∷◌, ◌++◌}
+use Rattle.std.proofs.Common.{Option, Some, None, option_map, option_and_then, option_to_list, refl}
+use Rattle.std.proofs.Common.{sym, ◌∙◌, ap, subst}
+use Rattle.std.specs.List.{AllByRecursion}
 use Rattle.std.proofs.lemmas.Bool.{false≢true}
-use Rattle.std.proofs.lemmas.Option.{option_and_then_some}
+use Rattle.std.proofs.lemmas.Option.{option_and_then_some, same_Some}
 use Rattle.st_core.specs.declared.types.Pid.{Pid}
+use Rattle.st_core.specs.declared.types.Label.{Label}
 use Rattle.st_core.specs.declared.types.Token.{Token}
 use Rattle.st_core.specs.declared.types.Message.{Message}
 use Rattle.st_core.specs.declared.types.Act.{Act}
 use Rattle.st_core.specs.declared.types.Act.TheVariants as act
+use Rattle.st_core.specs.declared.types.Reply.TheVariants as reply
 use Rattle.st_core.specs.Pid.{node_eq, pid_eq}
 use Rattle.st_core.specs.State.{LocalState, Process, State, process}
-use Rattle.st_core.specs.Step.{Acted, Outcome, actor, changed, outcome_of, reached, receiver}
+use Rattle.st_core.specs.Local.{has_label}
+use Rattle.st_core.specs.Step.{Acted, answers, Outcome, actor, changed, outcome_of, prints, reached}
+use Rattle.st_core.specs.Step.{receiver}
 use Rattle.st_core.specs.Laws.{is_reset}
 use Rattle.st_core.proofs.ForCallers.{changed_pid, local_found, local_in, mapped, pid_eq-swap}
 use Rattle.st_core.proofs.ForCallers.{pid_same, process-map, process_pid}
-use Rattle.node_machine.specs.Node.{machine_act, NodeAct, node_acted, node_actor, node_run_from}
-use Rattle.node_machine.specs.Node.{node_step}
+use Rattle.node_machine.specs.Counts.{next_clock}
+use Rattle.node_machine.specs.Node.{after_stamp, Common, machine_act, NodeAct, node_acted}
+use Rattle.node_machine.specs.Node.{node_actor, node_run_from, node_stamped_token, node_step}
 
 -- IN PARTS
 
@@ -45,13 +52,9 @@ node_step_parts s a o h =
     })
 
 -- a run is a step and the run from there on
-pub record NodeBegan (s : State) (a : NodeAct) (rest : List NodeAct)
-    (os : List Outcome) : Type 0 where
-  pub first : Outcome
-  pub others : List Outcome
-  pub is_first : node_step s a ≡ Some first
-  pub is_rest : node_run_from first.after rest ≡ Some others
-  pub is_whole : os ≡ first ∷ others
+abbrev pub NodeBegan : State → NodeAct → List NodeAct → List Outcome → Type 0
+NodeBegan s a rest [] = ⊥
+NodeBegan s a rest (o ∷ os) = (node_step s a ≡ Some o) × (node_run_from o.after rest ≡ Some os)
 
 pub node_run_parts : (s : State) (a : NodeAct) (rest : List NodeAct) (os : List Outcome)
     → node_run_from s (a ∷ rest) ≡ Some os → NodeBegan s a rest os
@@ -59,13 +62,18 @@ node_run_parts s a rest os h =
     let from = λ (o : Outcome). option_map (λ os. o ∷ os) (node_run_from o.after rest) in
     option_and_then_some from (node_step s a) os h (λ o is_o later.
     let found = mapped (λ os. o ∷ os) (node_run_from o.after rest) os later in
-    record {
-      first = o;
-      others = found.0;
-      is_first = is_o;
-      is_rest = found.1;
-      is_whole = sym found.2;
-    })
+    subst (NodeBegan s a rest) found.2 (is_o, found.1))
+
+pub node_run_take : (n : ℕ) (s : State) (acts : List NodeAct) (os : List Outcome)
+    → node_run_from s acts ≡ Some os → node_run_from s (take n acts) ≡ Some (take n os)
+node_run_take zero s acts os h = refl
+node_run_take (suc n) s [] os h = ap (λ xs. Some (take (suc n) xs)) (same_Some [] os h)
+node_run_take (suc n) s (a ∷ acts) [] h = absurd (node_run_parts s a acts [] h)
+node_run_take (suc n) s (a ∷ acts) (o ∷ os) h =
+    let run = node_run_parts s a acts (o ∷ os) h in
+    ap (option_and_then (λ x. option_map (λ xs. x ∷ xs) (node_run_from x.after (take n acts))))
+    run.0
+    ∙ ap (option_map (λ xs. o ∷ xs)) (node_run_take n o.after acts os run.1)
 
 -- the process of p after a step
 pub node_process_after : (s : State) (a : NodeAct) (o : Outcome) (t : NodeStepped s a o)
@@ -74,6 +82,42 @@ pub node_process_after : (s : State) (a : NodeAct) (o : Outcome) (t : NodeSteppe
 node_process_after s a o t p =
     ap (λ (x : Outcome). process x.after p) (sym t.is_outcome)
     ∙ process-map (changed (machine_act a) t.done) (changed_pid (machine_act a) t.done) s p
+
+-- what a process's token comes to, of the one that it has or of none
+pub of_token : {A : Type 0} (P : A → Type 0) (f : Token → A) (found : Option Process)
+    → ((t : Token) → (local_found found).token ≡ Some t → P (f t))
+    → AllByRecursion P (option_to_list (option_map f
+    (option_and_then (λ (r : Process). r.local.token) found)))
+of_token P f None all = tt
+of_token P f (Some r) all =
+    elim r.local.token as (λ o. r.local.token ≡ o
+    → AllByRecursion P (option_to_list (option_map f o))) [
+      | None ↦ λ _. tt
+      | Some t ↦ λ is. (all t is, tt)
+    ] refl
+
+-- CASES
+
+-- after a stamp: there is no token, or it is stamped
+pub stamp_either : (P : LocalState → Type 0) (p : Pid) (l : LocalState)
+    → (l.token ≡ None → P l)
+    → ((t : Token) → l.token ≡ Some t
+    → P (record l { token = Some (node_stamped_token p l t); clock = next_clock l.clock }))
+    → P (after_stamp p l)
+stamp_either P p l none some = elim l.token as (λ token. l.token ≡ token → P (elim token [
+  | None ↦ l
+  | Some t ↦ record l { token = Some (node_stamped_token p l t); clock = next_clock l.clock }
+])) [ None ↦ none | Some t ↦ some t ] refl
+
+-- a print at a label prints, or changes nothing
+pub print_at_either : (P : Acted → Type 0) (r : Process) (p : Pid) (n : Label) (v : ℕ)
+    → P (prints r v (after_stamp r.pid r.local)) → P (answers r r.local reply.Done)
+    → P (node_acted r (Common (act.PrintAt p n v)))
+print_at_either P r p n v printed still = elim (has_label n r.local.token) as
+    (λ b. P (cond b (prints r v (after_stamp r.pid r.local)) (answers r r.local reply.Done))) [
+      | true ↦ printed
+      | false ↦ still
+    ]
 
 -- WHAT REACHES A PROCESS
 
@@ -86,7 +130,7 @@ pub record SameButTraced (l m : LocalState) : Type 0 where
 same_but_traced : (l : LocalState) → SameButTraced l l
 same_but_traced l = record { token = refl; clock = refl; last = refl }
 
-reached_same : (a : Act) (t : Option Token) (r : Process) → is_reset a ≡ false
+pub reached_same : (a : Act) (t : Option Token) (r : Process) → is_reset a ≡ false
     → SameButTraced r.local (reached a t r).local
 reached_same (act.Reset p) t r plain = absurd (false≢true (sym plain))
 reached_same (act.Send p q v) t r plain =
@@ -102,13 +146,7 @@ reached_same (act.Tracer p on) t r plain =
       | true ↦ record { token = refl; clock = refl; last = refl }
       | false ↦ same_but_traced r.local
     ]
-reached_same (act.Receive p w) t r plain = same_but_traced r.local
-reached_same (act.Print p v) t r plain = same_but_traced r.local
-reached_same (act.PrintAt p n v) t r plain = same_but_traced r.local
-reached_same (act.Set p c) t r plain = same_but_traced r.local
-reached_same (act.Clear p) t r plain = same_but_traced r.local
-reached_same (act.Restore p x) t r plain = same_but_traced r.local
-reached_same (act.Look p) t r plain = same_but_traced r.local
+reached_same a t r plain = same_but_traced r.local
 
 -- the actor's is that of its part, each other's as it was
 changed_same : (a : Act) (done : Acted) (r : Process) (mine : Bool) → is_reset a ≡ false

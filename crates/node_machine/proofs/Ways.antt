@@ -1,6 +1,5 @@
 -- A stamp is given in one of the four ways.
-use Rattle.std.proofs.Common.{◌≡◌, ℕ, ◌⊎◌, ◌&&◌, max, Bool, true, false, cond, List, [], ◌∷◌}
-use Rattle.std.proofs.Common.{◌++◌}
+use Rattle.std.proofs.Common.{◌≡◌, ℕ, ◌⊎◌, ◌&&◌, max, Bool, true, false, cond, List, [], ◌∷◌, ◌++◌}
 use Rattle.std.proofs.Common.{inl, inr, refl, sym, ◌∙◌, ap, subst, append_assoc, append-nil}
 use Rattle.std.specs.List.{AllByRecursion}
 use Rattle.st_core.specs.declared.types.Serial.{Serial}
@@ -9,8 +8,7 @@ use Rattle.node_machine.specs.Node.{Seen}
 use Rattle.node_machine.specs.Premises.{IsAmong}
 use Rattle.node_machine.specs.Readings.{clock_behind, is_receipt, last_behind}
 use Rattle.node_machine.specs.Given.{fresh, IsGiven, IsPutBack, shown, takes, tokens}
-use Rattle.node_machine.specs.Ways.{carried, IsInSomeWay, IsLowered, lasts}
-use Rattle.node_machine.specs.Ways.{lasts_shown}
+use Rattle.node_machine.specs.Ways.{carried, IsInSomeWay, IsLowered, lasts, lasts_shown}
 use Rattle.node_machine.proofs.Counts.{max_either, next_of_zero}
 use Rattle.node_machine.proofs.Lists.{among_back, among_front, among_parts}
 use Rattle.node_machine.proofs.Readings.{next_parts, next_true}

@@ -26,15 +26,7 @@ some_if false q x is = absurd (none-some x is)
 send_moves : (r : Process) (a : Act) (q : Pid) → token_receiver r a ≡ Some q
     → moves_token r a ≡ true
 send_moves r (act.Send p x v) q is = some_if (is_some r.local.token) x q is
-send_moves r (act.Receive p w) q is = absurd (none-some q is)
-send_moves r (act.Print p v) q is = absurd (none-some q is)
-send_moves r (act.PrintAt p n v) q is = absurd (none-some q is)
-send_moves r (act.Set p c) q is = absurd (none-some q is)
-send_moves r (act.Clear p) q is = absurd (none-some q is)
-send_moves r (act.Restore p t) q is = absurd (none-some q is)
-send_moves r (act.Look p) q is = absurd (none-some q is)
-send_moves r (act.Reset p) q is = absurd (none-some q is)
-send_moves r (act.Tracer p on) q is = absurd (none-some q is)
+send_moves r a q is = absurd (none-some q is)
 
 -- what holds of each of the pids holds of each process at the start
 zero_all : (P : Pid → Type 0) (pids : List Pid) → AllByRecursion P pids → (p : Pid) (r : Process)
@@ -67,16 +59,14 @@ sends_from : (streams : List Stream) (acts : List NodeAct) (s : State) (os : Lis
     → node_run_from s acts ≡ Some os → AllReport streams s acts os
     → ReportSends streams s acts os
 sends_from streams [] s os runs all = tt
-sends_from streams (a ∷ rest) s os runs all =
-    let b = node_run_parts s a rest os runs in
-    let all_do = subst (AllReport streams s (a ∷ rest)) b.is_whole all in
-    subst (ReportSends streams s (a ∷ rest)) (sym b.is_whole) (
+sends_from streams (a ∷ rest) s [] runs all = tt
+sends_from streams (a ∷ rest) s (o ∷ os) runs all =
+    let run = node_run_parts s a rest (o ∷ os) runs in (
       λ r is q receiver _.
-          let so = all_do (node_actor a) r is in
+          let so = all (node_actor a) r is in
           (so.0, so.1.0 refl r is (send_moves r (machine_act a) q receiver)),
-      sends_from streams rest b.first.after b.others b.is_rest
-          (report_later streams s a rest b.first b.others
-          (node_step_parts s a b.first b.is_first) all_do),
+      sends_from streams rest o.after os run.1
+          (report_later streams s a rest o os (node_step_parts s a o run.0) all),
     )
 
 pub sends_of_all : (streams : List Stream) (pids : List Pid) (acts : List NodeAct)

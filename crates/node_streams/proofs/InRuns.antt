@@ -46,7 +46,6 @@ listed_events (x ∷ streams) acts os are p is = (elim (pid_eq x.pid p) as (λ b
       | false ↦ λ _ later. listed_events streams acts os are.1 p later
     ]) refl is
 
--- what is left after n elements
 first_dropped : {A : Type 0} (xs : List A) (n : ℕ) (y : A) (ys : List A) → drop n xs ≡ y ∷ ys
     → slice_get xs n ≡ Some y
 first_dropped [] zero y ys is = absurd (cc)
@@ -112,8 +111,7 @@ same_if false = refl
 pub send_no_receive : (k : Kind) (same : Bool) → kind_eq k kind.Send ≡ true
     → (kind_eq k kind.Receive && same) ≡ false
 send_no_receive kind.Send same is = refl
-send_no_receive kind.Receive same is = absurd (false≢true is)
-send_no_receive kind.Print same is = absurd (false≢true is)
+send_no_receive k same is = absurd (false≢true is)
 
 -- the turns are those that led to s, and these acts and outcomes are left
 record IsReached (streams : List Stream) (order : List Pid) (s : State) (acts : List NodeAct)
@@ -255,7 +253,6 @@ module _ (streams : List Stream) (order : List Pid) (s : State) (a : NodeAct)
         ∙ ap (λ n. told streams order (tells kind.Receive c) q + cond (pid_eq p q) n 0)
         (sym (takes_is c))
 
-    -- a send isn't a receive
     no_receive : (c : MessageContent) → tells kind.Send c e ≡ true → tells kind.Receive c e ≡ false
     no_receive c so = send_no_receive e.kind (is_content c e)
         (and_parts (kind_eq e.kind kind.Send) (is_content c e) so).0
@@ -279,7 +276,6 @@ module _ (streams : List Stream) (order : List Pid) (s : State) (a : NodeAct)
               omega arith
         ]
 
-    -- a receive has its send
     send_came : takes_message e ≡ true
         → told streams order (tells kind.Receive (content_of e)) p
         < told streams order (tells kind.Send (content_of e)) e.from
@@ -360,14 +356,11 @@ walk streams [] order s os runs sends at is = record {
   is_order = is;
   over = over_at streams order s os at;
 }
-walk streams (a ∷ rest) order s os runs sends at is =
-    let b = node_run_parts s a rest os runs in
-    let told = subst (ReportSends streams s (a ∷ rest)) b.is_whole sends in
-    let here = subst (IsReached streams order s (a ∷ rest)) b.is_whole at in
-    let next = then_on streams order s a rest b.first b.others
-    (node_step_parts s a b.first b.is_first) told.0 here is in
-    walk streams rest next.order_then b.first.after b.others b.is_rest told.1 next.reached
-    next.is_order
+walk streams (a ∷ rest) order s [] runs sends at is = absurd (node_run_parts s a rest [] runs)
+walk streams (a ∷ rest) order s (o ∷ os) runs sends at is =
+    let run = node_run_parts s a rest (o ∷ os) runs in
+    let next = then_on streams order s a rest o os (node_step_parts s a o run.0) sends.0 at is in
+    walk streams rest next.order_then o.after os run.1 sends.1 next.reached next.is_order
 
 start : (streams : List Stream) (pids : List Pid) (acts : List NodeAct) (os : List Outcome)
     → AreReported streams acts os
