@@ -1,9 +1,8 @@
 -- Ends that are sorted by content, alike ones in their order: how many alike ones stand before one
 -- is how many events before its own tell of the message.
 use Rattle.std.proofs.Common.{◌≡◌, ℕ, ◌+◌, ◌<◌, ◌≤◌, zero, suc, cond, Bool, true, false, List, []}
-use Rattle.std.proofs.Common.{◌∷◌, length, get_or, take, Option, Some, None, refl}
-use Rattle.std.proofs.Common.{arith, sym, ◌∙◌, ap, subst}
-use Rattle.std.proofs.Common.{eq-eqb, inl, inr, ◌==◌, ◌≢◌}
+use Rattle.std.proofs.Common.{◌∷◌, length, get_or, take, Option, Some, None, refl, arith, sym, ◌∙◌}
+use Rattle.std.proofs.Common.{ap, subst, eq-eqb, inl, inr, ◌==◌, ◌≢◌}
 use Rattle.std.specs.List.{count_by, filter, slice_get, slice_set}
 use Rattle.std.specs.Option.{option_map_or, unwrap_or}
 use Rattle.std.specs.Ordering.{ordering_index}
@@ -17,13 +16,14 @@ use Rattle.node_streams.specs.declared.content.MessageContent.{MessageContent}
 use Rattle.node_streams.specs.declared.ends.End.{End}
 use Rattle.node_streams.specs.Messages.{content_eq, content_of, tells}
 use Rattle.node_streams.specs.Tables.{AreByContent, CountAlike, alike, content_cmp, ends_from}
-use Rattle.node_streams.proofs.Counting.{content_itself, content_same, count_first, count_more}
-use Rattle.node_streams.proofs.Counting.{at_get_or, taken_more}
+use Rattle.node_streams.proofs.Counting.{content_itself, content_same, count_more, taken_more}
 use Rattle.node_streams.proofs.Places.{set_other, set_same}
 use Rattle.node_streams.proofs.OtherEnds.{IsNth, nth_counts, nth_is, tells_own, told_content}
 use Rattle.node_streams.proofs.Orders.{less_or_same}
 use Rattle.node_streams.proofs.Owners.{kind_same}
 use Rattle.node_streams.proofs.SortedEnds.{eq_content, eq_index, index_of, nth_event, rises}
+use Rattle.node_machine.proofs.ForCallers.{count_first}
+use Rattle.st_pair.proofs.ForCallers.{at_get_or}
 
 module _ {X : Type 0} (test : X → Bool) where
   -- what passes stands behind as many in the filtered list
@@ -38,17 +38,18 @@ module _ {X : Type 0} (test : X → Bool) where
       → slice_get (cond b (y ∷ filter test xs) (filter test xs))
       (count_by test (y ∷ take i xs)) ≡ Some x) [
         | true ↦ λ yes.
-            let one = count_first test y (take i xs) ∙ ap (λ b. cond b 1 0 + count_by test (take i xs)) yes in
+            let one = count_first test y (take i xs)
+            ∙ ap (λ b. cond b 1 0 + count_by test (take i xs)) yes in
             let more : count_by test (y ∷ take i xs) ≡ suc (count_by test (take i xs)) =
             omega arith in
             ap (slice_get (y ∷ filter test xs)) more ∙ filter_at xs i x at is
         | false ↦ λ no.
-            let one = count_first test y (take i xs) ∙ ap (λ b. cond b 1 0 + count_by test (take i xs)) no in
+            let one = count_first test y (take i xs)
+            ∙ ap (λ b. cond b 1 0 + count_by test (take i xs)) no in
             let same : count_by test (y ∷ take i xs) ≡ count_by test (take i xs) = omega arith in
             ap (slice_get (filter test xs)) same ∙ filter_at xs i x at is
       ]) refl
 
-  -- and comes from the list
   pub filter_from : (xs : List X) (n : ℕ) (x : X) → slice_get (filter test xs) n ≡ Some x
       → (i : ℕ) × (slice_get xs i ≡ Some x) × (test x ≡ true)
   filter_from [] n x at = absurd (none-some x at)
@@ -100,7 +101,6 @@ module _ (k : Kind) (es : List Event) (v : List End) (are : AreByContent (ends_f
       ∙ ap (λ xs. index_of (slice_get xs n)) (sym (are.groups c))
       ∙ ap index_of (filter_at (alike c) v i x at (content_itself c)))
 
-  -- ends of one event have one content
   pub one_content : (i j : ℕ) (x y : End) → slice_get v i ≡ Some x → slice_get v j ≡ Some y
       → x.index ≡ y.index → told_before k es x ≡ told_before k es y
   one_content i j x y at_i at_j same =
@@ -113,7 +113,6 @@ module _ (k : Kind) (es : List Event) (v : List End) (are : AreByContent (ends_f
       ap (λ c. count_by (tells k c) (take x.index es)) content
       ∙ ap (λ n. count_by (tells k y.content) (take n es)) same
 
-  -- each event of the kind has its end
   pub event_end : (j : ℕ) (e : Event) → slice_get es j ≡ Some e → kind_eq e.kind k ≡ true
       → (i : ℕ) × (x : End) × (slice_get v i ≡ Some x) × (x.content ≡ content_of e)
       × (x.index ≡ j)

@@ -1,36 +1,18 @@
 -- One event more: how many pass a test, which is the nth that does, and contents that are one.
-use Rattle.std.proofs.Common.{◌≡◌, ℕ, ◌+◌, ◌<◌, ◌==◌, zero, suc, cond, Bool, true}
-use Rattle.std.proofs.Common.{List, [], ◌∷◌, ◌++◌}
-use Rattle.std.proofs.Common.{length, get_or, Some, None, refl, arith, ◌∙◌, ap, take}
+use Rattle.std.proofs.Common.{◌≡◌, ℕ, ◌+◌, ◌==◌, zero, suc, cond, Bool, true, List, [], ◌∷◌, ◌++◌}
+use Rattle.std.proofs.Common.{Some, refl, arith, ◌∙◌, ap, take, eq-eqb}
 use Rattle.std.specs.List.{count_by, slice_get}
 use Rattle.std.proofs.lemmas.Bool.{and_parts, eqb-true}
-use Rattle.std.proofs.Common.{eq-eqb}
-use Rattle.std.proofs.lemmas.List.Sums.{sum_by-append, sum_by-cons}
+use Rattle.std.proofs.lemmas.List.Sums.{sum_by-append}
 use Rattle.std.proofs.lemmas.Option.{same_Some}
 use Rattle.st_core.specs.declared.types.Pid.{Pid}
-use Rattle.st_core.specs.declared.types.Kind.TheVariants as kind
-use Rattle.st_core.specs.declared.types.Event.{Event}
 use Rattle.st_core.specs.Pid.{pid_eq}
 use Rattle.st_core.specs.Event.{to_eq}
+use Rattle.node_machine.proofs.ForCallers.{count_first}
 use Rattle.st_core.proofs.ForCallers.{pid_eq-refl, pid_eq-true, to_eq-same, to_eq-true}
 use Rattle.node_streams.specs.declared.content.MessageContent.{MessageContent}
 use Rattle.node_streams.specs.Messages.{content_eq}
 use Rattle.node_streams.specs.Order.{turns}
-
--- where there is no event
-abbrev pub blank : Event
-blank = record {
-  label = record { 0 = 0 };
-  kind = kind.Send;
-  to = None;
-  from = record { node = 0; number = 0 };
-  serial = record { prev = 0; this = 0 };
-  value = 0;
-}
-
-pub count_first : {A : Type 0} (test : A → Bool) (x : A) (xs : List A)
-    → count_by test (x ∷ xs) ≡ cond (test x) 1 0 + count_by test xs
-count_first {A} test x xs = sum_by-cons (λ (y : A). cond (test y) 1 0) x xs
 
 pub turns_more : (p : Pid) (order : List Pid) (q : Pid)
     → turns q (p ∷ order) ≡ cond (pid_eq p q) 1 0 + turns q order
@@ -46,20 +28,12 @@ count_more {A} test xs x =
     let all = sum_by-append f xs (x ∷ []) in
     omega arith
 
-pub at_get_or : {A : Type 0} (xs : List A) (i : ℕ) (d : A) → i < length xs
-    → slice_get xs i ≡ Some (get_or xs i d)
-at_get_or [] i d within = absurd (omega arith)
-at_get_or (x ∷ xs) zero d within = refl
-at_get_or (x ∷ xs) (suc i) d within = at_get_or xs i d (omega arith)
-
--- the events with the next one
 pub taken_more : {A : Type 0} (xs : List A) (i : ℕ) (x : A) → slice_get xs i ≡ Some x
     → take (suc i) xs ≡ take i xs ++ x ∷ []
 taken_more [] i x at = absurd (cc)
 taken_more (y ∷ xs) zero x at = ap (λ z. z ∷ []) (same_Some y x at)
 taken_more (y ∷ xs) (suc i) x at = ap (λ ys. y ∷ ys) (taken_more xs i x at)
 
--- the next index is one more
 pub taken_next : {A : Type 0} (xs : List A) (i : ℕ) (x : A) → slice_get xs i ≡ Some x
     → take (i + 1) xs ≡ take i xs ++ x ∷ []
 taken_next xs i x at =

@@ -17,8 +17,7 @@ use Rattle.st_core.proofs.ForCallers.{pid_eq-true}
 use Rattle.node_machine.specs.Counts.{counter_value, serial_count}
 use Rattle.node_machine.specs.Node.{node_run}
 use Rattle.node_streams.specs.Example.{client, first_stamp, reply_stamp, sends_twice}
-use Rattle.node_streams.specs.Example.{sends_unreported, server, twice_streams}
-use Rattle.node_streams.specs.Example.{unreported_streams}
+use Rattle.node_streams.specs.Example.{sends_unreported, server, twice_streams, unreported_streams}
 use Rattle.node_streams.specs.Messages.{send_of, takes_message, unsent_among}
 use Rattle.node_streams.specs.Order.{CanGo, HaveOrder, next_event, turns}
 use Rattle.node_streams.specs.Runs.{AreReported, AreStreamsOf, ReportSends}

@@ -2,8 +2,8 @@
 -- to do
 -- so would be one of a process that can.
 use Rattle.std.proofs.Common.{◌≡◌, ℕ, ◌+◌, ◌<◌, ◌≤◌, ◌⊎◌, cond, true, false, List, [], ◌∷◌, length}
-use Rattle.std.proofs.Common.{take}
-use Rattle.std.proofs.Common.{Some, None, inl, inr, refl, arith, sym, ◌∙◌, ap, subst, zero, suc}
+use Rattle.std.proofs.Common.{take, Some, None, inl, inr, refl, arith, sym, ◌∙◌, ap, subst, zero}
+use Rattle.std.proofs.Common.{suc}
 use Rattle.std.specs.List.{slice_get}
 use Rattle.st_core.specs.declared.types.Pid.{Pid}
 use Rattle.st_core.specs.declared.types.Event.{Event}

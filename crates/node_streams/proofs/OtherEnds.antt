@@ -1,8 +1,7 @@
 -- Two ends of a message are each other's: before each of them as many alike ones came.
-use Rattle.std.proofs.Common.{◌≡◌, ℕ, ◌+◌, ◌&&◌, zero, suc, cond, Bool, true, false, List, []}
-use Rattle.std.proofs.Common.{◌∷◌}
-use Rattle.std.proofs.Common.{take, Option, Some, None, option_map, refl, arith, sym, ◌∙◌}
-use Rattle.std.proofs.Common.{ap, subst}
+use Rattle.std.proofs.Common.{◌≡◌, ℕ, ◌+◌, ◌&&◌, zero, suc, cond, Bool, true, false, List, [], ◌∷◌}
+use Rattle.std.proofs.Common.{take, Option, Some, None, option_map, refl, arith, sym, ◌∙◌, ap}
+use Rattle.std.proofs.Common.{subst}
 use Rattle.std.specs.List.{count_by, slice_get}
 use Rattle.std.proofs.lemmas.Bool.{and_parts}
 use Rattle.std.proofs.lemmas.Option.{same_Some, none-some}
@@ -14,11 +13,12 @@ use Rattle.st_core.specs.Event.{kind_eq}
 use Rattle.st_core.specs.Run.{Stream}
 use Rattle.st_core.specs.Streams.{AreOwn, events_of}
 use Rattle.node_streams.specs.declared.content.MessageContent.{MessageContent}
-use Rattle.node_streams.specs.Messages.{content_eq, content_of, nth, owner, other_end_of}
-use Rattle.node_streams.specs.Messages.{partners, send_of, tells}
-use Rattle.node_streams.proofs.Counting.{content_itself, content_same, count_first}
+use Rattle.node_streams.specs.Messages.{content_eq, content_of, nth, owner, other_end_of, partners}
+use Rattle.node_streams.specs.Messages.{send_of, tells}
+use Rattle.node_streams.proofs.Counting.{content_itself, content_same}
 use Rattle.node_streams.proofs.EachEvents.{each_at}
 use Rattle.node_streams.proofs.Owners.{kind_same, own_event, owner_is}
+use Rattle.node_machine.proofs.ForCallers.{count_first}
 
 pub partner_at : (streams : List Stream) (es : List Event) (i : ℕ) (e : Event)
     → slice_get es i ≡ Some e

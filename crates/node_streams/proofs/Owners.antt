@@ -1,7 +1,6 @@
 -- Each event of streams is its process's own.
 use Rattle.std.proofs.Common.{◌≡◌, ℕ, zero, suc, true, false, cond, List, [], ◌∷◌, Option, Some}
-use Rattle.std.proofs.Common.{None}
-use Rattle.std.proofs.Common.{is_some, refl, ap, subst}
+use Rattle.std.proofs.Common.{None, is_some, refl, ap, subst}
 use Rattle.std.specs.Prelude.{is_none}
 use Rattle.std.specs.List.{AllByRecursion, find, slice_get}
 use Rattle.std.specs.Option.{option_map_or, unwrap_or}
@@ -46,7 +45,6 @@ receiver_is : (p : Pid) (to : Option Pid) → option_map_or (λ q. pid_eq q p) t
 receiver_is p None is = absurd (false≢true is)
 receiver_is p (Some q) is = ap (λ r. Some r) (pid_eq-true q p is)
 
--- a receive of p's is to p
 pub receive_to : (p : Pid) (e : Event) → is_own p e ≡ true → kind_eq e.kind kind.Receive ≡ true
     → e.to ≡ Some p
 receive_to p e own is = (elim e.kind as (λ k. is_of k e.from e.to p ≡ true
@@ -56,7 +54,6 @@ receive_to p e own is = (elim e.kind as (λ k. is_of k e.from e.to p ≡ true
       | kind.Receive ↦ λ mine _. receiver_is p e.to mine
     ]) own is
 
--- a send of p's is from p
 pub send_from : (p : Pid) (e : Event) → is_own p e ≡ true → kind_eq e.kind kind.Send ≡ true
     → pid_eq e.from p ≡ true
 send_from p e own is = (elim e.kind as (λ k. is_of k e.from e.to p ≡ true
@@ -81,9 +78,4 @@ pub kind_same : (j k : Kind) → kind_eq j k ≡ true → j ≡ k
 kind_same kind.Send kind.Send is = refl
 kind_same kind.Receive kind.Receive is = refl
 kind_same kind.Print kind.Print is = refl
-kind_same kind.Send kind.Receive is = absurd (false≢true is)
-kind_same kind.Send kind.Print is = absurd (false≢true is)
-kind_same kind.Receive kind.Send is = absurd (false≢true is)
-kind_same kind.Receive kind.Print is = absurd (false≢true is)
-kind_same kind.Print kind.Send is = absurd (false≢true is)
-kind_same kind.Print kind.Receive is = absurd (false≢true is)
+kind_same j k is = absurd (false≢true is)

@@ -1,6 +1,6 @@
 -- The number at the place of a process: where it is read, and what one that is put there changes.
-use Rattle.std.proofs.Common.{◌≡◌, ◌≢◌, ℕ, ◌<◌, zero, suc, cond, Bool, true, false, List, [], ◌∷◌, length}
-use Rattle.std.proofs.Common.{replicate, Some, refl, sym, ◌∙◌, ap, arith}
+use Rattle.std.proofs.Common.{◌≡◌, ◌≢◌, ℕ, ◌<◌, zero, suc, cond, Bool, true, false, List, [], ◌∷◌}
+use Rattle.std.proofs.Common.{length, replicate, Some, refl, sym, ◌∙◌, ap, arith}
 use Rattle.std.specs.List.{AllByRecursion, slice_get, slice_set}
 use Rattle.std.specs.Option.{unwrap_or}
 use Rattle.std.proofs.lemmas.Option.{none-some, same_Some}

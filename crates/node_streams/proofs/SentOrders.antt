@@ -15,8 +15,9 @@ use Rattle.st_core.proofs.ForCallers.{pid_eq-true, place_within}
 use Rattle.node_streams.specs.Messages.{is_unsent, nth, send_of, takes_message, unsent_among}
 use Rattle.node_streams.specs.Messages.{unsent_from}
 use Rattle.node_streams.specs.Order.{HaveOrder, IsTurnOrder, next_event, turns}
-use Rattle.node_streams.proofs.Counting.{count_first, turns_more}
+use Rattle.node_streams.proofs.Counting.{turns_more}
 use Rattle.node_streams.proofs.Orders.{less_or_same, past_end}
+use Rattle.node_machine.proofs.ForCallers.{count_first}
 
 -- after these turns p has an event left, and if that is a receive, it has a send, which came
 pub record GoesSent (streams : List Stream) (order : List Pid) (p : Pid) : Type 0 where
@@ -70,7 +71,6 @@ module _ (streams : List Stream) where
         | false ↦ λ _. refl
       ]) refl
 
-  -- the event of a turn
   sent_at : (order : List Pid) (p : Pid) (i : ℕ) (e : Event) → GoesSent streams order p
       → i ≡ turns p order → slice_get (events_of streams p) i ≡ Some e
       → is_unsent streams (take i (events_of streams p)) e ≡ false

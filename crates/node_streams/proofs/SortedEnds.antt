@@ -1,9 +1,9 @@
 -- Ends that are sorted by content, alike ones in their order: those of one content stand together,
 -- so that the nth of them is found from the first, and it is the nth event that tells of it.
 use Rattle.std.proofs.Common.{◌≡◌, ℕ, ◌+◌, ◌<◌, ◌≤◌, ◌==◌, ◌&&◌, zero, suc, cond, Bool, true, false}
-use Rattle.std.proofs.Common.{List, [], ◌∷◌, ◌++◌, length, get_or, drop, Option, Some, None}
-use Rattle.std.proofs.Common.{◌⊎◌, inl, inr, append_assoc, ltb, option_map, refl, arith, sym}
-use Rattle.std.proofs.Common.{◌∙◌, ap, subst}
+use Rattle.std.proofs.Common.{List, [], ◌∷◌, ◌++◌, length, get_or, drop, Option, Some, None, ◌⊎◌}
+use Rattle.std.proofs.Common.{inl, inr, append_assoc, ltb, option_map, refl, arith, sym, ◌∙◌, ap}
+use Rattle.std.proofs.Common.{subst}
 use Rattle.std.specs.Prelude.{not}
 use Rattle.std.specs.Cmp.{IsTotalOrder}
 use Rattle.std.specs.Cmp.Lexicographic.{options_total}
@@ -263,7 +263,8 @@ shift i None = refl
 shift i (Some j) = let sum : i + 1 + j ≡ i + suc j = omega arith in ap (λ n. Some n) sum
 
 module _ (k : Kind) (c : MessageContent) where
-  ends_nth : (n i : ℕ) (es : List Event) → index_of (slice_get (filter (alike c) (ends_from k i es)) n)
+  ends_nth : (n i : ℕ) (es : List Event)
+      → index_of (slice_get (filter (alike c) (ends_from k i es)) n)
       ≡ option_map (λ j. i + j) (nth (tells k c) n es)
   ends_nth n i [] = refl
   ends_nth zero i (e ∷ es) =

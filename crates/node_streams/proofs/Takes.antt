@@ -29,7 +29,6 @@ none_taken : (b : Bool) (o : Option ℕ) → (b && is_none (cond b o None)) ≡ 
 none_taken true o = refl
 none_taken false o = refl
 
--- a receive that took none is unsent
 pub unsent_is : (streams : List Stream) (before : List Event) (e : Event) (o : Option ℕ)
     → o ≡ taken_send streams before e
     → (takes_message e && is_none o) ≡ is_unsent streams before e

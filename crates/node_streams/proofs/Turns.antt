@@ -1,7 +1,7 @@
 -- Follows what a turn does to the counts of the walk, and processes that are listed before.
-use Rattle.std.proofs.Common.{◌≡◌, ℕ, ◌+◌, ◌-◌, ◌≤◌, ◌<◌, ◌||◌, suc, cond}
-use Rattle.std.proofs.Common.{true, false, List, [], ◌∷◌, length, replicate, Option, Some, None}
-use Rattle.std.proofs.Common.{IfNone, Result, Ok, Err, OnOk, refl, arith, sym, ◌∙◌, ap}
+use Rattle.std.proofs.Common.{◌≡◌, ℕ, ◌+◌, ◌-◌, ◌≤◌, ◌<◌, ◌||◌, suc, cond, true, false, List, []}
+use Rattle.std.proofs.Common.{◌∷◌, length, replicate, Option, Some, None, IfNone, Result, Ok, Err}
+use Rattle.std.proofs.Common.{OnOk, refl, arith, sym, ◌∙◌, ap}
 use Rattle.std.specs.Option.{unwrap_or}
 use Rattle.std.specs.List.{find, slice_get, slice_set, sum_by}
 use Rattle.std.proofs.Math.ListN.{length-set}
@@ -31,7 +31,6 @@ place_among (q ∷ ps) p is = (elim (pid_eq q p) as (λ b. pid_eq q p ≡ b → 
 abbrev pub events_in : Option Stream → List Event
 events_in found = elim found [ None ↦ [] | Some s ↦ s.events ]
 
--- a process that isn't listed has no events
 pub unlisted_events : (streams : List Stream) (p : Pid) → is_among (pids_of streams) p ≡ false
     → events_of streams p ≡ []
 unlisted_events [] p is = refl
@@ -74,7 +73,6 @@ pub done_here : (streams : List Stream) (order : List Pid) (w : Walk) (i : ℕ) 
 done_here streams order w i p rising at here =
     sym (number_here (pids_of streams) w.done.items i p rising here) ∙ at.done p
 
--- one event more
 pub gone_at : (streams : List Stream) (order : List Pid) (w u : Walk) (i more : ℕ) (p : Pid)
     → IsRising (pids_of streams) → IsAt streams order w → slice_get (pids_of streams) i ≡ Some p
     → more ≡ unwrap_or (slice_get w.done.items i) 0 + 1
@@ -125,7 +123,6 @@ module _ (f g : Pid → ℕ) (p : Pid) (more : (q : Pid) → g q ≡ f q + cond 
       let before = sum_by-cons (left_of f) x streams in
       omega arith
 
-  -- a turn leaves fewer
   pub one_fewer : (streams : List Stream) (e : Event) → slice_get (events_of streams p) (f p)
       ≡ Some e
       → events_left streams g < events_left streams f
@@ -151,7 +148,6 @@ module _ (f g : Pid → ℕ) (p : Pid) (more : (q : Pid) → g q ≡ f q + cond 
             omega arith
       ]) refl at
 
--- and more events leave no more
 pub no_more_left : (streams : List Stream) (f g : Pid → ℕ) → ((q : Pid) → f q ≤ g q)
     → events_left streams g ≤ events_left streams f
 no_more_left [] f g more = omega arith

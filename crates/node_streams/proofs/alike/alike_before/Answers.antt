@@ -8,9 +8,9 @@ use Rattle.node_streams.specs.declared.ends.End.{End}
 use Rattle.node_streams.specs.Messages.{content_of}
 use Rattle.node_streams.specs.Tables.{AreByContent, alike, ends_from}
 use Rattle.node_streams.proofs.AlikeEnds.{all_told, number_is, told_more}
-use Rattle.node_streams.proofs.Counting.{at_get_or, blank}
 use Rattle.node_streams.proofs.SortedEnds.{end_of}
 use Rattle.node_streams.proofs.alike.alike_before.Goals as goal
+use Rattle.st_pair.proofs.ForCallers.{at_get_or, blank}
 
 pub loop-end-init : goal.loop-end-init
 loop-end-init c = record {
@@ -25,8 +25,8 @@ pub loop-end-preserved : goal.loop-end-preserved
 loop-end-preserved c =
     let es = c.args.events.now in
     let v = c.deref-end-items.result.now in
-    let are = subst (AreByContent (ends_from c.args.kind 0 es)) (sym c.deref-end-items.ensures.value)
-    c.in_ok-ends.ensures in
+    let are = subst (AreByContent (ends_from c.args.kind 0 es))
+    (sym c.deref-end-items.ensures.value) c.in_ok-ends.ensures in
     let i = c.loop-end.end-index in
     let x = get_or v i (end_of (content_of blank)) in
     let at = at_get_or v i (end_of (content_of blank)) c.loop-end-test.true in
@@ -52,8 +52,8 @@ pub returns : goal.returns
 returns c =
     let es = c.args.events.now in
     let v = c.deref-end-items.result.now in
-    let are = subst (AreByContent (ends_from c.args.kind 0 es)) (sym c.deref-end-items.ensures.value)
-    c.in_ok-ends.ensures in
+    let are = subst (AreByContent (ends_from c.args.kind 0 es))
+    (sym c.deref-end-items.ensures.value) c.in_ok-ends.ensures in
     let past = c.loop-end-test.false in
     all_told c.args.kind es v are c.loop-end.numbers.items
     (λ j z less. c.loop-end.invariant.told j z (omega arith))

@@ -1,15 +1,14 @@
 -- One process more, whose list comes last.
-use Rattle.std.proofs.Common.{◌≡◌, ◌+◌, get_or, length, Some}
-use Rattle.std.proofs.Common.{inl, inr, sym, ◌∙◌, ap, subst}
+use Rattle.std.proofs.Common.{◌≡◌, ◌+◌, get_or, length, Some, inl, inr, sym, ◌∙◌, ap, subst}
 use Rattle.std.specs.List.{slice_get}
 use Rattle.std.proofs.lemmas.Option.{same_Some}
 use Rattle.st_core.specs.declared.types.Pid.{Pid}
 use Rattle.st_core.specs.Run.{pids_of}
 use Rattle.st_core.specs.Streams.{events_of}
 use Rattle.node_streams.specs.Tables.{AreByContent, ends_from}
-use Rattle.node_streams.proofs.Counting.{at_get_or}
 use Rattle.node_streams.proofs.SortedEnds.{got_more, length_more}
 use Rattle.node_streams.proofs.ends.all_ends.Goals as goal
+use Rattle.st_pair.proofs.ForCallers.{at_get_or}
 
 pub loop-pid-preserved : goal.loop-pid-preserved
 loop-pid-preserved c =

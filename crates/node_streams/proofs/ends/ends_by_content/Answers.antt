@@ -1,9 +1,8 @@
 -- A stable sort by content.
-use Rattle.std.proofs.Common.{rules}
+use Rattle.std.proofs.Common.{rules, subst}
 use Rattle.std.proofs.lemmas.List.Sorted.{answers_always}
 use Rattle.node_streams.specs.declared.ends.End.{End}
 use Rattle.node_streams.specs.Tables.{AreByContent}
-use Rattle.std.proofs.Common.{subst}
 use Rattle.node_streams.proofs.SortedEnds.{by_content}
 use Rattle.node_streams.proofs.ends.ends_by_content.Goals as goal
 

@@ -4,11 +4,11 @@ use Rattle.node_streams.specs.Messages.{content_of}
 use Rattle.node_streams.specs.declared.content.MessageContent.{MessageContent}
 use Rattle.node_streams.specs.declared.ends.End.{End}
 use Rattle.node_streams.specs.Tables.{ends_from}
-use Rattle.node_streams.proofs.Counting.{at_get_or, blank}
 use Rattle.node_streams.proofs.SortedEnds.{end_step}
 use Rattle.node_streams.proofs.Unsents.{none_left}
 use Rattle.node_streams.proofs.ends.own_ends.Goals as goal
 use Rattle.node_streams.proofs.ends.own_ends.Goals.{then-is_of_kind+in_ok-push, else-is_of_kind}
+use Rattle.st_pair.proofs.ForCallers.{at_get_or, blank}
 
 pub loop-i-preserved : goal.loop-i-preserved
 loop-i-preserved c =

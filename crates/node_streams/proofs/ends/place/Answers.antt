@@ -5,8 +5,7 @@ use Rattle.st_core.specs.Streams.{events_of}
 use Rattle.st_core.proofs.ForCallers.{place_within}
 use Rattle.node_streams.specs.Messages.{nth, tells}
 use Rattle.node_streams.specs.Tables.{AreByContent, ends_from}
-use Rattle.st_pair.proofs.ForCallers.{missing_events}
-use Rattle.node_streams.proofs.Counting.{at_get_or}
+use Rattle.st_pair.proofs.ForCallers.{missing_events, at_get_or}
 use Rattle.node_streams.proofs.SortedEnds.{nth_event}
 use Rattle.node_streams.proofs.ends.place.Goals as goal
 

@@ -19,8 +19,9 @@ go_far-requires-clause-way c =
     let way = c.loop-place.invariant in
     let goes = subst (λ o. IfSome o (λ x. GoesNext streams way.order x.0 x.1)) c.in-Some.is
     (c.next.ensures.free way.order way.at) in
-    let at = same_walk streams way.order c.loop-place.walk c.next.new.self c.next.ensures.done way.at
-    in record {
+    let at =
+    same_walk streams way.order c.loop-place.walk c.next.new.self c.next.ensures.done way.at in
+    record {
       order = goes.pid ∷ way.order;
       is_order = (goes.can, way.is_order);
       at = c.in_ok-go.ensures way.order goes.pid at goes.place;
@@ -33,8 +34,8 @@ loop-place-smaller c =
     let goes = subst (λ o. IfSome o (λ x. GoesNext streams way.order x.0 x.1)) c.in-Some.is
     (c.next.ensures.free way.order way.at) in
     let p = goes.pid in
-    let at = same_walk streams way.order c.loop-place.walk c.next.new.self c.next.ensures.done way.at
-    in
+    let at =
+    same_walk streams way.order c.loop-place.walk c.next.new.self c.next.ensures.done way.at in
     let after = c.in_ok-go.ensures way.order p at goes.place in
     let fewer = one_fewer (done_in streams c.loop-place.walk) (done_in streams c.go.new.self) p
     (λ q.
@@ -44,16 +45,16 @@ loop-place-smaller c =
     omega arith)
     streams c.in-Some.event
     (ap (slice_get (events_of streams p)) (way.at.done p) ∙ goes.next) in
-    let far = no_more_left streams (done_in streams c.go.new.self) (done_in streams c.go_far.new.self)
-    c.in_ok-go_far.ensures.more in
+    let far = no_more_left streams (done_in streams c.go.new.self)
+    (done_in streams c.go_far.new.self) c.in_ok-go_far.ensures.more in
     omega arith
 
 pub returns-clause-none : goal.returns-clause-none
 returns-clause-none c =
     let streams = c.args.streams.now in
     let way = c.loop-place.invariant in
-    let at = same_walk streams way.order c.loop-place.walk c.next.new.self c.next.ensures.done way.at
-    in
+    let at =
+    same_walk streams way.order c.loop-place.walk c.next.new.self c.next.ensures.done way.at in
     IfOk-weaker c.events_left.result _ _
     (λ v over empty. record { order = way.order; is_order = way.is_order; over = over empty })
     (c.events_left.ensures.none way.order at)
@@ -62,8 +63,8 @@ pub returns-clause-some : goal.returns-clause-some
 returns-clause-some c =
     let streams = c.args.streams.now in
     let way = c.loop-place.invariant in
-    let at = same_walk streams way.order c.loop-place.walk c.next.new.self c.next.ensures.done way.at
-    in
+    let at =
+    same_walk streams way.order c.loop-place.walk c.next.new.self c.next.ensures.done way.at in
     let stuck = subst (λ o. IfNone o ((p : Pid) → CanGo streams way.order p → ⊥)) c.in_default.is
     (c.next.ensures.none way.order way.at) in
     IfOk-weaker c.events_left.result _ _

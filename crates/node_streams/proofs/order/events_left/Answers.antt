@@ -1,24 +1,20 @@
 -- Each listed process was asked, and the others have no events.
-use Rattle.std.proofs.Common.{◌≡◌, ◌≤◌, get_or, length, List, [], ◌∷◌, ◌++◌, true, false}
-use Rattle.std.proofs.Common.{Option, Some, None, is_some, inl, inr, refl, sym, ◌∙◌, arith, ap, subst}
+use Rattle.std.proofs.Common.{◌≡◌, ◌≤◌, get_or, length, List, [], ◌∷◌, ◌++◌, false, Option}
+use Rattle.std.proofs.Common.{Some, None, is_some, inl, inr, refl, sym, ◌∙◌, arith, ap, subst}
 use Rattle.std.specs.List.{slice_get}
 use Rattle.std.proofs.lemmas.Bool.{false≢true}
 use Rattle.std.proofs.lemmas.Option.{same_Some}
 use Rattle.st_core.specs.declared.types.Pid.{Pid}
 use Rattle.st_core.specs.Run.{pids_of}
 use Rattle.st_core.specs.Streams.{events_of}
-use Rattle.st_core.proofs.ForCallers.{place_within}
+use Rattle.st_core.proofs.ForCallers.{place_within, some_of}
 use Rattle.node_streams.specs.Order.{next_event, turns}
 use Rattle.node_streams.specs.Tables.{IsAt}
-use Rattle.node_streams.proofs.Counting.{at_get_or}
 use Rattle.node_streams.proofs.Orders.{less_or_same}
 use Rattle.node_streams.proofs.Turns.{any_process, done_here}
 use Rattle.node_streams.proofs.order.events_left.Goals as goal
 use Rattle.node_streams.proofs.order.events_left.Goals.{then-is_some+in_ok-push, else-is_some}
-
-has_value : {A : Type 0} (o : Option A) → is_some o ≡ true → (x : A) × (o ≡ Some x)
-has_value None is = absurd (false≢true is)
-has_value (Some x) is = (x, refl)
+use Rattle.st_pair.proofs.ForCallers.{at_get_or}
 
 no_value : {A : Type 0} (o : Option A) → is_some o ≡ false → o ≡ None
 no_value None is = refl
@@ -46,7 +42,7 @@ loop-place-preserved c =
         none = λ order at empty. absurd (not_empty c.loop-place.left.items _
             (sym (ap (λ v. v.items) w.left-is ∙ w.in_ok-push.ensures.items) ∙ empty));
         some = λ order at full.
-            let found = has_value c.event.result (sym c.is_some.ensures ∙ w.if-is_some.true) in
+            let found = some_of c.event.result (sym c.is_some.ensures ∙ w.if-is_some.true) in
             (p, found.0, next order at ∙ found.1);
       }
       | else-is_some w ↦ record {

@@ -1,13 +1,13 @@
 -- One event more: its place is added if it is such a receive.
-use Rattle.std.proofs.Common.{cond, get_or, take, [], ◌∷◌, ◌++◌, sym, ◌∙◌, ap}
-use Rattle.std.proofs.Common.{append-nil, Vec, Global, ℕ}
+use Rattle.std.proofs.Common.{cond, get_or, take, [], ◌∷◌, ◌++◌, sym, ◌∙◌, ap, append-nil, Vec}
+use Rattle.std.proofs.Common.{Global, ℕ}
 use Rattle.st_core.specs.declared.types.Pid.{Pid}
 use Rattle.node_streams.specs.Messages.{unsent_from}
-use Rattle.node_streams.proofs.Counting.{at_get_or, blank}
 use Rattle.node_streams.proofs.Takes.{taken_among, unsent_is}
 use Rattle.node_streams.proofs.Unsents.{none_left, unsent_step}
 use Rattle.node_streams.proofs.receives.add_unsent.Goals as goal
 use Rattle.node_streams.proofs.receives.add_unsent.Goals.{then-is_unsent+in_ok-push, else-is_unsent}
+use Rattle.st_pair.proofs.ForCallers.{at_get_or, blank}
 
 pub loop-i-preserved : goal.loop-i-preserved
 loop-i-preserved c = λ streams are.

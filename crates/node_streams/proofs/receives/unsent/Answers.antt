@@ -1,13 +1,13 @@
 -- One process more, whose places come last.
-use Rattle.std.proofs.Common.{◌≡◌, ◌+◌, suc, get_or, drop, [], ◌∷◌, ◌++◌, Some, append_assoc}
-use Rattle.std.proofs.Common.{arith, sym, ◌∙◌, ap, subst}
+use Rattle.std.proofs.Common.{◌≡◌, ◌+◌, suc, get_or, drop, [], ◌∷◌, ◌++◌, Some, append_assoc, arith}
+use Rattle.std.proofs.Common.{sym, ◌∙◌, ap, subst}
 use Rattle.std.specs.List.{slice_get}
 use Rattle.st_core.specs.declared.types.Pid.{Pid}
 use Rattle.st_core.specs.Run.{pids_of}
 use Rattle.node_streams.specs.Messages.{taken_sends, unsent_among, unsent_from}
-use Rattle.node_streams.proofs.Counting.{at_get_or}
 use Rattle.node_streams.proofs.Unsents.{first_left}
 use Rattle.node_streams.proofs.receives.unsent.Goals as goal
+use Rattle.st_pair.proofs.ForCallers.{at_get_or}
 
 pub loop-place-preserved : goal.loop-place-preserved
 loop-place-preserved c =

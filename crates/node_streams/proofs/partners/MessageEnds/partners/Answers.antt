@@ -4,10 +4,10 @@ use Rattle.st_core.specs.declared.types.Kind.TheVariants as kind
 use Rattle.node_streams.specs.Messages.{each_from, other_end_of, partners}
 use Rattle.node_streams.specs.Tables.{CountAlike}
 use Rattle.node_streams.proofs.AlikeEnds.{number_is_told}
-use Rattle.node_streams.proofs.Counting.{at_get_or, blank}
 use Rattle.node_streams.proofs.EachEvents.{each_step}
 use Rattle.node_streams.proofs.Unsents.{none_left}
 use Rattle.node_streams.proofs.partners.MessageEnds.partners.Goals as goal
+use Rattle.st_pair.proofs.ForCallers.{at_get_or, blank}
 
 pub loop-i-preserved : goal.loop-i-preserved
 loop-i-preserved c =
@@ -23,7 +23,8 @@ loop-i-preserved c =
     (subst (CountAlike kind.Send es) (sym c.deref.ensures.value) c.in_ok-sent.ensures)
     i e at c.number_at.result c.number_at.ensures)
     (number_is_told kind.Receive es c.deref-in-loop-i.result.now
-    (subst (CountAlike kind.Receive es) (sym c.deref-in-loop-i.ensures.value) c.in_ok-received.ensures)
+    (subst (CountAlike kind.Receive es) (sym c.deref-in-loop-i.ensures.value)
+    c.in_ok-received.ensures)
     i e at c.number_at-in-loop-i.result c.number_at-in-loop-i.ensures))
 
 pub returns : goal.returns

@@ -4,10 +4,10 @@ use Rattle.st_core.specs.declared.types.Kind.TheVariants as kind
 use Rattle.node_streams.specs.Messages.{each_from, taken_send, taken_sends}
 use Rattle.node_streams.specs.Tables.{CountAlike}
 use Rattle.node_streams.proofs.AlikeEnds.{number_is_told}
-use Rattle.node_streams.proofs.Counting.{at_get_or, blank}
 use Rattle.node_streams.proofs.EachEvents.{each_step}
 use Rattle.node_streams.proofs.Unsents.{none_left}
 use Rattle.node_streams.proofs.sends.Sends.taken_by.Goals as goal
+use Rattle.st_pair.proofs.ForCallers.{at_get_or, blank}
 
 pub loop-i-preserved : goal.loop-i-preserved
 loop-i-preserved c =

@@ -1,6 +1,5 @@
 -- Each listed process is asked, and the others have no events.
-use Rattle.std.proofs.Common.{◌≡◌, IfNone, length, Some, inl, inr, refl, arith}
-use Rattle.std.proofs.Common.{sym, ◌∙◌, ap, subst}
+use Rattle.std.proofs.Common.{◌≡◌, IfNone, length, Some, inl, inr, refl, arith, sym, ◌∙◌, ap, subst}
 use Rattle.std.specs.List.{slice_get}
 use Rattle.st_core.specs.declared.types.Pid.{Pid}
 use Rattle.st_core.specs.Run.{pids_of}

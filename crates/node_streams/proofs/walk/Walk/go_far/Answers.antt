@@ -15,14 +15,15 @@ loop-event-smaller c =
     let look = c.in-Some.ensures.lookup in
     let here = sym (ap (λ ps. slice_get ps c.args.place) c.pids.ensures.value)
     ∙ slice_get_read c.pids.result.now _ c.args.place q refl look.3.0 look.1 in
-    let are : AreOf streams c.args.place q c.events-events.result.now c.taken_of-own.result.now = record {
+    let are : AreOf streams c.args.place q c.events-events.result.now
+    c.taken_of-own.result.now = record {
       place = here;
       own = c.events-events.ensures.value;
       sends = c.taken_of-own.ensures streams q c.requires.sound.draft.rising c.requires.taken here;
     } in
     let way = c.loop-event.invariant.way in
-    let goes = subst (λ o. IfSome o (GoesNext streams way.order c.args.place)) c.in-Some-free_event_of.is
-    (c.free_event_of.ensures.free way.order q way.at are) in
+    let goes = subst (λ o. IfSome o (GoesNext streams way.order c.args.place))
+    c.in-Some-free_event_of.is (c.free_event_of.ensures.free way.order q way.at are) in
     let p = goes.pid in
     let after = c.in_ok-go.ensures way.order p way.at goes.place in
     one_fewer (done_in streams c.loop-event.self) (done_in streams c.go.new.self) p
@@ -41,14 +42,15 @@ loop-event-preserved c =
     let look = c.in-Some.ensures.lookup in
     let here = sym (ap (λ ps. slice_get ps c.args.place) c.pids.ensures.value)
     ∙ slice_get_read c.pids.result.now _ c.args.place q refl look.3.0 look.1 in
-    let are : AreOf streams c.args.place q c.events-events.result.now c.taken_of-own.result.now = record {
+    let are : AreOf streams c.args.place q c.events-events.result.now
+    c.taken_of-own.result.now = record {
       place = here;
       own = c.events-events.ensures.value;
       sends = c.taken_of-own.ensures streams q c.requires.sound.draft.rising c.requires.taken here;
     } in
     let way = c.loop-event.invariant.way in
-    let goes = subst (λ o. IfSome o (GoesNext streams way.order c.args.place)) c.in-Some-free_event_of.is
-    (c.free_event_of.ensures.free way.order q way.at are) in
+    let goes = subst (λ o. IfSome o (GoesNext streams way.order c.args.place))
+    c.in-Some-free_event_of.is (c.free_event_of.ensures.free way.order q way.at are) in
     let p = goes.pid in
     let after = c.in_ok-go.ensures way.order p way.at goes.place in
     record {
