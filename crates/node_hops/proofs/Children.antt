@@ -4,8 +4,8 @@
 -- back to the receive.
 use Rattle.std.proofs.Common.{◌≡◌, ℕ, ◌+◌, ◌-◌, ◌≤◌, ◌==◌, ◌&&◌, ◌||◌, zero, suc, Bool, true, false}
 use Rattle.std.proofs.Common.{cond, List, [], ◌∷◌, ◌++◌, take, drop, Option, Some, None}
-use Rattle.std.proofs.Common.{option_and_then, option_map, slice_get, get_or, option_to_list}
-use Rattle.std.proofs.Common.{inl, inr, refl, sym, ◌∙◌, ap, subst, arith}
+use Rattle.std.proofs.Common.{option_and_then, option_map, slice_get, get_or, option_to_list, inl}
+use Rattle.std.proofs.Common.{inr, refl, sym, ◌∙◌, ap, subst, arith}
 use Rattle.std.specs.Prelude.{not}
 use Rattle.std.specs.List.{prefix_len}
 use Rattle.std.proofs.lemmas.Bool.{and_from, and_parts, cases_order, eq-eqb, eqb-true, false≢true}
@@ -17,9 +17,9 @@ use Rattle.st_core.specs.declared.types.Kind.TheVariants as kind
 use Rattle.st_core.specs.declared.types.Event.{Event}
 use Rattle.st_core.specs.Run.{Stream}
 use Rattle.st_core.specs.Streams.{IsStreams, events_of}
-use Rattle.st_core.proofs.ForCallers.{eqb-swap}
+use Rattle.st_core.proofs.ForCallers.{eqb-swap, mapped}
 use Rattle.st_pair.specs.Places.{event_at, is_stamp}
-use Rattle.st_pair.proofs.ForCallers.{at_get_or, blank}
+use Rattle.st_pair.proofs.ForCallers.{at_get_or, blank, receive_kind, receive_unstamped}
 use Rattle.node_streams.specs.Messages.{content_of, other_end_of, owner, send_of}
 use Rattle.node_streams.proofs.ForCallers.{received_sent, sent_received}
 use Rattle.node_hops.specs.Events.{is_in_row, is_take, row_first, take_before}
@@ -28,9 +28,10 @@ use Rattle.node_hops.specs.Hops.{hop_of_stamp, label_there_or, node_hop_by, node
 use Rattle.node_hops.specs.Hops.{node_hop_of, node_hop_to_send}
 use Rattle.node_hops.specs.Way.{next_at, next_of}
 use Rattle.node_hops.specs.Tree.{children, children_of, places_of, receive_place, row_ahead}
-use Rattle.node_hops.proofs.RowLemmas.{IsReceivedBefore, IsRowBetween, received_at, received_is}
-use Rattle.node_hops.proofs.RowLemmas.{row_between, row_passes, row_start_within, row_stops}
-use Rattle.node_hops.proofs.Claims.{kind_receive, unstamped}
+use Rattle.node_hops.proofs.RowLemmas.{IsReceivedBefore, IsRowBetween, receive_is, received_at}
+use Rattle.node_hops.proofs.RowLemmas.{received_is, row_between, row_passes, row_start_within}
+use Rattle.node_hops.proofs.RowLemmas.{row_stops}
+use Rattle.node_hops.proofs.Stamps.{kind_receive}
 
 -- it is in the list
 abbrev pub IsAmong : {A : Type 0} → List A → A → Type 0
@@ -196,11 +197,6 @@ module _ (all : Bool) (p : Pid) (label : Label) where
         | false ↦ λ _ at. one_more first x row y (placed_out (first + 1) row k y at)
       ] refl at
 
-mapped_one : {X : Type 0} (f : ℕ → X) (o : Option ℕ) (y : X) → option_map f o ≡ Some y
-    → (i : ℕ) × (o ≡ Some i) × (f i ≡ y)
-mapped_one {X} f None y h = absurd (none-some y h)
-mapped_one {X} f (Some i) y h = (i, refl, same_Some (f i) y h)
-
 -- KINDS
 
 stamp_row : (prev : ℕ) (e : Event) → is_stamp e ≡ true → e.serial.prev ≡ prev
@@ -211,9 +207,8 @@ stamp_row prev e stamps is =
     ≡ true
     → not (let b : Bool = elim k [ kind.Send ↦ false | kind.Receive ↦ true | kind.Print ↦ false ] in
     b) ≡ true) [
-      | kind.Send ↦ λ h. refl
       | kind.Receive ↦ λ h. h
-      | kind.Print ↦ λ h. refl
+      | _ ↦ λ h. refl
     ] stamps in
     and_from (not (is_take e)) (e.serial.prev == prev) other (eq-eqb e.serial.prev prev is)
 
@@ -315,7 +310,7 @@ module _ (streams : List Stream) (across : Bool) where
       → send_of streams (take i (events_of streams p)) e ≡ Some j
       → IsAmong (children streams across (e.from, j)) (p, i)
   receive_below sound p i e j at receives sent =
-      let x = sent_received streams sound.draft.own p i e j at (unstamped e.kind receives) sent in
+      let x = sent_received streams sound.draft.own p i e j at (receive_kind e receives) sent in
       let q = e.from in
       let f = x.event in (
         0,
@@ -397,9 +392,8 @@ row_stamps prev e is =
     b) ≡ true
     → (let b : Bool = elim k [ kind.Send ↦ true | kind.Receive ↦ false | kind.Print ↦ true ] in b)
     ≡ true) [
-      | kind.Send ↦ λ h. refl
       | kind.Receive ↦ λ h. h
-      | kind.Print ↦ λ h. refl
+      | _ ↦ λ h. refl
     ] other
 
 wanted_leads : (across b : Bool) (x : Pid × ℕ) → (across || b) ≡ true
@@ -493,17 +487,13 @@ module _ (streams : List Stream) (across : Bool) where
   send_leads sound q j d y at sends is =
       let p = owner kind.Receive (content_of d) in
       let place = λ (k : ℕ). (let z : Pid × ℕ = (p, k) in z) in
-      let found = mapped_one place
+      let found = mapped place
       (other_end_of streams (take j (events_of streams q)) d) y is in
       let i = found.0 in
       let x = received_sent streams sound.draft.own q j d i at sends found.1 in
       let e = x.event in
-      let receives : is_stamp e ≡ false = ap (λ (k : Kind). (let b : Bool = elim k [
-        | kind.Send ↦ true
-        | kind.Receive ↦ false
-        | kind.Print ↦ true
-      ] in b)) x.receives in
-      ap (next_at streams across) (sym found.2) ∙ receive_next p i e x.at receives
+      ap (next_at streams across) (sym found.2)
+      ∙ receive_next p i e x.at (receive_unstamped e x.receives)
       ∙ ap (λ (o : Option ℕ). next_of across p (node_hop_to_send e.from o)) x.sent
       ∙ ap (λ (r : Pid). (let z : Option (Pid × ℕ) = Some (r, j) in z)) x.sender
 
@@ -526,11 +516,7 @@ module _ (streams : List Stream) (across : Bool) where
             let place : (let z : Pid × ℕ = (p, j + 1 + x.offset) in z) ≡ y =
             λ n. (x.pid n, x.index n) in
             ap (next_at streams across) (sym place)
-            ∙ row_leads p j d x.offset x.event at (ap (λ c. elim c as (λ _. Bool) [
-              | kind.Send ↦ false
-              | kind.Receive ↦ true
-              | kind.Print ↦ false
-            ]) is) x.at x.is_wanted
+            ∙ row_leads p j d x.offset x.event at (receive_is d is) x.at x.is_wanted
         | kind.Print ↦ λ is h. absurd (none-some y h)
       ] refl there
 

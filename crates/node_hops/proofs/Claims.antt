@@ -1,9 +1,8 @@
 -- The claim of each hop is true: of a stamp by the events before its row, of a receive by the sends
 -- of its content.
-use Rattle.std.proofs.Common.{◌≡◌, ◌≢◌, ℕ, ◌<◌, ◌≤◌, ◌==◌, ◌&&◌, zero, suc, Bool, true, false}
-use Rattle.std.proofs.Common.{cond, get_or, List, map, take, Option, Some, None, refl, sym, ◌∙◌}
-use Rattle.std.proofs.Common.{ap, arith}
-use Rattle.std.proofs.Common.{subst, eqb-true, eq-eqb}
+use Rattle.std.proofs.Common.{◌≡◌, ◌≢◌, ℕ, ◌<◌, ◌≤◌, ◌==◌, ◌&&◌, zero, suc, true, false, cond}
+use Rattle.std.proofs.Common.{get_or, List, map, take, Option, Some, None, refl, sym, ◌∙◌, ap}
+use Rattle.std.proofs.Common.{arith, subst, eqb-true, eq-eqb}
 use Rattle.std.specs.Prelude.{not}
 use Rattle.std.specs.List.{slice_get}
 use Rattle.std.proofs.lemmas.Bool.{false≢true}
@@ -11,7 +10,6 @@ use Rattle.std.proofs.lemmas.Bool.Decides.{nat_tests}
 use Rattle.std.proofs.lemmas.Option.{slice_get_within}
 use Rattle.st_core.specs.declared.types.Pid.{Pid}
 use Rattle.st_core.specs.declared.types.Label.{Label}
-use Rattle.st_core.specs.declared.types.Kind.{Kind}
 use Rattle.st_core.specs.declared.types.Kind.TheVariants as kind
 use Rattle.st_core.specs.declared.types.Event.{Event}
 use Rattle.st_core.specs.Run.{Stream, stream}
@@ -19,7 +17,7 @@ use Rattle.st_core.specs.Step.{Outcome}
 use Rattle.st_core.specs.Streams.{events_of, IsStreams}
 use Rattle.st_core.proofs.ForCallers.{event_reported}
 use Rattle.st_pair.specs.Places.{event_at, is_stamp}
-use Rattle.st_pair.proofs.ForCallers.{at_get_or, stamp_not_received}
+use Rattle.st_pair.proofs.ForCallers.{at_get_or, receive_kind, stamp_not_received}
 use Rattle.node_machine.specs.Node.{machine_act, NodeAct, node_run}
 use Rattle.node_machine.specs.Premises.{NoNodeReset}
 use Rattle.node_streams.specs.Messages.{send_of}
@@ -29,32 +27,18 @@ use Rattle.node_hops.specs.declared.hop.NodeHop.TheVariants as hop
 use Rattle.node_hops.specs.Claims.{HopClaims, PremisesHold, IsTrueOnNode, NodeReports}
 use Rattle.node_hops.specs.Events.{is_in_row, is_take, take_before, row_first}
 use Rattle.node_hops.specs.Hops.{events_before, node_hop_by, node_hop_by_label, node_hop_of}
-use Rattle.node_hops.specs.Hops.{hop_of_stamp}
-use Rattle.node_hops.specs.Hops.{node_hop_to_send, label_there_or, node_premises_of}
+use Rattle.node_hops.specs.Hops.{hop_of_stamp, node_hop_to_send, label_there_or, node_premises_of}
 use Rattle.node_hops.proofs.Messages.{listed_at, sent_true, unsent_true}
 use Rattle.node_hops.proofs.RowLemmas.{not_received, received_is, row_between, row_start_within}
 use Rattle.node_hops.proofs.RowLemmas.{row_stopped}
-use Rattle.node_hops.proofs.Stamps.{begins, begins_after, follows_it, moved_first, moved_later}
+use Rattle.node_hops.proofs.Stamps.{kind_receive, begins, begins_after, follows_it, moved_first}
+use Rattle.node_hops.proofs.Stamps.{moved_later}
 
 same_label : (k l : Label) → (k.0 == l.0) ≡ true → k ≡ l
 same_label k l h = let number = eqb-true k.0 l.0 h in λ i. record { 0 = number i }
 
 other_label : (k l : Label) → (k.0 == l.0) ≡ false → ¬ (k ≡ l)
 other_label k l h same = false≢true (sym h ∙ eq-eqb k.0 l.0 (ap (λ (x : Label). x.0) same))
-
-pub kind_receive : (k : Kind) → (let b : Bool =
-    elim k [ kind.Send ↦ false | kind.Receive ↦ true | kind.Print ↦ false ] in b) ≡ true
-    → k ≡ kind.Receive
-kind_receive kind.Send is = absurd (false≢true is)
-kind_receive kind.Receive is = refl
-kind_receive kind.Print is = absurd (false≢true is)
-
-pub unstamped : (k : Kind) → (let b : Bool =
-    elim k [ kind.Send ↦ true | kind.Receive ↦ false | kind.Print ↦ true ] in b) ≡ false
-    → k ≡ kind.Receive
-unstamped kind.Send is = absurd (false≢true (sym is))
-unstamped kind.Receive is = refl
-unstamped kind.Print is = absurd (false≢true (sym is))
 
 -- neither in the row nor a receive of the count
 differs : (d : Event) (prev : ℕ) → is_in_row prev d ≡ false
@@ -179,7 +163,7 @@ hop_true streams p i e sound at pids acts os h plain shown n r =
           (stamp_claims pids acts os h plain p i n e r (stamp_not_received e stamps)
           (ap (λ xs. slice_get xs i) (sym are) ∙ at))
       | false ↦ λ isnt.
-          let receives = unstamped e.kind isnt in
+          let receives = receive_kind e isnt in
           (elim (send_of streams (take i es) e) as (λ o. send_of streams (take i es) e ≡ o
           → PremisesHold pids acts os p (events_before (node_hop_to_send e.from o)) e n
           (node_premises_of (node_hop_to_send e.from o))

@@ -1,7 +1,6 @@
 -- The events that a process reports before an act: one act more, and later acts.
-use Rattle.std.proofs.Common.{◌≡◌, ℕ, ◌+◌, ◌≤◌, zero, suc, cond, List, []}
-use Rattle.std.proofs.Common.{◌∷◌, ◌++◌, length, take, map, Some, option_to_list}
-use Rattle.std.proofs.Common.{drop, option_and_then, option_map, refl, sym, ◌∙◌, ap, arith}
+use Rattle.std.proofs.Common.{◌≡◌, ℕ, ◌+◌, ◌≤◌, zero, suc, cond, List, [], ◌∷◌, ◌++◌, length, take}
+use Rattle.std.proofs.Common.{map, Some, option_to_list, drop, refl, sym, ◌∙◌, ap, arith}
 use Rattle.std.proofs.Common.{append_assoc, append-nil}
 use Rattle.std.specs.List.{slice_get}
 use Rattle.std.proofs.lemmas.List.{length-append, take-take}
@@ -38,7 +37,6 @@ no_outcomes : (acts : List Act) (p : Pid) → [] ≡ stream acts [] p
 no_outcomes [] p = refl
 no_outcomes (a ∷ acts) p = refl
 
--- a stream is that of a front and then that of the rest
 pub stream_parts : (n : ℕ) (acts : List Act) (os : List Outcome) (p : Pid)
     → stream acts os p ≡ stream (take n acts) (take n os) p ++ stream (drop n acts) (drop n os) p
 stream_parts zero acts os p = refl
@@ -49,7 +47,6 @@ stream_parts (suc n) (a ∷ acts) (o ∷ os) p =
     ∙ sym (append_assoc (told_by p a o) (stream (take n acts) (take n os) p)
     (stream (drop n acts) (drop n os) p))
 
--- the acts before a later act report no fewer events
 count_rises : (acts : List Act) (os : List Outcome) (p : Pid) (m n : ℕ) → m ≤ n
     → length (stream (take m acts) (take m os) p) ≤ length (stream (take n acts) (take n os) p)
 count_rises acts os p m n le =
@@ -67,7 +64,6 @@ module _ (acts : List NodeAct) (os : List Outcome) (p : Pid) where
   pub told_rises : (m n : ℕ) → m ≤ n → told_before acts os p m ≤ told_before acts os p n
   told_rises m n le = count_rises (map machine_act acts) os p m n le
 
-  -- an act that reports for p adds its event
   pub told_next : (n : ℕ) (e : Event) → Reports (map machine_act acts) os p n e
       → stream (take (suc n) (map machine_act acts)) (take (suc n) os) p
       ≡ stream (take n (map machine_act acts)) (take n os) p ++ e ∷ []
@@ -107,12 +103,3 @@ node_report acts os p n e r =
       is = is;
       told = told;
     })
-
-pub reports_again : (acts : List NodeAct) (os : List Outcome) (p : Pid) (n : ℕ) (e : Event)
-    → NodeReport acts os p n e → Reports (map machine_act acts) os p n e
-reports_again acts os p n e r = record {
-  act = machine_act r.act;
-  at = slice_get-map machine_act acts n ∙ ap (option_map machine_act) r.at;
-  own = r.own;
-  report = ap (option_and_then (λ (o : Outcome). o.report)) r.is ∙ r.told;
-}

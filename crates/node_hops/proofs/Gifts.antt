@@ -1,12 +1,11 @@
 -- Gifts of acts: nothing but a receive, a set and a token that is put back changes whose token it
 -- is and its label, and only a receive, a token that is put back and an answer change last.
 use Rattle.std.proofs.Common.{◌≡◌, ◌≢◌, ℕ, ◌⊎◌, ◌||◌, ◌&&◌, Bool, true, false, cond, Option, Some}
-use Rattle.std.proofs.Common.{None}
-use Rattle.std.proofs.Common.{is_some, option_map, inl, inr, refl, sym, ◌∙◌, ap, subst}
+use Rattle.std.proofs.Common.{None, is_some, option_map, inl, inr, refl, sym, ◌∙◌, ap, subst}
 use Rattle.std.specs.Prelude.{is_none}
 use Rattle.std.specs.Option.{option_map_or}
-use Rattle.std.proofs.lemmas.Bool.{false≢true}
-use Rattle.std.proofs.lemmas.Option.{same_Some, none-some}
+use Rattle.std.proofs.lemmas.Bool.{false≢true, or_parts}
+use Rattle.std.proofs.lemmas.Option.{cond_some, same_Some, none-some}
 use Rattle.st_core.specs.declared.types.Pid.{Pid}
 use Rattle.st_core.specs.declared.types.Token.{Token}
 use Rattle.st_core.specs.declared.types.Message.{Message}
@@ -16,18 +15,17 @@ use Rattle.st_core.specs.declared.types.Kind.{Kind}
 use Rattle.st_core.specs.declared.types.Kind.TheVariants as kind
 use Rattle.st_core.specs.declared.types.Event.{Event}
 use Rattle.st_core.specs.declared.types.Act.TheVariants as act
-use Rattle.st_core.specs.declared.types.Reply.TheVariants as reply
 use Rattle.st_core.specs.declared.types.Want.TheVariants as want
 use Rattle.st_core.specs.State.{LocalState, Process}
-use Rattle.st_core.specs.Local.{has_label, received, with_component}
+use Rattle.st_core.specs.Local.{received, with_component}
 use Rattle.st_core.specs.Pick.{pick}
 use Rattle.st_core.specs.Report.{flag_of, report, token_event}
-use Rattle.st_core.specs.Step.{answers, prints, receives}
-use Rattle.node_machine.specs.Counts.{next_clock, node_token}
+use Rattle.st_core.specs.Step.{Acted, prints, receives}
+use Rattle.node_machine.specs.Counts.{node_token}
 use Rattle.node_machine.specs.Node.{after_answer, after_stamp, Answer, Common, fresh_token}
 use Rattle.node_machine.specs.Node.{node_acted, node_found, node_stamped_token, NodeAct}
 use Rattle.node_machine.specs.Node.{takes_answer, token_to_set}
-use Rattle.node_machine.proofs.ForCallers.{stamp_last}
+use Rattle.node_machine.proofs.ForCallers.{print_at_either, stamp_either, stamp_last}
 use Rattle.node_hops.specs.Gifts.{Begins, Follows, gift_by, sets_label, moves_counters, Gift}
 use Rattle.node_hops.specs.Gifts.{PutsBack}
 
@@ -39,26 +37,15 @@ IsGift n a (Follows m) = m ≡ n
 IsGift n a (Begins m) = m ≡ n
 IsGift n a (PutsBack m) = moves_counters a ≡ true
 
-given_if : (b : Bool) (x o : Gift) → cond b (Some x) None ≡ Some o → x ≡ o
-given_if true x o is = same_Some x o is
-given_if false x o is = absurd (none-some o is)
-
 pub gift_is : (n : ℕ) (r : Process) (a : NodeAct) (o : Gift) → gift_by n r a ≡ Some o
     → IsGift n a o
 gift_is n r (Common (act.Receive p w)) o is =
-    subst (IsGift n (Common (act.Receive p w))) (given_if _ (Follows n) o is) refl
+    subst (IsGift n (Common (act.Receive p w))) (cond_some _ (Follows n) o is).1 refl
 gift_is n r (Common (act.Set p c)) o is =
-    subst (IsGift n (Common (act.Set p c))) (given_if _ (Begins n) o is) refl
+    subst (IsGift n (Common (act.Set p c))) (cond_some _ (Begins n) o is).1 refl
 gift_is n r (Common (act.Restore p t)) o is =
     subst (IsGift n (Common (act.Restore p t))) (same_Some (PutsBack n) o is) refl
-gift_is n r (Common (act.Send p q v)) o is = absurd (none-some o is)
-gift_is n r (Common (act.Print p v)) o is = absurd (none-some o is)
-gift_is n r (Common (act.PrintAt p x v)) o is = absurd (none-some o is)
-gift_is n r (Common (act.Clear p)) o is = absurd (none-some o is)
-gift_is n r (Common (act.Look p)) o is = absurd (none-some o is)
-gift_is n r (Common (act.Reset p)) o is = absurd (none-some o is)
-gift_is n r (Common (act.Tracer p b)) o is = absurd (none-some o is)
-gift_is n r (Answer p place) o is = absurd (none-some o is)
+gift_is n r a o is = absurd (none-some o is)
 
 -- LABELS
 
@@ -74,16 +61,8 @@ same_token l m same = (elim l.token as (λ token. l.token ≡ token → KeepsLab
 ]) refl
 
 stamp_label : (p : Pid) (l : LocalState) → KeepsLabel l (after_stamp p l)
-stamp_label p l = (elim l.token as (λ token. (let m : LocalState = elim token [
-  | None ↦ l
-  | Some t ↦ record l {
-    token = Some (node_stamped_token p l t);
-    clock = next_clock l.clock;
-  }
-] in l.token ≡ token → KeepsLabel l m)) [
-  | None ↦ λ none. inl none
-  | Some t ↦ λ is. inr (node_stamped_token p l t, t, is, refl, refl)
-]) refl
+stamp_label p l = stamp_either (KeepsLabel l) p l (λ none. inl none)
+    (λ t is. inr (node_stamped_token p l t, t, is, refl, refl))
 
 no_gift : (b : Bool) (x : Gift) → cond b (Some x) None ≡ None → b ≡ false
 no_gift true x is = absurd (none-some x (sym is))
@@ -115,19 +94,12 @@ answer_label r (Some found) =
 flag_label : (c : Component) (t : Token) → sets_label c ≡ false
     → (with_component c t).label ≡ t.label
 flag_label (component.Label x) t is = absurd (false≢true (sym is))
-flag_label (component.Send b) t is = refl
-flag_label (component.Receive b) t is = refl
-flag_label (component.Print b) t is = refl
-
-neither : (a b : Bool) → (a || b) ≡ false → (a ≡ false) × (b ≡ false)
-neither false false is = (refl, refl)
-neither true b is = absurd (false≢true (sym is))
-neither false true is = absurd (false≢true (sym is))
+flag_label c t is = refl
 
 set_label : (p : Pid) (c : Component) (l : LocalState) → (sets_label c || is_none l.token) ≡ false
     → KeepsLabel l (record l { token = Some (with_component c (token_to_set p l)) })
 set_label p c l isnt =
-    let parts = neither (sets_label c) (is_none l.token) isnt in
+    let parts = or_parts (sets_label c) (is_none l.token) isnt in
     (elim l.token as (λ token. l.token ≡ token → is_none token ≡ false
     → (let made : Token = elim token [ None ↦ fresh_token p l | Some t ↦ t ] in
     KeepsLabel l (record l { token = Some (with_component c made) }))) [
@@ -142,18 +114,13 @@ keeps_label n r (Common (act.Receive p w)) none =
     found_label r (pick w r.queue) (no_gift _ (Follows n) none)
 keeps_label n r (Common (act.Print p v)) none = stamp_label r.pid r.local
 keeps_label n r (Common (act.PrintAt p x v)) none =
-    elim (has_label x r.local.token) as (λ b. KeepsLabel r.local
-    (cond b (prints r v (after_stamp r.pid r.local)) (answers r r.local reply.Done)).local) [
-      | true ↦ stamp_label r.pid r.local
-      | false ↦ same_token r.local r.local refl
-    ]
+    print_at_either (λ (done : Acted). KeepsLabel r.local done.local) r p x v
+    (stamp_label r.pid r.local) (same_token r.local r.local refl)
 keeps_label n r (Common (act.Set p c)) none = set_label r.pid c r.local (no_gift _ (Begins n) none)
 keeps_label n r (Common (act.Clear p)) none = inl refl
 keeps_label n r (Common (act.Restore p t)) none = absurd (none-some (PutsBack n) (sym none))
-keeps_label n r (Common (act.Look p)) none = same_token r.local r.local refl
-keeps_label n r (Common (act.Reset p)) none = same_token r.local r.local refl
-keeps_label n r (Common (act.Tracer p b)) none = same_token r.local r.local refl
 keeps_label n r (Answer p place) none = answer_label r (pick (want.Place place) r.queue)
+keeps_label n r (Common a) none = same_token r.local r.local refl
 
 -- LAST
 
@@ -182,31 +149,20 @@ keeps_last n r (Common (act.Receive p w)) isnt still =
     found_last r (pick w r.queue) (not_given _ n isnt)
 keeps_last n r (Common (act.Print p v)) isnt still = stamp_last r.pid r.local
 keeps_last n r (Common (act.PrintAt p x v)) isnt still =
-    elim (has_label x r.local.token) as (λ b.
-    (cond b (prints r v (after_stamp r.pid r.local)) (answers r r.local reply.Done)).local.last
-    ≡ r.local.last) [
-      | true ↦ stamp_last r.pid r.local
-      | false ↦ refl
-    ]
-keeps_last n r (Common (act.Set p c)) isnt still = refl
-keeps_last n r (Common (act.Clear p)) isnt still = refl
+    print_at_either (λ (done : Acted). done.local.last ≡ r.local.last) r p x v
+    (stamp_last r.pid r.local) refl
 keeps_last n r (Common (act.Restore p t)) isnt still = absurd (false≢true (sym still))
-keeps_last n r (Common (act.Look p)) isnt still = refl
-keeps_last n r (Common (act.Reset p)) isnt still = refl
-keeps_last n r (Common (act.Tracer p b)) isnt still = refl
 keeps_last n r (Answer p place) isnt still = absurd (false≢true (sym still))
+keeps_last n r (Common a) isnt still = refl
 
 -- RECEIVES
-
-told_if : (b : Bool) (x e : Event) → cond b (Some x) None ≡ Some e → e.kind ≡ x.kind
-told_if true x e is = ap (λ (y : Event). y.kind) (sym (same_Some x e is))
-told_if false x e is = absurd (none-some e is)
 
 told_kind : (traced : Bool) (k : Kind) (token : Option Token) (to : Option Pid) (v : ℕ) (e : Event)
     → report traced k token to v ≡ Some e → (e.kind ≡ k) × (is_some token ≡ true)
 told_kind traced k None to v e is = absurd (none-some e is)
 told_kind traced k (Some t) to v e is =
-    (told_if (traced && flag_of k t.flags) (token_event k t to v) e is, refl)
+    let same = (cond_some (traced && flag_of k t.flags) (token_event k t to v) e is).1 in
+    (ap (λ (x : Event). x.kind) (sym same), refl)
 
 -- only a receive is reported as one
 other_kind : (k : Kind) → k ≢ kind.Receive → (traced : Bool) (token : Option Token)
@@ -230,6 +186,11 @@ found_told r (Some found) e is =
     (Some r.pid) found.1.value e is in
     (parts.0, sym (node_some found.1.token) ∙ parts.1)
 
+no_print : (r : Process) (v : ℕ) (e : Event) → e.kind ≡ kind.Receive
+    → (prints r v (after_stamp r.pid r.local)).report ≡ Some e → ⊥
+no_print r v e receives is = other_kind kind.Print (λ x. absurd (cc)) r.local.traced
+    (after_stamp r.pid r.local).token None v e is receives
+
 -- what is reported as received gave the token, unless it is an answer
 pub received_gives : (n : ℕ) (r : Process) (a : NodeAct) (e : Event)
     → (node_acted r a).report ≡ Some e → e.kind ≡ kind.Receive → moves_counters a ≡ false
@@ -240,23 +201,12 @@ received_gives n r (Common (act.Send p q v)) e is receives still =
 received_gives n r (Common (act.Receive p w)) e is receives still =
     ap (λ b. cond b (Some (Follows n)) None) (found_told r (pick w r.queue) e is).1
 received_gives n r (Common (act.Print p v)) e is receives still =
-    absurd (other_kind kind.Print (λ x. absurd (cc)) r.local.traced
-    (after_stamp r.pid r.local).token None v e is receives)
+    absurd (no_print r v e receives is)
 received_gives n r (Common (act.PrintAt p x v)) e is receives still =
-    absurd ((elim (has_label x r.local.token) as (λ b.
-    (cond b (prints r v (after_stamp r.pid r.local)) (answers r r.local reply.Done)).report
-    ≡ Some e → ⊥) [
-      | true ↦ λ at. other_kind kind.Print (λ x. absurd (cc)) r.local.traced
-          (after_stamp r.pid r.local).token None v e at receives
-      | false ↦ λ at. none-some e at
-    ]) is)
-received_gives n r (Common (act.Set p c)) e is receives still = absurd (none-some e is)
-received_gives n r (Common (act.Clear p)) e is receives still = absurd (none-some e is)
-received_gives n r (Common (act.Restore p t)) e is receives still = absurd (none-some e is)
-received_gives n r (Common (act.Look p)) e is receives still = absurd (none-some e is)
-received_gives n r (Common (act.Reset p)) e is receives still = absurd (none-some e is)
-received_gives n r (Common (act.Tracer p b)) e is receives still = absurd (none-some e is)
+    absurd (print_at_either (λ (done : Acted). done.report ≡ Some e → ⊥) r p x v
+    (no_print r v e receives) (none-some e) is)
 received_gives n r (Answer p place) e is receives still = absurd (false≢true (sym still))
+received_gives n r (Common a) e is receives still = absurd (none-some e is)
 
 -- and what gave a token with a message is reported as received
 pub gift_received : (n : ℕ) (r : Process) (a : NodeAct) (m : ℕ) (e : Event)
@@ -265,11 +215,4 @@ pub gift_received : (n : ℕ) (r : Process) (a : NodeAct) (m : ℕ) (e : Event)
 gift_received n r (Common (act.Receive p w)) m e is told = (found_told r (pick w r.queue) e told).0
 gift_received n r (Common (act.Set p c)) m e is told = absurd (none-some e told)
 gift_received n r (Common (act.Restore p t)) m e is told = absurd (none-some e told)
-gift_received n r (Common (act.Send p q v)) m e is told = absurd (none-some (Follows m) is)
-gift_received n r (Common (act.Print p v)) m e is told = absurd (none-some (Follows m) is)
-gift_received n r (Common (act.PrintAt p x v)) m e is told = absurd (none-some (Follows m) is)
-gift_received n r (Common (act.Clear p)) m e is told = absurd (none-some (Follows m) is)
-gift_received n r (Common (act.Look p)) m e is told = absurd (none-some (Follows m) is)
-gift_received n r (Common (act.Reset p)) m e is told = absurd (none-some (Follows m) is)
-gift_received n r (Common (act.Tracer p b)) m e is told = absurd (none-some (Follows m) is)
-gift_received n r (Answer p place) m e is told = absurd (none-some (Follows m) is)
+gift_received n r a m e is told = absurd (none-some (Follows m) is)

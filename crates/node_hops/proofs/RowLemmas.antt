@@ -1,45 +1,26 @@
 -- The events between an index and a later one decide where the row begins that goes up to the later
 -- one: nothing but sends and prints of one prev, back to the first event that is none.
-use Rattle.std.proofs.Common.{◌≡◌, ◌≢◌, ℕ, ◌<◌, ◌≤◌, ◌&&◌, ◌==◌, zero, suc, Bool, true, false}
-use Rattle.std.proofs.Common.{cond, List, Option, Some, None, inl, inr}
-use Rattle.std.proofs.Common.{refl, sym, ◌∙◌, ap, arith}
+use Rattle.std.proofs.Common.{◌≡◌, ℕ, ◌<◌, ◌≤◌, ◌&&◌, ◌==◌, zero, suc, Bool, true, false, cond}
+use Rattle.std.proofs.Common.{List, Option, Some, None, inl, inr, refl, sym, ◌∙◌, ap, arith}
 use Rattle.std.specs.Prelude.{not}
-use Rattle.std.specs.List.{slice_get, AllByRecursion}
+use Rattle.std.specs.List.{slice_get}
 use Rattle.std.proofs.lemmas.Bool.{and_parts, eq-eqb, eqb-true, cases_order, false≢true}
 use Rattle.std.proofs.lemmas.Option.{same_Some, none-some, cond_some}
-use Rattle.st_core.specs.declared.types.Kind.{Kind}
 use Rattle.st_core.specs.declared.types.Kind.TheVariants as kind
 use Rattle.st_core.specs.declared.types.Event.{Event}
 use Rattle.st_core.proofs.ForCallers.{both_true}
 use Rattle.node_hops.specs.Events.{is_in_row, is_take, take_before, row_first}
 
--- all of these are in the row of this prev
-abbrev pub AreInRow : ℕ → List Event → Type 0
-AreInRow prev es = AllByRecursion (λ e. is_in_row prev e ≡ true) es
-
--- all from index j to below i are
+-- all events from index j to below i are in the row of this prev
 abbrev pub IsRowBetween : ℕ → List Event → ℕ → ℕ → Type 0
 IsRowBetween prev es j i = (x : ℕ) → j ≤ x → x < i → (e : Event) × (slice_get es x ≡ Some e)
     × (is_in_row prev e ≡ true)
 
 -- EVENTS
 
-abbrev kind_is_receive : Kind → Bool
-kind_is_receive k = elim k [ kind.Send ↦ false | kind.Receive ↦ true | kind.Print ↦ false ]
-
-stamp_kind : (k : Kind) → k ≢ kind.Receive → kind_is_receive k ≡ false
-stamp_kind kind.Send other = refl
-stamp_kind kind.Receive other = absurd (other refl)
-stamp_kind kind.Print other = refl
-
 pub receive_is : (e : Event) → e.kind ≡ kind.Receive → is_take e ≡ true
-receive_is e is = ap kind_is_receive is
-
-pub stamp_in_row : (prev : ℕ) (e : Event) → e.kind ≢ kind.Receive → e.serial.prev ≡ prev
-    → is_in_row prev e ≡ true
-stamp_in_row prev e other is =
-    ap (λ b. not b && e.serial.prev == prev) (stamp_kind e.kind other)
-    ∙ eq-eqb e.serial.prev prev is
+receive_is e is =
+    ap (λ k. elim k [ kind.Send ↦ false | kind.Receive ↦ true | kind.Print ↦ false ]) is
 
 pub receive_not_in_row : (prev : ℕ) (e : Event) → is_take e ≡ true → is_in_row prev e ≡ false
 receive_not_in_row prev e is = ap (λ b. not b && e.serial.prev == prev) is
@@ -107,19 +88,6 @@ received_at prev es j e at is this =
     let both = both_true (is_take e) (e.serial.this == prev) is
     (eq-eqb e.serial.this prev this) in
     ap by at ∙ ap (λ c. cond c (Some j) None) both
-
-pub received_earlier : (prev : ℕ) (es : List Event) (k j : ℕ) → take_before prev es k ≡ Some j
-    → j < k
-received_earlier prev es zero j h = absurd (none-some j h)
-received_earlier prev es (suc k) j h =
-    elim (slice_get es k) as (λ o.
-    elim o [ None ↦ None | Some e ↦ cond (is_take e && e.serial.this == prev) (Some k) None ]
-    ≡ Some j → j < suc k) [
-      | None ↦ λ h. absurd (none-some j h)
-      | Some e ↦ λ h.
-          let same = (cond_some (is_take e && e.serial.this == prev) k j h).1 in
-          omega arith
-    ] h
 
 -- WHAT A ROW SAYS
 

@@ -1,9 +1,8 @@
 -- The claim of a stamp's hop is true: between the receive that it names, or the event before its
 -- row, and the stamp, nothing but what the premises exclude could have given the process another
 -- token, or another last.
-use Rattle.std.proofs.Common.{◌≡◌, ◌≢◌, ℕ, ◌<◌, ◌≤◌, ◌⊎◌, ◌==◌, ◌&&◌, ◌||◌, zero, suc, Bool}
-use Rattle.std.proofs.Common.{true, false, cond, List, [], ◌∷◌, map, take, Option, Some, None}
-use Rattle.std.proofs.Common.{is_some}
+use Rattle.std.proofs.Common.{◌≡◌, ◌≢◌, ℕ, ◌<◌, ◌≤◌, ◌⊎◌, ◌==◌, ◌&&◌, ◌||◌, zero, suc, Bool, true}
+use Rattle.std.proofs.Common.{false, cond, List, [], ◌∷◌, map, take, Option, Some, None, is_some}
 use Rattle.std.proofs.Common.{option_map, option_and_then, inl, inr, refl, sym, ◌∙◌, ap, arith}
 use Rattle.std.proofs.Common.{subst, eq-eqb}
 use Rattle.std.specs.List.{slice_get}
@@ -21,26 +20,24 @@ use Rattle.st_core.specs.State.{LocalState, Process, zero_local}
 use Rattle.st_core.specs.Step.{Outcome}
 use Rattle.st_core.specs.Run.{stream}
 use Rattle.st_core.specs.Laws.{Reports}
-use Rattle.st_core.proofs.ForCallers.{pid_eq-refl, pid_same, reported_in_order}
-use Rattle.st_core.proofs.ForCallers.{report_told, zero_found}
+use Rattle.st_core.proofs.ForCallers.{pid_eq-refl, pid_same, reported_in_order, report_told}
+use Rattle.st_core.proofs.ForCallers.{some_of, zero_found}
 use Rattle.node_machine.specs.Node.{Answer, Common, is_answer, machine_act, NodeAct, node_acted}
 use Rattle.node_machine.specs.Node.{node_actor, node_run, seen}
 use Rattle.node_machine.specs.Premises.{NoNodeReset, token_put_back}
 use Rattle.node_machine.proofs.ForCallers.{IsAnswered, IsStamp, IsTake, Moves, node_acted_moves}
 use Rattle.node_streams.proofs.ForCallers.{kind_same}
 use Rattle.node_hops.specs.Claims.{BeganAfter, BeginsNothing, FollowsTake, IsOwnBeginning, IsMoved}
-use Rattle.node_hops.specs.Claims.{IsFrom, IsSilent, KeepsCounters, MovesUnseen}
-use Rattle.node_hops.specs.Claims.{NodeReports, ReportsTakes, told_before}
+use Rattle.node_hops.specs.Claims.{IsFrom, IsSilent, KeepsCounters, MovesUnseen, NodeReports}
+use Rattle.node_hops.specs.Claims.{ReportsTakes, told_before}
 use Rattle.node_hops.specs.Events.{is_take}
 use Rattle.node_hops.specs.Gifts.{Begins, Follows, act_gift, moves_counters, Gift, latest_gift}
 use Rattle.node_hops.specs.Gifts.{PutsBack}
 use Rattle.node_hops.proofs.Fronts.{node_report, NodeReport, told_more, told_rises}
 use Rattle.node_hops.proofs.Gifts.{gift_received, KeepsLabel, received_gives}
-use Rattle.node_hops.proofs.RowLemmas.{IsRowBetween, receive_is}
-use Rattle.node_hops.proofs.RowLemmas.{row_no_receive}
+use Rattle.node_hops.proofs.RowLemmas.{IsRowBetween, receive_is, row_no_receive}
 use Rattle.node_hops.proofs.Runs.{AreKinds, GiveBeginnings, GiveNothing, IsOwn, kinds_at}
-use Rattle.node_hops.proofs.Runs.{last_stays}
-use Rattle.node_hops.proofs.Runs.{gift_own, local_at, own_at, Since, since, token_stays}
+use Rattle.node_hops.proofs.Runs.{last_stays, gift_own, local_at, own_at, Since, since, token_stays}
 
 -- WHAT IS REPORTED
 
@@ -88,12 +85,11 @@ take_reported r a e told receives still = elim (reported r a e told) [
   ]
 ]
 
-kind_receive : (k : Kind) → (let b : Bool =
+pub kind_receive : (k : Kind) → (let b : Bool =
     elim k [ kind.Send ↦ false | kind.Receive ↦ true | kind.Print ↦ false ] in b) ≡ true
     → k ≡ kind.Receive
-kind_receive kind.Send is = absurd (false≢true is)
 kind_receive kind.Receive is = refl
-kind_receive kind.Print is = absurd (false≢true is)
+kind_receive k is = absurd (false≢true is)
 
 -- what an event leaves as last
 left_by : (r : Process) (a : NodeAct) (d : Event) → (node_acted r a).report ≡ Some d
@@ -107,16 +103,6 @@ left_by r a d told still = (elim (is_take d) as (λ b. is_take d ≡ b
           (λ receives. false≢true (sym is ∙ receive_is d receives)) in
           stamp.last ∙ sym stamp.prev
     ]) refl
-
-is_some_of : {A : Type 0} (o : Option A) → is_some o ≡ true → (x : A) × (o ≡ Some x)
-is_some_of None is = absurd (false≢true is)
-is_some_of (Some x) is = (x, refl)
-
-begins_no_follow : (z y : ℕ) → Some (Begins z) ≢ Some (Follows y)
-begins_no_follow z y is = absurd (cc)
-
-puts_no_follow : (z y : ℕ) → Some (PutsBack z) ≢ Some (Follows y)
-puts_no_follow z y is = absurd (cc)
 
 none_kept : (k l : LocalState) → KeepsLabel k l → k.token ≡ None → l.token ≡ None
 none_kept k l (inl none) is = none
@@ -147,7 +133,6 @@ at_end test m n none le = (elim (test n) as (λ b. test n ≡ b
       ])
     ]) refl
 
--- one of these numbers passes the test, or none does
 search_range : (test : ℕ → Bool) (m n : ℕ)
     → ((x : ℕ) × (m ≤ x) × (x < n) × (test x ≡ true))
     ⊎ ((x : ℕ) → m ≤ x → x < n → test x ≡ false)
@@ -238,7 +223,7 @@ module _ (pids : List Pid) (acts : List NodeAct) (os : List Outcome)
         → (gift x ≡ None) ⊎ (gift x ≡ Some (Begins x))
     by_kind x low high takes keeps None is kinds = inl is
     by_kind x low high takes keeps (Some (Follows y)) is kinds =
-        let told_is = is_some_of _ (takes x y high (since_is x low) is) in
+        let told_is = some_of _ (takes x y high (since_is x low) is) in
         absurd (take_untold x y low high is told_is.0 told_is.1)
     by_kind x low high takes keeps (Some (Begins y)) is kinds =
         let same : y ≡ x = subst (AreKinds pids acts os h plain p x) is kinds in
@@ -257,10 +242,8 @@ module _ (pids : List Pid) (acts : List NodeAct) (os : List Outcome)
     -- MOVED
 
     abbrev follows : Option Gift → Bool
-    follows None = false
     follows (Some (Follows y)) = true
-    follows (Some (Begins y)) = false
-    follows (Some (PutsBack y)) = false
+    follows o = false
 
     abbrev moving : ℕ → Bool
     moving x = option_map_or (λ a. pid_eq (node_actor a) p && moves_counters a)
@@ -293,25 +276,19 @@ module _ (pids : List Pid) (acts : List NodeAct) (os : List Outcome)
     taken_moves : (x : ℕ) → b ≤ x → x < n → (o : Option Gift) → gift x ≡ o
         → AreKinds pids acts os h plain p x (gift x)
         → (follows o || moving x) ≡ true → MovesUnseen pids acts os p x
-    taken_moves x low high None is kinds does = inr (moving_is x does)
     taken_moves x low high (Some (Follows y)) is kinds does =
         let same : y ≡ x = subst (AreKinds pids acts os h plain p x) is kinds in
         inl (is ∙ ap (λ z. Some (Follows z)) same, untold x y low high is)
-    taken_moves x low high (Some (Begins y)) is kinds does = inr (moving_is x does)
-    taken_moves x low high (Some (PutsBack y)) is kinds does = inr (moving_is x does)
+    taken_moves x low high o is kinds does = inr (moving_is x does)
 
     no_follow : (o : Option Gift) (m : Bool) → (follows o || m) ≡ false → (y : ℕ)
         → o ≢ Some (Follows y)
-    no_follow None m isnt y is = none-some (Follows y) is
     no_follow (Some (Follows z)) m isnt y is = false≢true (sym isnt)
-    no_follow (Some (Begins z)) m isnt y is = begins_no_follow z y is
-    no_follow (Some (PutsBack z)) m isnt y is = puts_no_follow z y is
+    no_follow o m isnt y is = absurd (cc)
 
     right_false : (o : Option Gift) (m : Bool) → (follows o || m) ≡ false → m ≡ false
-    right_false None m isnt = isnt
     right_false (Some (Follows z)) m isnt = absurd (false≢true (sym isnt))
-    right_false (Some (Begins z)) m isnt = isnt
-    right_false (Some (PutsBack z)) m isnt = isnt
+    right_false o m isnt = isnt
 
     still_at : (x : ℕ) (a : NodeAct) → slice_get acts x ≡ Some a → moving x ≡ false
         → node_actor a ≡ p → moves_counters a ≡ false

@@ -69,7 +69,6 @@ starts_at es k (suc i) (x ∷ rest) e at =
     ∷ row_firsts_from es (n + 1) (drop (suc i) rest)) (sym number)
     (starts_at es (suc k) i rest e at)
 
--- one event more
 pub starts_passed : (es : List Event) (k : ℕ) (e : Event) (start : ℕ) (before total : List ℕ)
     → slice_get es k ≡ Some e → start ≡ row_first e.serial.prev es k
     → before ++ row_firsts_from es k (drop k es) ≡ total
@@ -118,7 +117,6 @@ start_within es i e start at is =
     let high = slice_get_within es i e at in
     omega arith
 
--- a process that isn't listed has no event
 pub unlisted_event : (streams : List Stream) (p : Pid) (i : ℕ) (e : Event)
     → AllByRecursion (λ (q : Pid). pid_eq q p ≡ false) (pids_of streams)
     → event_at streams p i ≡ Some e → ⊥

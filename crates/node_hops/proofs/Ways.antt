@@ -13,7 +13,6 @@ module _ (streams : List Stream) (across : Bool) where
   way_none (suc n) depth None is = refl
   way_none (suc n) depth (Some x) is = absurd (cc)
 
-  -- no hop is left
   pub way_done : (n depth : ℕ) (at : Option (Pid × ℕ)) → n ≡ 0 → way streams across n depth at ≡ []
   way_done zero depth at is = refl
   way_done (suc n) depth at is = absurd (omega arith)
@@ -23,7 +22,6 @@ module _ (streams : List Stream) (across : Bool) where
       ∷ way streams across n (depth + 1) (next_at streams across x)
   way_some n depth at x is = ap (way streams across (suc n) depth) is
 
-  -- one place more
   pub way_passed : (most depth : ℕ) (before total : List Node) (at next : Option (Pid × ℕ))
       (x : Pid × ℕ)
       → depth < most → at ≡ Some x → next ≡ next_at streams across x
