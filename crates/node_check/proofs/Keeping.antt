@@ -155,7 +155,8 @@ module _ {pids : List Pid} {number : ℕ} {old : Processes} (new : Processes) (p
       same = same_state;
       fresh =
           ap (λ (ms : List NodeMark).
-          is_stale (node_mark_of ms p) (get_or new.rows.items place zero_row)) nodes ∙ ap (is_stale mark) row_here ∙ fresh;
+          is_stale (node_mark_of ms p) (get_or new.rows.items place zero_row)) nodes
+          ∙ ap (is_stale mark) row_here ∙ fresh;
       traced =
           ap (λ (r : Row). r.local.traced) row_here
           ∙ ap (λ (ms : List NodeMark). (node_mark_of ms p).traced) (sym nodes);

@@ -1,7 +1,8 @@
 -- A step asks for its processes alone, and no step takes one away, so acts of listed processes have
 -- a run.
 use Rattle.std.proofs.Common.{◌≡◌, ◌||◌, true, false, cond, List, [], ◌∷◌, map, Option, Some, None}
-use Rattle.std.proofs.Common.{IsSome, is_some, option_map, option_and_then, refl, sym, ◌∙◌, ap, subst}
+use Rattle.std.proofs.Common.{IsSome, is_some, option_map, option_and_then, refl, sym, ◌∙◌, ap}
+use Rattle.std.proofs.Common.{subst}
 use Rattle.std.specs.List.{list_all}
 use Rattle.std.proofs.lemmas.Bool.{and_parts, false≢true}
 use Rattle.st_core.specs.declared.types.Pid.{Pid}
@@ -15,7 +16,6 @@ use Rattle.node_machine.specs.Node.{node_step}
 use Rattle.node_check.specs.Laws.{ListedActsRun, node_acts_among}
 use Rattle.node_check.proofs.States.{pids_in}
 
--- a process whose pid is among them is there
 among_found : (s : State) (p : Pid) → is_among (pids_in s) p ≡ true
     → (r : Process) × (process s p ≡ Some r)
 among_found [] p h = absurd (false≢true h)

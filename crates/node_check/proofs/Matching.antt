@@ -24,7 +24,6 @@ use Rattle.node_check.proofs.Runs.{stream_other, stream_own, stream_silent}
 
 -- PLACES
 
--- pids at two places of a list that rises are two
 pub places_apart : (ps : List Pid) (i j : ℕ) (p q : Pid) → IsRising ps → slice_get ps i ≡ Some p
     → slice_get ps j ≡ Some q → i ≢ j → pid_eq p q ≡ false
 places_apart ps i j p q rising p_at q_at apart =

@@ -45,7 +45,6 @@ no_receiver s a gone =
           rw gone refl
     ]
 
--- a pid that isn't listed has no process
 pub unlisted : {pids : List Pid} {number : ℕ} (x : Processes) (p : Pid) → IsKeptAt pids number x
     → AllByRecursion (λ q. pid_eq q p ≡ false) pids → process (kept_state pids x) p ≡ None
 unlisted {pids} x p kept apart =
@@ -100,7 +99,6 @@ module _ (streams : List Stream) (acts : List NodeAct) (n : ℕ) (a : NodeAct) (
   module _ (told : Option Event) (new : Processes) (place : ℕ) (me : Pid)
       (done : IsDone (pids_of streams) n a told kept.processes new)
       (at : slice_get (pids_of streams) place ≡ Some me) (own : node_actor a ≡ me) where
-    -- it passes
     pub passes_at : (later : Progress) → later.processes ≡ new
         → later.counts.items ≡ counts_after kept.counts.items place told
         → IsNextEvent (events_of streams me) (get_or kept.counts.items place 0) told
@@ -123,7 +121,6 @@ module _ (streams : List Stream) (acts : List NodeAct) (n : ℕ) (a : NodeAct) (
           (subst (IsKeptAt (pids_of streams) (n + 1)) (sym same) done.kept);
     }
 
-    -- it reports another event
     pub differs_at
         : (IsNextEvent (events_of streams me) (get_or kept.counts.items place 0) told → ⊥)
         → IsStopOnNode streams (take (n + 1) acts) stop.Differs
@@ -139,7 +136,6 @@ all_alike x zero k = refl
 all_alike x (suc n) zero = refl
 all_alike x (suc n) (suc k) = all_alike x n k
 
--- no acts pass
 pub passed_start : (streams : List Stream) (pids : List Pid) (kept : Progress)
     → IsRising (pids_of streams) → pids ≡ pids_of streams → IsKeptAt pids 0 kept.processes
     → kept_state pids kept.processes ≡ zero_state pids

@@ -24,14 +24,9 @@ pub record IsAlone (a : Act) : Type 0 where
 pub inner_alone : (a : Act) → is_inner a ≡ true → IsAlone a
 inner_alone (act.Send p q v) h = absurd (cc)
 inner_alone (act.Receive p w) h = absurd (cc)
-inner_alone (act.Print p v) h = record { receiver = refl; reached = λ t x. refl }
-inner_alone (act.PrintAt p n v) h = record { receiver = refl; reached = λ t x. refl }
-inner_alone (act.Set p c) h = record { receiver = refl; reached = λ t x. refl }
-inner_alone (act.Clear p) h = record { receiver = refl; reached = λ t x. refl }
-inner_alone (act.Restore p u) h = record { receiver = refl; reached = λ t x. refl }
-inner_alone (act.Look p) h = record { receiver = refl; reached = λ t x. refl }
 inner_alone (act.Reset p) h = absurd (cc)
 inner_alone (act.Tracer p b) h = absurd (cc)
+inner_alone a h = record { receiver = refl; reached = λ t x. refl }
 
 module _ (s : State) (i : ℕ) (r : Process) (a : NodeAct) (rising : IsRising (pids_in s))
     (at : slice_get s i ≡ Some r) (own : r.pid ≡ node_actor a) where
@@ -50,7 +45,9 @@ module _ (s : State) (i : ℕ) (r : Process) (a : NodeAct) (rising : IsRising (p
   here = ap (process s) (sym own) ∙ found s i r rising at
 
   abbrev pub mine : Process → Process
-  mine x = if pid_eq x.pid (node_actor a) then record x { local = done.local; queue = done.queue } else x
+  mine x = if pid_eq x.pid (node_actor a)
+      then record x { local = done.local; queue = done.queue }
+      else x
 
   mine_is : map mine s ≡ set s i acted_process
   mine_is =

@@ -65,7 +65,6 @@ map_one (x ∷ s) (suc i) r f rising at same =
     let apart = IsBelow-apart x.pid r.pid (below_at x.pid s i r rising.0 at) in
     ap (λ y. y ∷ map f s) (same x apart) ∙ ap (λ ys. x ∷ ys) (map_one s i r f rising.1 at same)
 
--- to write what is there changes nothing
 pub set_back : {A : Type 0} (xs : List A) (i : ℕ) (x : A) → slice_get xs i ≡ Some x
     → set xs i x ≡ xs
 set_back [] i x at = refl

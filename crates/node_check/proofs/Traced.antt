@@ -1,17 +1,17 @@
 -- No act of a process's own changes whether its node is traced.
-use Rattle.std.proofs.Common.{◌≡◌, true, false, cond, Option, Some, None, refl, ℕ}
+use Rattle.std.proofs.Common.{◌≡◌, Option, Some, None, refl, ℕ}
 use Rattle.st_core.specs.declared.types.Pid.{Pid}
 use Rattle.st_core.specs.declared.types.Message.{Message}
 use Rattle.st_core.specs.declared.types.Token.{Token}
 use Rattle.st_core.specs.declared.types.Act.TheVariants as act
-use Rattle.st_core.specs.declared.types.Reply.TheVariants as reply
-use Rattle.st_core.specs.Local.{has_label, received}
+use Rattle.st_core.specs.Local.{received}
 use Rattle.st_core.specs.Pick.{pick}
 use Rattle.st_core.specs.State.{LocalState, Process}
-use Rattle.st_core.specs.Step.{answers, prints, receives}
+use Rattle.st_core.specs.Step.{Acted, receives}
 use Rattle.st_core.specs.declared.types.Want.TheVariants as want
 use Rattle.node_machine.specs.Node.{after_answer, after_stamp, Answer, Common, NodeAct, node_acted}
 use Rattle.node_machine.specs.Node.{node_found, takes_answer}
+use Rattle.node_machine.proofs.ForCallers.{print_at_either}
 
 pub stamp_traced : (p : Pid) (l : LocalState) (t : Option Token) → l.token ≡ t
     → (after_stamp p l).traced ≡ l.traced
@@ -41,17 +41,8 @@ part_traced r (Common (act.Send p q v)) = stamp_traced r.pid r.local r.local.tok
 part_traced r (Common (act.Receive p w)) = receive_traced r (node_found (pick w r.queue))
 part_traced r (Common (act.Print p v)) = stamp_traced r.pid r.local r.local.token refl
 part_traced r (Common (act.PrintAt p n v)) =
-    elim (has_label n r.local.token) as (λ b.
-    (cond b (prints r v (after_stamp r.pid r.local)) (answers r r.local reply.Done)).local.traced
-    ≡ r.local.traced) [
-      | true ↦ stamp_traced r.pid r.local r.local.token refl
-      | false ↦ refl
-    ]
-part_traced r (Common (act.Set p c)) = refl
-part_traced r (Common (act.Clear p)) = refl
-part_traced r (Common (act.Restore p t)) = refl
-part_traced r (Common (act.Look p)) = refl
-part_traced r (Common (act.Reset p)) = refl
-part_traced r (Common (act.Tracer p b)) = refl
+    print_at_either (λ (done : Acted). done.local.traced ≡ r.local.traced) r p n v
+    (stamp_traced r.pid r.local r.local.token refl) refl
 part_traced r (Answer p place) =
     answer_traced r (node_found (pick (want.Place place) r.queue))
+part_traced r (Common a) = refl

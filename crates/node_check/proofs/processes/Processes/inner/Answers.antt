@@ -10,7 +10,8 @@ pub returns : goal.returns
 returns c = λ pids rising kept at.
     let boxes = c.refresh.new.self.queues.boxes in
     let box = get_or boxes c.args.place [] in
-    done_by _ c.args.place c.args.me (Common c.args.act.now) c.act.result rising at (sym c.requires.me)
-    (c.refresh.ensures.refreshed pids kept at) c.index_mut.result.now c.index_mut.ensures.value
+    done_by _ c.args.place c.args.me (Common c.args.act.now) c.act.result rising at
+    (sym c.requires.me) (c.refresh.ensures.refreshed pids kept at) c.index_mut.result.now
+    c.index_mut.ensures.value
     c.act.new.self box (inner_alone c.args.act.now c.requires.inner) (c.act.ensures box)
     refl (sym (set-get_or boxes c.args.place [])) refl
