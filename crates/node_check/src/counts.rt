@@ -17,7 +17,6 @@ pub(crate) fn shown(number: u64) -> u64
     number % SERIAL_END
 }
 
-/// The clock after a stamp.
 pub(crate) fn clock_after(clock: u64) -> u64
     ensures { result ≡ next_clock clock }
 {

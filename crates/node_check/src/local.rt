@@ -64,14 +64,12 @@ impl Local {
         }
     }
 
-    /// The token, if there is one.
     pub(crate) fn token(&self) -> Option<Token>
         ensures { result ≡ self.now.token }
     {
         self.token
     }
 
-    /// Whether the node is traced.
     pub(crate) fn traced(&self) -> bool
         ensures { result ≡ self.now.traced }
     {
@@ -143,7 +141,6 @@ impl Local {
         self.last = shown(token.serial.prev);
     }
 
-    /// Takes the token away.
     fn clear(&mut self)
         ensures { self.new ≡ record self.old { token = None } }
     {
@@ -159,7 +156,6 @@ impl Local {
         self.last = 0;
     }
 
-    /// Sets whether the node is traced.
     pub(crate) fn trace(&mut self, on: bool)
         ensures { self.new ≡ record self.old { traced = on } }
     {

@@ -219,7 +219,6 @@ impl<'a> NodeHops<'a> {
         self.streams.event(pid, index)
     }
 
-    /// The events of a process.
     pub(crate) fn events(&self, pid: Pid) -> &[Event]
         ensures { result.now ≡ events_of self.now pid }
     {

@@ -1,5 +1,5 @@
--- The origin of a stamp's token, where the receives of its process aren't reported: the sends of the
--- messages to it tell it.
+-- The origin of a stamp's token, where the receives of its process aren't reported: the sends of
+-- the messages to it tell it.
 use Rattle.std.specs.Prelude.{◌≡◌, ◌⊎◌, ℕ, ◌^◌, ◌<◌, ◌≤◌, ◌==◌, suc, not, Bool, true, List, [], ◌∷◌}
 use Rattle.std.specs.Prelude.{◌++◌, false, length, take, Option, Some, None, IsSome, if◌then◌else◌}
 use Rattle.std.specs.Prelude.{◌&&◌, is_some, map, option_map, option_to_list, slice_get}
@@ -165,9 +165,9 @@ OriginBySends sent rule past held r (Common (act.Restore p t)) now =
     AfterRestore (MayGive rule past) held (node_token t) now
 OriginBySends sent rule past held r a now = now ≡ past.origin
 
--- after each act of a run from s, before which p had this past, the origin of its token is this one.
--- So each token that p takes came with a message that one of these sends sent, p puts back only
--- tokens of its own, and gives its tokens only labels that the rule allows
+-- after each act of a run from s, before which p had this past, the origin of its token is this
+-- one. So each token that p takes came with a message that one of these sends sent, p puts back
+-- only tokens of its own, and gives its tokens only labels that the rule allows
 abbrev pub OriginsAreBySends : SendsTo → LabelRule → Pid → Past → State → List NodeAct
     → List Outcome
     → List TokenOrigin

@@ -97,8 +97,8 @@ pub fn an_origin_is_one_that_events_allow()
 {}
 
 /// If a process reports each stamp, takes tokens only with messages of these sends, puts back only
-/// tokens of its own, and gives its tokens only labels that the rule allows, then its stamps and the
-/// sends allow the origin of each stamp's token. It may report no receive. So if they allow one
+/// tokens of its own, and gives its tokens only labels that the rule allows, then its stamps and
+/// the sends allow the origin of each stamp's token. It may report no receive. So if they allow one
 /// message alone, that is the one that brought it.
 pub fn a_token_comes_from_what_sends_allow()
     ensures { (pids : List Pid) (acts : List NodeAct) (os : List Outcome)
@@ -122,8 +122,8 @@ pub fn a_first_label_that_nothing_brings_is_at_home()
         → (h : TokenOrigin) → CanBySends sent rule es i h → h ≡ Home }
 {}
 
-/// And if each label that its process gives is new to it, a later stamp of a label is from home only
-/// if its token was held before the first one, and no message with the label brought it.
+/// And if each label that its process gives is new to it, a later stamp of a label is from home
+/// only if its token was held before the first one, and no message with the label brought it.
 pub fn a_new_label_is_given_before_its_stamps()
     ensures { (sent : SendsTo) (es : List Event) (i k : ℕ) (stamp first : Event)
         → slice_get es i ≡ Some stamp → k < i → slice_get es k ≡ Some first

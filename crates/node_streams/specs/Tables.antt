@@ -38,7 +38,8 @@ alike c x = content_eq x.content c
 
 -- the order of contents, by one part after the other
 abbrev pub content_cmp : MessageContent → MessageContent → Ordering
-content_cmp c d = ordering_then (pid_cmp c.from d.from) (ordering_then (option_cmp pid_cmp c.to d.to)
+content_cmp c d = ordering_then (pid_cmp c.from d.from)
+    (ordering_then (option_cmp pid_cmp c.to d.to)
     (ordering_then (nat_cmp c.label d.label) (ordering_then (nat_cmp c.prev d.prev)
     (ordering_then (nat_cmp c.this d.this) (nat_cmp c.value d.value)))))
 

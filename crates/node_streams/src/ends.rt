@@ -3,7 +3,8 @@
 //! They are sorted, and not in a hash table: whoever writes a trace could choose contents whose
 //! hashes meet.
 
-ghost use Rattle.std.specs.Prelude.{◌≡◌, ◌≤◌, IfOk, List, OnOk, drop, length, option_map, slice_get};
+ghost use Rattle.std.specs.Prelude.{◌≡◌, ◌≤◌, IfOk, List, OnOk, drop, length, option_map};
+ghost use Rattle.std.specs.Prelude.{slice_get};
 ghost use Rattle.std.specs.List.{filter};
 ghost use Rattle.st_core.specs.Event.{kind_eq};
 ghost use Rattle.st_core.specs.Run.{pids_of};
@@ -17,7 +18,6 @@ use crate::content::MessageContent;
 use st_core::{Event, Kind, Pid, Sequence, Streams};
 use std::alloc::{AllocError, Global};
 
-/// Whether the event is of this kind.
 fn is_of_kind(kind: Kind, event: &Event) -> bool
     ensures { result ≡ kind_eq event.now.kind kind }
 {

@@ -28,9 +28,9 @@ pub struct Judgement {
     pub cycle: Vec<(Pid, u64)>,
 }
 
-/// Pairs each receive with its send, and looks for an order of all events. If a receive is unsent or
-/// there is a cycle, a standard node has no run with these streams in which each token that reached
-/// a listed process was sent by one, which reported that. Fails only if memory runs out.
+/// Pairs each receive with its send, and looks for an order of all events. If a receive is unsent
+/// or there is a cycle, a standard node has no run with these streams in which each token that
+/// reached a listed process was sent by one, which reported that. Fails only if memory runs out.
 pub fn judge(alloc: Global, streams: &Streams) -> Result<Judgement, AllocError>
     ensures unsent { IfOk result (λ j. j.unsent.items
         ≡ unsent_among streams.now (pids_of streams.now)) }
