@@ -20,12 +20,11 @@ use Rattle.st_pair.specs.Places.{event_at, first, is_stamp}
 use Rattle.st_pair.specs.declared.answer.PairFault.{PairFault}
 use Rattle.st_pair.specs.Pairing.{agrees, first_rule, mismatch, not_rising, prev_not_before}
 use Rattle.st_pair.specs.Pairing.{receive_of, refusal, repeated, stamp_before, stamp_of}
-use Rattle.st_pair.specs.declared.answer.Source.{Source}
 use Rattle.st_pair.specs.declared.answer.PairFault.TheVariants as fault
 use Rattle.st_pair.specs.declared.answer.Source.TheVariants as source
 use Rattle.st_pair.proofs.ForCallers.{events_in, given_at, given_from, got_rule, own_rule, Rule}
 use Rattle.st_pair.proofs.ForCallers.{from_none, cond_none, event_none, IsPaired, once_place}
-use Rattle.st_pair.proofs.ForCallers.{serial_rises, stamp_counts_rise, stamp_once}
+use Rattle.st_pair.proofs.ForCallers.{serial_rises, source_from, stamp_counts_rise, stamp_once}
 use Rattle.st_order.specs.Items.{is_hidden}
 
 -- WHO AN EVENT IS FROM
@@ -51,8 +50,7 @@ received_to kind.Receive from None p receives own = absurd (false≢true own)
 received_to kind.Receive from (Some q) p receives own = ap (λ (x : Pid). Some x) (pid_same q p own)
 
 pub own_at : (streams : List Stream) (p : Pid) (i : ℕ) (e : Event) → AreOwn streams
-    → event_at streams p i ≡ Some e
-    → is_own p e ≡ true
+    → event_at streams p i ≡ Some e → is_own p e ≡ true
 own_at [] p i e own at = absurd (none-some e at)
 own_at (x ∷ streams) p i e own at =
     elim (pid_eq x.pid p) as (λ b. pid_eq x.pid p ≡ b
@@ -107,12 +105,8 @@ record IsStampBefore (es : List Event) (i : ℕ) (g : ℕ × Event) : Type 0 whe
 
 before_later : (es : List Event) (i : ℕ) (g : ℕ × Event) → IsStampBefore es i g
     → IsStampBefore es (suc i) g
-before_later es i g b = let low = b.below in record {
-  below = omega arith;
-  at = b.at;
-  stamps =
-      b.stamps;
-}
+before_later es i g b =
+    let low = b.below in record { below = omega arith; at = b.at; stamps = b.stamps }
 
 stamp_before_is : (es : List Event) (i : ℕ) (g : ℕ × Event) → stamp_before es i ≡ Some g
     → IsStampBefore es i g
@@ -124,8 +118,7 @@ stamp_before_is es (suc i) g h =
     → IsStampBefore es (suc i) g) [
       | None ↦ λ _ h. before_later es i g (stamp_before_is es i g h)
       | Some e ↦ λ at h. elim (is_stamp e) as (λ b. is_stamp e ≡ b
-          → cond b (Some (i, e)) rest ≡ Some g
-          → IsStampBefore es (suc i) g) [
+          → cond b (Some (i, e)) rest ≡ Some g → IsStampBefore es (suc i) g) [
             | true ↦ λ stamps h.
                 let here : IsStampBefore es (suc i) (i, e) =
                 record { below = omega arith; at = at; stamps = stamps } in
@@ -142,8 +135,7 @@ stands_not false y x is h = absurd (false≢true is)
 module _ (streams : List Stream) (rising : IsRising (pids_of streams)) (fit : FitTogether streams)
   where
     nowhere : (rule : Rule PairFault) → ((p : Pid) (i : ℕ) (e : Event) (x : PairFault)
-        → event_at streams p i ≡ Some e
-        → rule p i e ≡ Some x → ⊥) → first rule streams ≡ None
+        → event_at streams p i ≡ Some e → rule p i e ≡ Some x → ⊥) → first rule streams ≡ None
     nowhere rule never = elim (first rule streams) as (λ o. first rule streams ≡ o → o ≡ None) [
       | None ↦ λ _. refl
       | Some x ↦ λ is. let g = given_at rule streams x rising is in
@@ -238,7 +230,6 @@ module _ (streams : List Stream) (rising : IsRising (pids_of streams)) (fit : Fi
         (next_rule (repeated streams) (mismatch streams ∷ []) (nowhere (repeated streams) no_second)
         (next_rule (mismatch streams) [] (nowhere (mismatch streams) no_other) refl)))
 
--- q's stamp of this count
 pub record HasStamp (streams : List Stream) (q : Pid) (v : ℕ) : Type 0 where
   pub index : ℕ
   pub event : Event
@@ -247,8 +238,7 @@ pub record HasStamp (streams : List Stream) (q : Pid) (v : ℕ) : Type 0 where
   pub count : event.serial.this ≡ v
 
 pub stamp_if : (streams : List Stream) (q : Pid) (v : ℕ) (f : ℕ × Event)
-    → stamp_of streams q v ≡ Some f
-    → (s : HasStamp streams q v) × (f.1 ≡ s.event)
+    → stamp_of streams q v ≡ Some f → (s : HasStamp streams q v) × (f.1 ≡ s.event)
 stamp_if streams q v f is =
     let found = given_from (own_rule v) q 0 (events_of streams q) f is in
     let g = found.1 in
@@ -309,37 +299,29 @@ module _ (streams : List Stream) (ok : IsPaired streams) where
     agree = agree_together;
   }
 
--- a receive whose send isn't hidden has it
+-- whether a receive of this stamp of q, if it is there, is of a hidden send
+abbrev hides : Pid → Option (ℕ × Event) → Bool
+hides q o = elim (source_from q o) [ source.Hidden ↦ true | source.Event p j ↦ false ]
+
 pub sent_if : (streams : List Stream) (e : Event) → is_hidden streams e ≡ false → is_stamp e ≡ false
     → HasStamp streams e.from e.serial.this
 sent_if streams e seen receives =
-    let source_in = λ (o : Option (ℕ × Event)). let s : Source =
-    elim o [ None ↦ source.Hidden | Some f ↦ source.Event e.from f.0 ] in s in
-    let hides = λ (s : Source). let b : Bool = elim s
-    [ source.Hidden ↦ true | source.Event q j ↦ false ] in b in
-    let shown : hides (source_in (stamp_of streams e.from e.serial.this)) ≡ false =
-    ap (λ b. cond b false (hides (source_in (stamp_of streams e.from e.serial.this))))
-    (sym receives) ∙ seen in
+    let shown : hides e.from (stamp_of streams e.from e.serial.this) ≡ false =
+    ap (λ b. cond b false (hides e.from (stamp_of streams e.from e.serial.this))) (sym receives)
+    ∙ seen in
     elim (stamp_of streams e.from e.serial.this) as (λ o. stamp_of streams e.from e.serial.this ≡ o
-    → hides (source_in o) ≡ false → HasStamp streams e.from e.serial.this) [
+    → hides e.from o ≡ false → HasStamp streams e.from e.serial.this) [
       | None ↦ λ _ h. absurd (false≢true (sym h))
       | Some f ↦ λ is _. (stamp_if streams e.from e.serial.this f is).0
     ] refl shown
 
--- and one that has it isn't of a hidden send
 pub seen_if : (streams : List Stream) (e : Event) → (is_stamp e ≡ false
-    → HasStamp streams e.from e.serial.this)
-    → is_hidden streams e ≡ false
-seen_if streams e sent =
-    let source_in = λ (o : Option (ℕ × Event)). let s : Source =
-    elim o [ None ↦ source.Hidden | Some f ↦ source.Event e.from f.0 ] in s in
-    let hides = λ (s : Source). let b : Bool = elim s
-    [ source.Hidden ↦ true | source.Event q j ↦ false ] in b in
-    elim (is_stamp e) as (λ b. is_stamp e ≡ b
-    → cond b false (hides (source_in (stamp_of streams e.from e.serial.this))) ≡ false) [
+    → HasStamp streams e.from e.serial.this) → is_hidden streams e ≡ false
+seen_if streams e sent = elim (is_stamp e) as (λ b. is_stamp e ≡ b
+    → cond b false (hides e.from (stamp_of streams e.from e.serial.this)) ≡ false) [
       | true ↦ λ _. refl
       | false ↦ λ receives. elim (stamp_of streams e.from e.serial.this)
-          as (λ o. stamp_of streams e.from e.serial.this ≡ o → hides (source_in o) ≡ false) [
+          as (λ o. stamp_of streams e.from e.serial.this ≡ o → hides e.from o ≡ false) [
             | None ↦ λ none. absurd (none_stamped streams e.from e.serial.this none (sent receives))
             | Some f ↦ λ _. refl
           ] refl

@@ -4,7 +4,7 @@
 use Rattle.std.proofs.Common.{[], ◌≡◌, inl, inr, ℕ, zero, suc, ◌<◌, true, false, not, cond, List}
 use Rattle.std.proofs.Common.{◌∷◌, ◌++◌, take, Some, slice_get, append-nil, append_assoc, refl, sym}
 use Rattle.std.proofs.Common.{◌∙◌, ap, subst, arith}
-use Rattle.std.proofs.lemmas.Bool.{cases_lt, false≢true}
+use Rattle.std.proofs.lemmas.Bool.{cases_order, false≢true}
 use Rattle.std.proofs.lemmas.Option.{none-some, same_Some}
 use Rattle.st_core.specs.declared.types.Pid.{Pid}
 use Rattle.st_core.specs.declared.types.Event.{Event}
@@ -136,7 +136,6 @@ module _ (top : ℕ) (wholes : List Whole) (sound : IsStreams (all_streams whole
       let rise = fit.rises p k e at in
       (omega arith, full.goes_on p k e at)))
 
-  -- a told event is one of all
   pub in_all : (p : Pid) (i : ℕ) (e : Event) → event_at told p i ≡ Some e
       → (k : ℕ) × (event_at all p k ≡ Some e)
   in_all p i e at =
@@ -206,19 +205,16 @@ module _ (top : ℕ) (wholes : List Whole) (sound : IsStreams (all_streams whole
       let lower = z.lower in
       let s_count = s.count in
       let t_count = t.count in
-      let turn : s.index < t.index = elim (cases_lt s.index t.index) [
-        | inl less ↦ less
-        | inr not_less ↦ elim (cases_lt t.index s.index) [
-          | inl less ↦
-              let rise = fit.grows q t.index s.index t.event s.event less t.at s_at t.stamps
-              s.stamps in
-              absurd (omega arith)
-          | inr not_more ↦
-              let here : s.index ≡ t.index = omega arith in
-              let one = ap (λ (x : Event). x.serial.this) (same_Some s.event t.event
-              (sym s_at ∙ ap (event_at all q) here ∙ t.at)) in
-              absurd (omega arith)
-        ]
+      let turn : s.index < t.index = elim (cases_order s.index t.index) [
+        | inl here ↦
+            let one = ap (λ (x : Event). x.serial.this) (same_Some s.event t.event
+            (sym s_at ∙ ap (event_at all q) here ∙ t.at)) in
+            absurd (omega arith)
+        | inr (inl less) ↦ less
+        | inr (inr less) ↦
+            let rise = fit.grows q t.index s.index t.event s.event less t.at s_at t.stamps
+            s.stamps in
+            absurd (omega arith)
       ] in
       let first_prev = first.prev in
       let later_prev = later.prev in

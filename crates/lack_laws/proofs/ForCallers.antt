@@ -15,7 +15,8 @@ pub use Rattle.lack_laws.proofs.InsertedEvents.{all_from}
 pub use Rattle.lack_laws.proofs.FinalZeros.{taken_at}
 pub use Rattle.lack_laws.proofs.SilentSenders.{at_front, at_seam}
 -- ---- lists of counts that rise
-pub use Rattle.lack_laws.proofs.Ranks.{AllAbove, Climbs, IsIn, above_in, insert_climbs}
+pub use Rattle.lack_laws.proofs.Ranks.{AllAbove, Climbs, IsIn, above_in, counts_climb, insert_by}
+pub use Rattle.lack_laws.proofs.Ranks.{insert_has, insert_keeps}
 -- ---- streams with further processes that report nothing
 pub use Rattle.lack_laws.proofs.SilentStreams.{above_first, listed_rest, silent_events}
 pub use Rattle.lack_laws.proofs.SilentStreams.{silent_lists, silent_sound, silent_total}

@@ -18,7 +18,7 @@ use Rattle.st_core.proofs.ForCallers.{all_at, names_among_listed, pid_eq-refl}
 use Rattle.st_pair.specs.Places.{event_at, is_stamp}
 use Rattle.st_pair.specs.Pairing.{agrees, stamp_of}
 use Rattle.st_pair.proofs.ForCallers.{agrees_if, events_in}
-use Rattle.st_order.proofs.ForCallers.{all_found, AreFound}
+use Rattle.st_order.proofs.ForCallers.{all_append, all_found, all_left, all_right, AreFound}
 use Rattle.st_plan.specs.Marks.{all_streams, told_streams, Whole}
 use Rattle.st_plan.proofs.ForCallers.{named}
 use Rattle.lack_laws.proofs.InsertedEvents.{is_placed, more, new_there, stays, all_from}
@@ -193,13 +193,8 @@ module _ (top : ℕ) (streams : List Stream) (good : IsOpen top streams) (p : Pi
       let one = good.fit.once p x i j e d at at_d receives receives_d (sym from) count in
       let same = same_Some e d (sym at ∙ ap (λ y. event_at streams y i) one.0
       ∙ ap (event_at streams x) one.1 ∙ at_d) in
-      subst (λ (y : Event). agrees send y ≡ true) same (agrees_if send e (record {
-        sends = refl;
-        label = refl;
-        prev = refl;
-        to = refl;
-        value = refl;
-      }))
+      subst (λ (y : Event). agrees send y ≡ true) same (agrees_if send e
+      (record { sends = refl; label = refl; prev = refl; to = refl; value = refl }))
 
   listed : lists streams q ≡ true
   listed = (and_parts (lists streams e.from) (option_map_or (lists streams) e.to true)
@@ -238,7 +233,6 @@ module _ (top : ℕ) (streams : List Stream) (good : IsOpen top streams) (p : Pi
     count = refl;
   }
 
-  -- no receive is new
   pub old_receive : (x : Pid) (k : ℕ) (d : Event)
       → event_at (more q index send streams) x k ≡ Some d → is_stamp d ≡ false
       → (j : ℕ) × (event_at streams x j ≡ Some d)
@@ -250,7 +244,6 @@ module _ (top : ℕ) (streams : List Stream) (good : IsOpen top streams) (p : Pi
 
 -- ALL OF THEM
 
--- the event is in the streams
 pub record IsEvent (streams : List Stream) (e : Event) : Type 0 where
   pub pid : Pid
   pub index : ℕ
@@ -277,7 +270,6 @@ events_stay q k f streams (e ∷ es) there =
     )
 
 module _ (top : ℕ) where
-  -- nothing is to be done for this event
   sends_skip : (wholes : List Whole) (e : Event) (es : List Event) → HasSends top wholes es
       → (is_stamp e ≡ false → HasStamp (all_streams wholes) e.from e.serial.this)
       → HasSends top wholes (e ∷ es)
@@ -361,20 +353,10 @@ abbrev events_in_all : List Stream → List Event
 events_in_all [] = []
 events_in_all (x ∷ rest) = x.events ++ events_in_all rest
 
-all_both : (P : Event → Type 0) (xs ys : List Event) → AllByRecursion P xs → AllByRecursion P ys
-    → AllByRecursion P (xs ++ ys)
-all_both P [] ys one two = two
-all_both P (x ∷ xs) ys one two = (one.0, all_both P xs ys one.1 two)
-
-all_parts : (P : Event → Type 0) (xs ys : List Event) → AllByRecursion P (xs ++ ys)
-    → AllByRecursion P xs × AllByRecursion P ys
-all_parts P [] ys all = (tt, all)
-all_parts P (x ∷ xs) ys all = let rest = all_parts P xs ys all.1 in ((all.0, rest.0), rest.1)
-
 are_events : (all some : List Stream) → AreFound all some
     → AllByRecursion (IsEvent all) (events_in_all some)
 are_events all [] found = tt
-are_events all (x ∷ rest) found = all_both (IsEvent all) x.events (events_in_all rest)
+are_events all (x ∷ rest) found = all_append (IsEvent all) x.events (events_in_all rest)
     (all_from (IsEvent all) x.events (λ k e at. record {
       pid = x.pid;
       index = k;
@@ -386,11 +368,10 @@ of_each : (P : Event → Type 0) (streams : List Stream) → AllByRecursion P (e
     → (e : Event) (p : Pid) (i : ℕ) → event_at streams p i ≡ Some e → P e
 of_each P [] all e p i at = absurd (none-some e at)
 of_each P (x ∷ rest) all e p i at =
-    let parts = all_parts P x.events (events_in_all rest) all in
     elim (pid_eq x.pid p) as (λ b. slice_get (events_in (cond b (Some x) (stream_of rest p))) i
     ≡ Some e → P e) [
-      | true ↦ λ at. all_at P x.events i e parts.0 at
-      | false ↦ λ at. of_each P rest parts.1 e p i at
+      | true ↦ λ at. all_at P x.events i e (all_left P x.events (events_in_all rest) all) at
+      | false ↦ λ at. of_each P rest (all_right P x.events (events_in_all rest) all) e p i at
     ] at
 
 -- whole streams of which the streams are told, and each receive has its send

@@ -63,10 +63,8 @@ others_with p i r (x ∷ streams) q other =
       | false ↦ λ _. others_with p i r streams q other
     ] refl
 
--- who has an event is listed
 pub listed_at : (streams : List Stream) (q : Pid) (k : ℕ) (e : Event)
-    → event_at streams q k ≡ Some e
-    → lists streams q ≡ true
+    → event_at streams q k ≡ Some e → lists streams q ≡ true
 listed_at streams q k e at = lists_among streams q ∙ listed_if streams q k e at
 
 pub unlisted_events : (streams : List Stream) (q : Pid) → lists streams q ≡ false
@@ -112,7 +110,6 @@ pub record IsOld (es : List Event) (b : Bool) (i k : ℕ) (e : Event) : Type 0 w
   pub at : slice_get es index ≡ Some e
   pub moved : IsMoved b i index k
 
--- event k is the new one
 abbrev pub IsNew : ℕ → Event → ℕ → Event → Type 0
 IsNew i r k e = (k ≡ i) × (r ≡ e)
 
@@ -180,7 +177,6 @@ module _ (p : Pid) (i : ℕ) (r : Event) (streams : List Stream) where
             ])
       ] refl
 
-  -- and each old one stays
   pub stays : (q : Pid) (m : ℕ) (e : Event) → event_at streams q m ≡ Some e
       → (k : ℕ) × (event_at longer q k ≡ Some e)
   stays q m e at = elim (pid_eq q p) as (λ b. pid_eq q p ≡ b
@@ -262,14 +258,11 @@ module _ (p : Pid) (i : ℕ) (r : Event) (streams : List Stream)
 pub record FitsIn (streams : List Stream) (p : Pid) (r : Event) : Type 0 where
   pub rises : r.serial.prev < r.serial.this
   pub taken : is_stamp r ≡ true → (q : Pid) (j : ℕ) (e : Event) → event_at streams q j ≡ Some e
-      → is_stamp e ≡ false
-      → e.from ≡ p → r.serial.this ≡ e.serial.this → agrees r e ≡ true
+      → is_stamp e ≡ false → e.from ≡ p → r.serial.this ≡ e.serial.this → agrees r e ≡ true
   pub fresh : is_stamp r ≡ false → (q : Pid) (j : ℕ) (e : Event) → event_at streams q j ≡ Some e
-      → is_stamp e ≡ false
-      → e.from ≡ r.from → e.serial.this ≡ r.serial.this → ⊥
+      → is_stamp e ≡ false → e.from ≡ r.from → e.serial.this ≡ r.serial.this → ⊥
   pub sent : is_stamp r ≡ false → (q : Pid) (j : ℕ) (f : Event) → event_at streams q j ≡ Some f
-      → q ≡ r.from
-      → is_stamp f ≡ true → f.serial.this ≡ r.serial.this → agrees f r ≡ true
+      → q ≡ r.from → is_stamp f ≡ true → f.serial.this ≡ r.serial.this → agrees f r ≡ true
 
 module _ (p : Pid) (i : ℕ) (r : Event) (streams : List Stream)
     (within : i ≤ length (events_of streams p))
@@ -281,8 +274,7 @@ module _ (p : Pid) (i : ℕ) (r : Event) (streams : List Stream)
   -- one receive of each message
   once_with : (q x : Pid) (j k : ℕ) (d e : Event) → event_at (more p i r streams) q j ≡ Some d
       → event_at (more p i r streams) x k ≡ Some e → is_stamp d ≡ false → is_stamp e ≡ false
-      → d.from ≡ e.from
-      → d.serial.this ≡ e.serial.this → (q ≡ x) × (j ≡ k)
+      → d.from ≡ e.from → d.serial.this ≡ e.serial.this → (q ≡ x) × (j ≡ k)
   once_with q x j k d e at_d at_e receives_d receives_e from count = elim (is q j d at_d) [
     | inl new_d ↦ elim (is x k e at_e) [
       | inl new_e ↦ (new_d.0 ∙ sym new_e.0, new_d.1.0 ∙ sym new_e.1.0)
@@ -308,10 +300,8 @@ module _ (p : Pid) (i : ℕ) (r : Event) (streams : List Stream)
 
   -- each receive agrees with its sender's stamp
   agree_with : (q : Pid) (k j : ℕ) (e f : Event) → event_at (more p i r streams) q k ≡ Some e
-      → is_stamp e ≡ false
-      → event_at (more p i r streams) e.from j ≡ Some f → is_stamp f ≡ true
-      → f.serial.this ≡ e.serial.this
-      → agrees f e ≡ true
+      → is_stamp e ≡ false → event_at (more p i r streams) e.from j ≡ Some f → is_stamp f ≡ true
+      → f.serial.this ≡ e.serial.this → agrees f e ≡ true
   agree_with q k j e f at_e receives at_f stamps count = elim (is q k e at_e) [
     | inl new_e ↦ elim (is e.from j f at_f) [
       | inl new_f ↦ absurd (false≢true (sym receives ∙ ap is_stamp (sym new_e.1.1 ∙ new_f.1.1)
@@ -351,8 +341,7 @@ module _ (p : Pid) (i : ℕ) (r : Event) (streams : List Stream)
 -- STREAMS STILL
 
 pub all_from : {X : Type 0} (P : X → Type 0) (xs : List X)
-    → ((k : ℕ) (x : X) → slice_get xs k ≡ Some x → P x)
-    → AllByRecursion P xs
+    → ((k : ℕ) (x : X) → slice_get xs k ≡ Some x → P x) → AllByRecursion P xs
 all_from P [] each = tt
 all_from P (x ∷ xs) each = (each 0 x refl, all_from P xs (λ k y at. each (suc k) y at))
 
@@ -381,8 +370,7 @@ reports_of streams sound = along streams (all_found streams sound.draft.rising)
     )
 
 pub sound_of : (streams : List Stream) → IsRising (pids_of streams)
-    → AreReports (pids_of streams) streams
-    → IsStreams streams
+    → AreReports (pids_of streams) streams → IsStreams streams
 sound_of streams rising reports = record {
   draft = record { rising = rising; own = are_own (pids_of streams) streams reports };
   listed = unlisted_none streams streams reports;

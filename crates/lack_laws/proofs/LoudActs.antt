@@ -174,89 +174,80 @@ is_set a = false
 abbrev pub report_of : Acted → Option Event
 report_of done = done.report
 
+module _ (top : ℕ) (a : Act) (r : Process) (was part done : Acted) (is : was ≡ done)
+    (acts : acted top (loud r) (louder a) ≡ Some part) (local : part.local ≡ loud_local was.local)
+    (queue : part.queue ≡ map loud_message was.queue) (event : event_by top r a ≡ part.report) where
+  -- it reports what it did if it reported anything
+  told_louder : (k : Kind) (token : Option Token) (to : Option Pid) (v : ℕ)
+      → was.report ≡ report r.local.traced k token to v
+      → part.report ≡ report true k (option_map loud_token token) to v
+      → (moves_token (loud r) (louder a) ≡ true → is_some token ≡ true) → IsLouder top r a done
+  told_louder k token to v told tells had = subst (IsLouder top r a) is (record {
+    part = part;
+    is_part = acts;
+    local = local;
+    queue = queue;
+    event = event;
+    agrees = λ e reported.
+        tells ∙ report_loud r.local.traced k token to v e (sym told ∙ reported);
+    moves = λ moves.
+        ap (λ (o : Option Event). is_some o) tells ∙ report_some k token to v (had moves);
+  })
+
+  -- so does an act that reports nothing, and moves no token
+  quiet_louder : was.report ≡ None → moves_token (loud r) (louder a) ≡ false → IsLouder top r a done
+  quiet_louder silent still = subst (IsLouder top r a) is (record {
+    part = part;
+    is_part = acts;
+    local = local;
+    queue = queue;
+    event = event;
+    agrees = λ e reported. absurd (none-some e (sym silent ∙ reported));
+    moves = λ moves. absurd (false≢true (sym still ∙ moves));
+  })
+
+had_token : (token : Option Token) → is_some (option_map loud_token token) ≡ true
+    → is_some token ≡ true
+had_token None h = h
+had_token (Some t) h = h
+
+-- whether a receive moves a token
+abbrev moved : Option (ℕ × Message) → Bool
+moved found = option_map_or (λ (x : ℕ × Message). is_some x.1.token) found false
+
 taken_louder : (top : ℕ) (p : Pid) (w : Want) (r : Process) (found : Option (ℕ × Message))
-    → pick w r.queue ≡ found
-    → IsLouder top r (act.Receive p w) (receives r found)
+    → pick w r.queue ≡ found → IsLouder top r (act.Receive p w) (receives r found)
 taken_louder top p w r None is =
-    let none : pick w (map loud_message r.queue) ≡ None = pick_loud 0 w r.queue
-    ∙ ap (option_map loud_found) is in
-    let acts : acted top (loud r) (act.Receive p w) ≡ Some (receives (loud r) None) =
+    let none : pick w (map loud_message r.queue) ≡ None =
+    pick_loud 0 w r.queue ∙ ap (option_map loud_found) is in
+    let part = receives (loud r) None in
+    let acts : acted top (loud r) (act.Receive p w) ≡ Some part =
     ap (λ (f : Option (ℕ × Message)). Some (receives (loud r) f)) none in
-    record {
-      part = receives (loud r) None;
-      is_part = acts;
-      local = refl;
-      queue = refl;
-      event = ap (option_and_then report_of) acts;
-      agrees = λ e reported. absurd (none-some e reported);
-      moves = λ moves. absurd (false≢true
-          (sym (ap (λ (f : Option (ℕ × Message)). option_map_or
-          (λ (x : ℕ × Message). is_some x.1.token) f false) none)
-          ∙ moves));
-    }
+    quiet_louder top (act.Receive p w) r (receives r None) part (receives r None) refl acts refl
+    refl (ap (option_and_then report_of) acts) refl (ap moved none)
 taken_louder top p w r (Some found) is =
     let m = found.1 in
     let some : pick w (map loud_message r.queue) ≡ Some (loud_found found) =
     pick_loud 0 w r.queue ∙ ap (option_map loud_found) is in
+    let done = receives r (Some found) in
     let part = receives (loud r) (Some (loud_found found)) in
     let acts : acted top (loud r) (act.Receive p w) ≡ Some part =
     ap (λ (f : Option (ℕ × Message)). Some (receives (loud r) f)) some in
-    let has : is_some (option_map loud_token m.token) ≡ true → is_some m.token ≡ true =
-    elim m.token as (λ token. is_some (option_map loud_token token) ≡ true → is_some token ≡ true) [
-      | None ↦ λ h. h
-      | Some t ↦ λ h. h
-    ] in
-    record {
-      part = part;
-      is_part = acts;
-      local = received_loud r.local m.token;
-      queue = remove_loud r.queue found.0;
-      event = ap (option_and_then report_of) acts;
-      agrees = λ e reported. report_loud r.local.traced kind.Receive m.token (Some r.pid) m.value e
-          reported;
-      moves = λ moves. report_some kind.Receive m.token (Some r.pid) m.value (has
-          (sym (ap (λ (f : Option (ℕ × Message)). option_map_or
-          (λ (x : ℕ × Message). is_some x.1.token) f false) some)
-          ∙ moves));
-    }
-
--- so does an act that reports nothing, and moves no token
-quiet_louder : (top : ℕ) (a : Act) (r : Process) (was part done : Acted)
-    → acted top r a ≡ Some done → acted top r a ≡ Some was
-    → acted top (loud r) (louder a) ≡ Some part
-    → part.local ≡ loud_local was.local → part.queue ≡ map loud_message was.queue
-    → event_by top r a ≡ part.report → was.report ≡ None
-    → moves_token (loud r) (louder a) ≡ false → IsLouder top r a done
-quiet_louder top a r was part done h is acts local queue event silent still =
-    subst (IsLouder top r a) (same_Some was done (sym is ∙ h)) (record {
-      part = part;
-      is_part = acts;
-      local = local;
-      queue = queue;
-      event = event;
-      agrees = λ e reported. absurd (none-some e (sym silent ∙ reported));
-      moves = λ moves. absurd (false≢true (sym still ∙ moves));
-    })
+    told_louder top (act.Receive p w) r done part done refl acts (received_loud r.local m.token)
+    (remove_loud r.queue found.0) (ap (option_and_then report_of) acts) kind.Receive m.token
+    (Some r.pid) m.value refl refl (λ moves. had_token m.token (sym (ap moved some) ∙ moves))
 
 pub acted_louder : (top : ℕ) (a : Act) (r : Process) (done : Acted) → acted top r a ≡ Some done
-    → is_set a ≡ false
-    → IsLouder top r a done
+    → is_set a ≡ false → IsLouder top r a done
 acted_louder top (act.Send p q v) r done h other =
     let parts = mapped (sends r q v) (stamp_any top r.pid r.local) done h in
     let m = parts.0 in
     let acts : acted top (loud r) (act.Send p q v) ≡ Some (sends (loud r) q v (loud_local m)) =
     ap (option_map (sends (loud r) q v)) (any_loud top r.pid r.local
     ∙ ap (option_map loud_local) parts.1) in
-    subst (IsLouder top r (act.Send p q v)) parts.2 (record {
-      part = sends (loud r) q v (loud_local m);
-      is_part = acts;
-      local = refl;
-      queue = refl;
-      event = ap (option_and_then report_of) acts;
-      agrees = λ e reported. report_loud r.local.traced kind.Send m.token (Some q) v e reported;
-      moves = λ had. report_some kind.Send m.token (Some q) v
-          (any_some top r.pid r.local m parts.1 had);
-    })
+    told_louder top (act.Send p q v) r (sends r q v m) (sends (loud r) q v (loud_local m)) done
+    parts.2 acts refl refl (ap (option_and_then report_of) acts) kind.Send m.token (Some q) v refl
+    refl (any_some top r.pid r.local m parts.1)
 acted_louder top (act.Receive p w) r done h other =
     subst (IsLouder top r (act.Receive p w)) (same_Some _ done h)
     (taken_louder top p w r (pick w r.queue) refl)
@@ -266,16 +257,9 @@ acted_louder top (act.Print p v) r done h other =
     let acts : acted top (loud r) (act.Print p v) ≡ Some (prints (loud r) v (loud_local m)) =
     ap (option_map (prints (loud r) v)) (any_loud top r.pid r.local
     ∙ ap (option_map loud_local) parts.1) in
-    subst (IsLouder top r (act.Print p v)) parts.2 (record {
-      part = prints (loud r) v (loud_local m);
-      is_part = acts;
-      local = refl;
-      queue = refl;
-      event = ap (option_and_then report_of) acts;
-      agrees = λ e reported. report_loud r.local.traced kind.Print m.token None v e reported;
-      moves = λ had. report_some kind.Print m.token None v
-          (any_some top r.pid r.local m parts.1 had);
-    })
+    told_louder top (act.Print p v) r (prints r v m) (prints (loud r) v (loud_local m)) done
+    parts.2 acts refl refl (ap (option_and_then report_of) acts) kind.Print m.token None v refl
+    refl (any_some top r.pid r.local m parts.1)
 acted_louder top (act.PrintAt p n v) r done h other =
     let a = act.PrintAt p n v in
     let prints_at = λ (b : Bool). cond b (option_map (prints (loud r) v)
@@ -292,41 +276,28 @@ acted_louder top (act.PrintAt p n v) r done h other =
           ap prints_at (label_loud n r.local.token ∙ is)
           ∙ ap (option_map (prints (loud r) v)) (stamp_loud top r.pid r.local
           ∙ ap (option_map loud_local) parts.1) in
-          subst (IsLouder top r a) parts.2 (record {
-            part = prints (loud r) v (loud_local m);
-            is_part = acts;
-            local = refl;
-            queue = refl;
-            event = ap (option_and_then report_of) acts;
-            agrees = λ e reported. report_loud r.local.traced kind.Print m.token None v e reported;
-            moves = λ had. report_some kind.Print m.token None v
-                (stamped_some top r.pid r.local m parts.1);
-          })
+          told_louder top a r (prints r v m) (prints (loud r) v (loud_local m)) done parts.2 acts
+          refl refl (ap (option_and_then report_of) acts) kind.Print m.token None v refl refl
+          (λ _. stamped_some top r.pid r.local m parts.1)
       | false ↦ λ is h.
+          let was = answers r r.local reply.Done in
           let part = answers (loud r) (loud_local r.local) reply.Done in
           let acts : acted top (loud r) a ≡ Some part =
           ap prints_at (label_loud n r.local.token ∙ is) in
-          subst (IsLouder top r a) (same_Some _ done h) (record {
-            part = part;
-            is_part = acts;
-            local = refl;
-            queue = refl;
-            event = ap (option_and_then report_of) acts;
-            agrees = λ e reported. absurd (none-some e reported);
-            moves = λ moves. absurd (false≢true (sym (label_loud n r.local.token ∙ is) ∙ moves));
-          })
+          quiet_louder top a r was part done (same_Some was done h) acts refl refl
+          (ap (option_and_then report_of) acts) refl (label_loud n r.local.token ∙ is)
     ] refl h
 acted_louder top (act.Set p c) r done h other = absurd (false≢true (sym other))
 acted_louder top (act.Clear p) r done h other =
-    quiet_louder top (act.Clear p) r _ _ done h refl refl refl refl refl refl refl
+    quiet_louder top (act.Clear p) r _ _ done (same_Some _ done h) refl refl refl refl refl refl
 acted_louder top (act.Restore p t) r done h other =
-    quiet_louder top (act.Restore p t) r _ _ done h refl refl refl refl refl refl refl
+    quiet_louder top (act.Restore p t) r _ _ done (same_Some _ done h) refl refl refl refl refl refl
 acted_louder top (act.Look p) r done h other =
-    quiet_louder top (act.Look p) r _ _ done h refl refl refl refl refl refl refl
+    quiet_louder top (act.Look p) r _ _ done (same_Some _ done h) refl refl refl refl refl refl
 acted_louder top (act.Reset p) r done h other =
-    quiet_louder top (act.Reset p) r _ _ done h refl refl refl refl refl refl refl
+    quiet_louder top (act.Reset p) r _ _ done (same_Some _ done h) refl refl refl refl refl refl
 acted_louder top (act.Tracer p b) r done h other =
-    quiet_louder top (act.Tracer p b) r _ _ done h refl refl refl refl refl refl refl
+    quiet_louder top (act.Tracer p b) r _ _ done (same_Some _ done h) refl refl refl refl refl refl
 
 -- EVERY PROCESS
 

@@ -201,7 +201,6 @@ module _ (top : ℕ) (s t : State) (p : Pid) (c : Component) (o : Outcome)
 
 -- EACH STEP
 
--- a set, or some other act
 abbrev IsSet : Act → Type 0
 IsSet a = (p : Pid) × (c : Component) × (a ≡ act.Set p c)
 
@@ -210,8 +209,7 @@ set_or_not (act.Set p c) = inl (p, c, refl)
 set_or_not a = inr refl
 
 step_heard : (top : ℕ) (s t : State) (a : Act) (o : Outcome) → step top s a ≡ Some o
-    → is_reset a ≡ false → IsLoud s t
-    → IsHeard top s t a o
+    → is_reset a ≡ false → IsLoud s t → IsHeard top s t a o
 step_heard top s t a o h plain is = elim (set_or_not a) [
   | inl set ↦ subst (λ b. IsHeard top s t b o) (sym set.2)
       (set_heard top s t set.0 set.1 o (ap (step top s) (sym set.2) ∙ h) is)
@@ -220,10 +218,8 @@ step_heard top s t a o h plain is = elim (set_or_not a) [
       same_heard top s t a o x is plain (acted_louder top a x.before x.done x.is_done other)
 ]
 
--- an act reports its event
 step_agrees : (top : ℕ) (s : State) (a : Act) (o : Outcome) → step top s a ≡ Some o → (e : Event)
-    → o.report ≡ Some e
-    → event_in top s a ≡ Some e
+    → o.report ≡ Some e → event_in top s a ≡ Some e
 step_agrees top s a o h e reported =
     let x = step_parts top s a o h in
     let r = x.before in
@@ -271,8 +267,7 @@ marked_events true told (Some e) = refl
 marked_events false told event = refl
 
 pub are_heard : (top : ℕ) (s t : State) (acts : List Act) (os : List Outcome)
-    → run_from top s acts ≡ Some os
-    → NoReset acts → IsLoud s t → AreHeard top s t acts os
+    → run_from top s acts ≡ Some os → NoReset acts → IsLoud s t → AreHeard top s t acts os
 are_heard top s t [] os h none is = record {
   heard = [];
   outcomes = [];
@@ -328,8 +323,7 @@ marks_told true (Some e) None agrees = absurd (none-some e (agrees e refl))
 marks_told true (Some e) (Some d) agrees = ap (λ x. x ∷ []) (same_Some d e (agrees e refl))
 
 pub whole_told : (top : ℕ) (s : State) (acts : List Act) (os : List Outcome) (p : Pid)
-    → run_from top s acts ≡ Some os
-    → told_events (whole_from top s acts os p) ≡ stream acts os p
+    → run_from top s acts ≡ Some os → told_events (whole_from top s acts os p) ≡ stream acts os p
 whole_told top s [] os p h = refl
 whole_told top s (a ∷ acts) os p h =
     let x = run_parts top s a acts os h in

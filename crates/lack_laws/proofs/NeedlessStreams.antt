@@ -74,15 +74,13 @@ module _ (top : ℕ) (streams : List Stream) (rising : IsRising (pids_of streams
     (is : IsNeedless top streams)
     (xs : List Item) (order : IsOrder streams xs) where
   along : (earlier : List Move) (m : Move) (later : List Move)
-      → moves streams xs ≡ reverse earlier ++ m ∷ later
-      → IsSettledNext earlier m
+      → moves streams xs ≡ reverse earlier ++ m ∷ later → IsSettledNext earlier m
   along earlier m later split =
       at_each streams rising is.reported (leads streams is.timely) xs order IsSettledNext
       (λ p i e before after. at_move streams p i e before after is.caused) earlier m later split
 
 pub needless_settled : (top : ℕ) (streams : List Stream) → IsRising (pids_of streams)
-    → IsNeedless top streams
-    → IsSettled top streams
+    → IsNeedless top streams → IsSettled top streams
 needless_settled top streams rising is = record {
   accepted = is.accepted;
   in_turn = λ p i h. false≢true
@@ -94,7 +92,6 @@ needless_settled top streams rising is = record {
   within = is.within;
 }
 
--- a completion that has none is shown
 pub needless_shown : (top : ℕ) (streams : List Stream) → IsCompleted IsNeedless top streams
     → IsShownInOneTrace top streams
 needless_shown top streams done = settled_shown top streams (record {
@@ -181,8 +178,7 @@ all_same = marks_same events all_there
 
 -- streams that are so are a completion of themselves
 pub own_completion : (Is : ℕ → List Stream → Type 0) (top : ℕ) (streams : List Stream)
-    → IsStreams streams
-    → Is top streams → IsCompleted Is top streams
+    → IsStreams streams → Is top streams → IsCompleted Is top streams
 own_completion Is top streams sound is = record {
   wholes = map marks_all streams;
   told = told_same streams;
@@ -191,7 +187,6 @@ own_completion Is top streams sound is = record {
 }
 
 pub needless_streams_shown : (top : ℕ) (streams : List Stream) → IsStreams streams
-    → IsNeedless top streams
-    → IsShownInOneTrace top streams
+    → IsNeedless top streams → IsShownInOneTrace top streams
 needless_streams_shown top streams sound is =
     needless_shown top streams (own_completion IsNeedless top streams sound is)

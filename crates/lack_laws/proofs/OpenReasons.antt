@@ -65,8 +65,7 @@ module _ (top : ℕ) (streams : List Stream) (sound : IsStreams streams)
   -- nor is one of a lower count with another prev told of
   unfounded : (p q : Pid) (i j : ℕ) (f e : Event) → event_at streams p i ≡ Some f
       → event_at streams q j ≡ Some e → (is_stamp e || is_hidden streams e) ≡ true
-      → e.serial.prev ≡ 0 → f.from ≡ e.from → f.serial.this < e.serial.this
-      → 0 < f.serial.prev → ⊥
+      → e.serial.prev ≡ 0 → f.from ≡ e.from → f.serial.this < e.serial.this → 0 < f.serial.prev → ⊥
   unfounded p q i j f e at_f at_e tells is_zero from lower above =
       none.founded q j (inr (record {
         zero = record {
@@ -150,8 +149,7 @@ needless_if top streams good sent caused = record {
 }
 
 pub none_shown_with : (top : ℕ) (streams : List Stream) → IsStreams streams
-    → HasNoOpenReason top streams
-    → IsShownWithOthers top streams
+    → HasNoOpenReason top streams → IsShownWithOthers top streams
 none_shown_with top streams sound none =
     let s = with_sends top streams (open_if top streams sound none) in
     let done = all_served top streams (record {
@@ -172,10 +170,8 @@ none_shown_with top streams sound none =
       });
     }
 
--- streams that acts without a reset show have none of the reasons
 pub shown_none : (top : ℕ) (streams : List Stream) → IsStreams streams
-    → IsShownInOneTrace top streams
-    → HasNoOpenReason top streams
+    → IsShownInOneTrace top streams → HasNoOpenReason top streams
 shown_none top streams sound shown =
     let full = shown_full top streams sound.draft.rising shown in
     record {
@@ -198,8 +194,7 @@ module _ (streams : List Stream) (sound : IsStreams streams) (others : List Pid)
   same : (p : Pid) → events_of more p ≡ events_of streams p
   same = silent_events streams sound others
 
-  there : (p : Pid) (i : ℕ) (e : Event) → event_at streams p i ≡ Some e
-      → event_at more p i ≡ Some e
+  there : (p : Pid) (i : ℕ) (e : Event) → event_at streams p i ≡ Some e → event_at more p i ≡ Some e
   there p i e at = ap (λ es. slice_get es i) (same p) ∙ at
 
   is_hidden_as : (e : Event) → is_hidden more e ≡ is_hidden streams e
@@ -267,8 +262,7 @@ open_decides top streams sound = (
 -- REASONS AT THEIR PLACES
 
 contradicts : (top : ℕ) (streams : List Stream) (reason : OpenReason)
-    → StandsAgainstOpen top streams reason
-    → HasNoOpenReason top streams → ⊥
+    → StandsAgainstOpen top streams reason → HasNoOpenReason top streams → ⊥
 contradicts top streams (Refused f) against none = none-some f (sym none.accepted ∙ against)
 contradicts top streams (Late p i) against none =
     false≢true (sym (none.timely p i against.event against.at) ∙ against.holds)

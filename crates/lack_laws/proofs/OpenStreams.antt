@@ -38,8 +38,7 @@ pub record IsOpen (top : ℕ) (streams : List Stream) : Type 0 where
 -- each receive has its send
 abbrev pub AreSent : List Stream → Type 0
 AreSent streams = (p : Pid) (i : ℕ) (e : Event) → event_at streams p i ≡ Some e
-    → is_stamp e ≡ false
-    → HasStamp streams e.from e.serial.this
+    → is_stamp e ≡ false → HasStamp streams e.from e.serial.this
 
 -- WITH ONE MORE EVENT
 

@@ -4,8 +4,7 @@
 use Rattle.std.proofs.Common.{◌≡◌, ℕ, ◌+◌, zero, suc, ◌<◌, ◌≤◌, ◌⊎◌, inl, inr, nat_lt, true, false}
 use Rattle.std.proofs.Common.{cond, List, [], ◌∷◌, map, refl, sym, ◌∙◌, ap, subst, arith}
 use Rattle.std.specs.List.{AllByRecursion}
-use Rattle.std.proofs.lemmas.Bool.{ltb-true, ltb-false, le-ltb}
-use Rattle.std.proofs.lemmas.Bool.Decides.{nat_tests}
+use Rattle.std.proofs.lemmas.Bool.{ltb-true, ltb-false, le-ltb, lt-ltb}
 use Rattle.st_core.specs.declared.types.Event.{Event}
 use Rattle.st_core.specs.Pid.{IsRising}
 use Rattle.st_core.specs.Run.{Stream, pids_of}
@@ -16,7 +15,6 @@ use Rattle.lack_laws.specs.Renumbering.{with_counts}
 use Rattle.lack_laws.proofs.NeedlessStreams.{exactly_needless, needless_shown}
 use Rattle.lack_laws.proofs.Renumbering.{pids_with, shown_with}
 
--- all of these are above b
 abbrev pub AllAbove : ℕ → List ℕ → Type 0
 AllAbove b cs = AllByRecursion (λ c. b < c) cs
 
@@ -25,7 +23,6 @@ abbrev pub Climbs : List ℕ → Type 0
 Climbs [] = Unit {0}
 Climbs (c ∷ cs) = AllAbove c cs × Climbs cs
 
--- c is one of these
 abbrev pub IsIn : ℕ → List ℕ → Type 0
 IsIn c [] = ⊥
 IsIn c (d ∷ ds) = (c ≡ d) ⊎ IsIn c ds
@@ -37,7 +34,7 @@ above_lower b c [] low all = all
 above_lower b c (d ∷ ds) low all = (let high = all.0 in omega arith, above_lower b c ds low all.1)
 
 -- a count comes before the first one, or among those after it, or is that one
-insert_by : (P : List ℕ → Type 0) (c d : ℕ) (ds : List ℕ) → (c < d → P (c ∷ d ∷ ds))
+pub insert_by : (P : List ℕ → Type 0) (c d : ℕ) (ds : List ℕ) → (c < d → P (c ∷ d ∷ ds))
     → (d < c → P (d ∷ insert_count c ds)) → (c ≡ d → P (d ∷ ds)) → P (insert_count c (d ∷ ds))
 insert_by P c d ds before later here =
     elim (nat_lt c d) as (λ x. nat_lt c d ≡ x
@@ -64,12 +61,12 @@ insert_climbs c (d ∷ ds) all = insert_by Climbs c d ds
     (λ low. ((low, above_lower c d ds low all.0), all))
     (λ high. (insert_above d c ds high all.0, insert_climbs c ds all.1)) (λ _. all)
 
-insert_has : (c : ℕ) (ds : List ℕ) → IsIn c (insert_count c ds)
+pub insert_has : (c : ℕ) (ds : List ℕ) → IsIn c (insert_count c ds)
 insert_has c [] = inl refl
 insert_has c (d ∷ ds) =
     insert_by (IsIn c) c d ds (λ _. inl refl) (λ _. inr (insert_has c ds)) (λ same. inl same)
 
-insert_keeps : (b c : ℕ) (ds : List ℕ) → IsIn b ds → IsIn b (insert_count c ds)
+pub insert_keeps : (b c : ℕ) (ds : List ℕ) → IsIn b ds → IsIn b (insert_count c ds)
 insert_keeps b c [] here = absurd here
 insert_keeps b c (d ∷ ds) here = insert_by (IsIn b) c d ds (λ _. inr here)
     (λ _. elim here [ inl same ↦ inl same | inr later ↦ inr (insert_keeps b c ds later) ])
@@ -108,6 +105,9 @@ counts_are : (streams : List Stream) → AreCounts (counts_of streams)
 counts_are [] = record { rest = []; is = refl; climb = (tt, tt) }
 counts_are (s ∷ streams) = insert_all s.events (counts_of streams) (counts_are streams)
 
+pub counts_climb : (streams : List Stream) → Climbs (counts_of streams)
+counts_climb streams = (counts_are streams).climb
+
 kept_by_all : (b : ℕ) (es : List Event) (cs : List ℕ) → IsIn b cs → IsIn b (insert_counts es cs)
 kept_by_all b [] cs here = here
 kept_by_all b (e ∷ es) cs here =
@@ -133,8 +133,7 @@ events_in cs ds (e ∷ es) within =
           (insert_keeps c e.serial.this rest here))),
     )
 
-all_in : (cs : List ℕ) (streams : List Stream)
-    → ((c : ℕ) → IsIn c (counts_of streams) → IsIn c cs)
+all_in : (cs : List ℕ) (streams : List Stream) → ((c : ℕ) → IsIn c (counts_of streams) → IsIn c cs)
     → AllByRecursion (λ (s : Stream). AllByRecursion (AreIn cs) s.events) streams
 all_in cs [] within = tt
 all_in cs (s ∷ streams) within = (
@@ -162,11 +161,8 @@ above_in b c (d ∷ ds) all here = elim here [
   | inr later ↦ above_in b c ds all.1 later
 ]
 
-tt_less : (d c : ℕ) → d < c → nat_lt d c ≡ true
-tt_less d c less = grind (arith, nat_tests)
-
 rank_next : (c d : ℕ) (ds : List ℕ) → d < c → rank (d ∷ ds) c ≡ suc (rank ds c)
-rank_next c d ds less = ap (λ b. cond b 1 0 + rank ds c) (tt_less d c less) ∙ (omega arith)
+rank_next c d ds less = ap (λ b. cond b 1 0 + rank ds c) (lt-ltb d c less) ∙ (omega arith)
 
 back : (c : ℕ) (cs : List ℕ) → Climbs cs → IsIn c cs → count_of_rank cs (rank cs c) ≡ c
 back c [] climb here = absurd here
@@ -222,10 +218,7 @@ module _ (cs : List ℕ) (climb : Climbs cs) where
   event_back : (e : Event) → AreIn cs e → event_with (count_of_rank cs) (event_with (rank cs) e) ≡ e
   event_back e at =
       ap (λ n. record e {
-        serial = record {
-          prev = n;
-          this = count_of_rank cs (rank cs e.serial.this);
-        };
+        serial = record { prev = n; this = count_of_rank cs (rank cs e.serial.this) };
       }) (back e.serial.prev cs climb at.0)
       ∙ ap (λ n. record e { serial = record { prev = e.serial.prev; this = n } })
       (back e.serial.this cs climb at.1)
@@ -248,11 +241,10 @@ module _ (cs : List ℕ) (climb : Climbs cs) where
       (events_back s.events all.0)
       ∙ ap (λ ss. s ∷ ss) (streams_back streams all.1)
 
--- put back, the ranks are the counts again
 pub counts_put_back : (streams : List Stream)
     → with_counts (count_of_rank (counts_of streams)) (renumbered_streams streams) ≡ streams
 counts_put_back streams =
-    streams_back (counts_of streams) (counts_are streams).climb streams
+    streams_back (counts_of streams) (counts_climb streams) streams
     (all_in (counts_of streams) streams (λ c here. here))
 
 -- A greater TOP
@@ -275,8 +267,7 @@ shown_higher top high streams rising le shown =
 
 pub renumbered_shown : (top rank_top : ℕ) (streams : List Stream) → IsRising (pids_of streams)
     → count_of_rank (counts_of streams) rank_top ≤ top
-    → IsShownInOneTrace rank_top (renumbered_streams streams)
-    → IsShownInOneTrace top streams
+    → IsShownInOneTrace rank_top (renumbered_streams streams) → IsShownInOneTrace top streams
 renumbered_shown top rank_top streams rising fits shown =
     let cs = counts_of streams in
     let back = count_of_rank cs in

@@ -224,7 +224,6 @@ module _ (f : ℕ → ℕ) where
       ≡ with_counts f (all_streams wholes)
   all_wholes = by_wholes events all_with
 
--- an event of the replaced streams is one of the streams, replaced
 record IsReplaced (f : ℕ → ℕ) (streams : List Stream) (p : Pid) (i : ℕ) (d : Event) : Type 0 where
   event : Event
   at : event_at streams p i ≡ Some event
@@ -292,7 +291,6 @@ module _ (f : ℕ → ℕ) (keeps : KeepsOrder f) (streams : List Stream) where
     agree = agree_kept fit;
   }
 
-  -- no send is hidden
   seen_kept : ((p : Pid) (i : ℕ) (e : Event) → event_at streams p i ≡ Some e
       → is_hidden streams e ≡ false) → (p : Pid) (i : ℕ) (d : Event)
       → event_at (with_counts f streams) p i ≡ Some d → is_hidden (with_counts f streams) d ≡ false
@@ -310,8 +308,7 @@ module _ (f : ℕ → ℕ) (keeps : KeepsOrder f) (streams : List Stream) where
 
   -- TESTS
 
-  before_same : (p : Pid) (i : ℕ)
-      → take i (events_of (with_counts f streams) p)
+  before_same : (p : Pid) (i : ℕ) → take i (events_of (with_counts f streams) p)
       ≡ map (event_with f) (take i (events_of streams p))
   before_same p i = ap (take i) (events_with f streams p)
       ∙ take-map (event_with f) i (events_of streams p)
@@ -343,7 +340,6 @@ module _ (f : ℕ → ℕ) (keeps : KeepsOrder f) (streams : List Stream) where
   }
 
 module _ (f : ℕ → ℕ) (keeps : KeepsOrder f) (top : ℕ) (streams : List Stream) where
-  -- a completion with its counts replaced completes the streams with theirs replaced
   pub completed_with : IsCompleted IsNeedless top streams
       → IsCompleted IsNeedless (f top) (with_counts f streams)
   completed_with done = record {

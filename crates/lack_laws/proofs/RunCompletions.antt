@@ -58,7 +58,6 @@ AreBlank s = (x : Pid) (r : Process) → process s x ≡ Some r → r.local.toke
 abbrev AreTracers : List Act → Type 0
 AreTracers acts = AllByRecursion (λ a. (p : Pid) × (act.Tracer p true ≡ a)) acts
 
--- a tracer leaves each process its token
 tracer_token : (p : Pid) (before r : Process) → before.local.token ≡ None → r.local.token ≡ None
     → (changed (act.Tracer p true) (answers before before.local (reply.Was before.local.traced))
     r).local.token ≡ None
@@ -244,11 +243,9 @@ module _ (top : ℕ) (streams : List Stream) (acts : List Act) (shows : Shows to
     wholes_are_streams rising = shown_are_streams top (all_streams wholes) heard
         (subst IsRising (sym (same_pids streams)) rising) heard_shows
 
--- in every run without a reset
 pub run_completed : (top : ℕ) (streams : List Stream) (acts : List Act)
     (shows : Shows top streams acts) → NoReset acts
-    → IsRising (pids_of streams)
-    → (told_streams (wholes_of top streams acts shows.0) ≡ streams)
+    → IsRising (pids_of streams) → (told_streams (wholes_of top streams acts shows.0) ≡ streams)
     × IsStreams (all_streams (wholes_of top streams acts shows.0))
     × IsFull top (all_streams (wholes_of top streams acts shows.0))
 run_completed top streams acts shows none rising = (

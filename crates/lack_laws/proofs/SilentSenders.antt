@@ -43,7 +43,6 @@ module _ (top : ℕ) (streams : List Stream) (good : IsOpen top streams) (p : Pi
   abbrev v : ℕ
   v = e.serial.prev
 
-  -- the message is sent
   abbrev pub send : Event
   send = record {
     label = e.label;
@@ -54,16 +53,8 @@ module _ (top : ℕ) (streams : List Stream) (good : IsOpen top streams) (p : Pi
     value = 0;
   }
 
-  -- and received
   abbrev pub receive : Event
-  receive = record {
-    label = e.label;
-    kind = kind.Receive;
-    serial = record { prev = 0; this = v };
-    from = z;
-    to = Some p;
-    value = 0;
-  }
+  receive = record send { kind = kind.Receive }
 
   abbrev silent_there : List Stream
   silent_there = inserted z streams
@@ -115,10 +106,7 @@ module _ (top : ℕ) (streams : List Stream) (good : IsOpen top streams) (p : Pi
   joins_sent : CanJoin top silent_there z 0 send
   joins_sent = record {
     inside = omega arith;
-    report = record {
-      own = and_from (pid_eq z z) true (pid_eq-refl z) refl;
-      names = both_named;
-    };
+    report = record { own = and_from (pid_eq z z) true (pid_eq-refl z) refl; names = both_named };
     fits = record {
       rises = some;
       taken = λ _ q j d at_d _ from. absurd (not_from q j d at_d from);
@@ -195,13 +183,8 @@ module _ (top : ℕ) (streams : List Stream) (good : IsOpen top streams) (p : Pi
           ∙ ap is_stamp (sym (only q j d at_d from)));
       sent = λ _ q j f at_f who stamps_f _. subst (λ (x : Event). agrees x receive ≡ true)
           (only q j f at_f (own_stamp q j f at_f stamps_f ∙ who))
-          (agrees_if send receive (record {
-            sends = refl;
-            label = refl;
-            prev = refl;
-            to = refl;
-            value = refl;
-          }));
+          (agrees_if send receive
+          (record { sends = refl; label = refl; prev = refl; to = refl; value = refl }));
     };
     behind = λ j d less at_d never. absurd (false≢true never);
     ahead = ahead;
@@ -279,7 +262,6 @@ caused_push before (d ∷ es) e caused none = (
       (ap (λ xs. is_need xs e) (append_assoc before (d ∷ []) es) ∙ none),
 )
 
--- a receive needs nothing
 no_need : (xs : List Event) (e : Event) → is_stamp e ≡ false → is_need xs e ≡ false
 no_need xs e receives =
     ap (λ b. b && (not (e.serial.prev == prev_after xs)
@@ -306,7 +288,6 @@ caused_fed front r e receives count caused =
     subst (AreCaused []) (append_assoc front (r ∷ []) (e ∷ []))
     (caused_push [] before e (caused_push [] front r caused (no_need front r receives)) none)
 
--- stamps with prev 0 leave 0
 left_none : (es : List Event) → ((j : ℕ) (d : Event) → slice_get es j ≡ Some d
     → (is_stamp d ≡ true) × (d.serial.prev ≡ 0)) → prev_after es ≡ 0
 left_none [] each = refl
@@ -385,8 +366,7 @@ module _ (top : ℕ) (streams : List Stream) where
         → AreCaused [] (events_in next q)
 
   feed : (grown : IsGrown top streams) (p : Pid) (front rest : List Event) (e : Event)
-      → events_in grown p ≡ front ++ e ∷ rest → is_need front e ≡ true
-      → IsFed grown p front rest e
+      → events_in grown p ≡ front ++ e ∷ rest → is_need front e ≡ true → IsFed grown p front rest e
   feed grown p front rest e is need =
       let all = all_streams grown.wholes in
       let i = length front in
@@ -469,7 +449,6 @@ module _ (top : ℕ) (streams : List Stream) where
             }
       ] refl
 
-  -- nothing is needed
   pub record IsComplete : Type 0 where
     pub grown : IsGrown top streams
     pub caused : (q : Pid) → AreCaused [] (events_in grown q)

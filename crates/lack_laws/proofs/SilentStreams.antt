@@ -24,7 +24,6 @@ use Rattle.lack_laws.proofs.InsertedEvents.{reports_of, sound_of, unlisted_event
 
 -- ONE PROCESS MORE
 
--- who is listed
 some_if : (b : Bool) (x : Stream) (o : Option Stream)
     → is_some (cond b (Some x) o) ≡ (b || is_some o)
 some_if true x o = refl
@@ -56,7 +55,6 @@ listed_rest x rest p none =
     elim (pid_eq x.pid p) as (λ b. is_some (cond b (Some x) (stream_of rest p)) ≡ false
     → lists rest p ≡ false) [ true ↦ λ h. absurd (false≢true (sym h)) | false ↦ λ h. h ] none
 
--- the events of each
 pub events_inserted : (q : Pid) (streams : List Stream) → lists streams q ≡ false → (p : Pid)
     → events_of (inserted q streams) p ≡ events_of streams p
 events_inserted q [] none p =
@@ -97,8 +95,7 @@ above_first q x rest none not_below =
     ] refl
 
 all_inserted : (P : Pid → Type 0) (q : Pid) (streams : List Stream) → P q
-    → AllByRecursion P (pids_of streams)
-    → AllByRecursion P (pids_of (inserted q streams))
+    → AllByRecursion P (pids_of streams) → AllByRecursion P (pids_of (inserted q streams))
 all_inserted P q [] one all = (one, tt)
 all_inserted P q (x ∷ rest) one all =
     elim (is_lt (pid_cmp q x.pid)) as (λ b.
@@ -113,8 +110,7 @@ all_above q p [] below all = tt
 all_above q p (r ∷ ps) below all = (IsBelow-trans q p r below all.0, all_above q p ps below all.1)
 
 pub rising_inserted : (q : Pid) (streams : List Stream) → lists streams q ≡ false
-    → IsRising (pids_of streams)
-    → IsRising (pids_of (inserted q streams))
+    → IsRising (pids_of streams) → IsRising (pids_of (inserted q streams))
 rising_inserted q [] none rising = (tt, tt)
 rising_inserted q (x ∷ rest) none rising =
     elim (is_lt (pid_cmp q x.pid)) as (λ b. is_lt (pid_cmp q x.pid) ≡ b
@@ -135,7 +131,6 @@ pub still_listed : (q : Pid) (streams : List Stream) (p : Pid) → lists streams
 still_listed q streams p is =
     lists_inserted q streams p ∙ or_right (pid_eq q p) (lists streams p) is
 
--- pids that are all among others
 AreAmong : List Pid → List Pid → Type 0
 AreAmong pids more = (p : Pid) → is_among pids p ≡ true → is_among more p ≡ true
 

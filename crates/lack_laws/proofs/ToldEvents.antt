@@ -23,7 +23,6 @@ use Rattle.lack_laws.specs.Needs.{HoldsOfNone, is_late, marked_of}
 use Rattle.lack_laws.specs.Silent.{inserted, silent}
 use Rattle.lack_laws.proofs.InsertedEvents.{more}
 
--- every event of these
 abbrev pub events : List Marked → List Event
 events ms = map (λ m. m.event) ms
 
@@ -36,8 +35,7 @@ pub record IsToldAt (ms : List Marked) (i : ℕ) (e : Event) : Type 0 where
   pub before : told_events (take index ms) ≡ take i (told_events ms)
 
 told_more : (m : Marked) (ms : List Marked) (i : ℕ) (e : Event) (b : Bool) → m.told ≡ b
-    → IsToldAt ms i e
-    → IsToldAt (m ∷ ms) (cond b (suc i) i) e
+    → IsToldAt ms i e → IsToldAt (m ∷ ms) (cond b (suc i) i) e
 told_more m ms i e true is at = record {
   index = suc at.index;
   at = at.at;
@@ -145,14 +143,11 @@ pub events_told : (wholes : List Whole) (p : Pid)
     → events_of (told_streams wholes) p ≡ told_events (marked_of wholes p)
 events_told = events_by told_events refl
 
--- a marked event of p is in its whole stream
 pub at_mark : (wholes : List Whole) (p : Pid) (k : ℕ) (m : Marked)
-    → slice_get (marked_of wholes p) k ≡ Some m
-    → event_at (all_streams wholes) p k ≡ Some m.event
+    → slice_get (marked_of wholes p) k ≡ Some m → event_at (all_streams wholes) p k ≡ Some m.event
 at_mark wholes p k m at = ap (λ es. slice_get es k) (events_all wholes p)
     ∙ event_of_mark (marked_of wholes p) k m at
 
--- each told event is one of all
 pub within_told : (top : ℕ) (wholes : List Whole) → IsFull top (all_streams wholes)
     → AreWithin top (told_streams wholes)
 within_told top wholes full p i e at =
@@ -243,7 +238,6 @@ module _ (p : Pid) (i : ℕ) (e : Event) where
 
 -- ONE MORE PROCESS
 
--- a process that did nothing
 abbrev pub silent_whole : Pid → Whole
 silent_whole q = record { pid = q; marked = [] }
 
