@@ -1,6 +1,7 @@
 -- Why the first of candidates is the first of all: each that is so has a candidate at its place.
-use Rattle.std.proofs.Common.{◌≡◌, ◌⊎◌, ℕ, ◌+◌, zero, suc, List, [], ◌∷◌, ◌++◌, Option, Some, None}
-use Rattle.std.proofs.Common.{inl, inr, length, slice_get, sym, ◌∙◌, subst, arith}
+use Rattle.std.proofs.Common.{◌≡◌, ◌⊎◌, ℕ, ◌+◌, ◌<◌, ◌≤◌, zero, suc, List, [], ◌∷◌, ◌++◌, Option}
+use Rattle.std.proofs.Common.{Some, None, inl, inr, length, slice_get, sym, ◌∙◌, subst, arith}
+use Rattle.std.proofs.lemmas.Bool.{cases_lt}
 use Rattle.std.proofs.lemmas.Option.{same_Some}
 use Rattle.st_core.specs.declared.types.Pid.{Pid}
 use Rattle.st_pair.specs.Laws.{IsEarlier}
@@ -16,7 +17,6 @@ pub record IsBeside (a b : PlacedReason) : Type 0 where
   pub pid : a.pid ≡ b.pid
   pub index : a.index ≡ b.index
 
--- what is beside one that isn't earlier isn't earlier
 beside_not_earlier : (a b c : PlacedReason) → IsBeside a b → ¬ IsEarlier b.pid b.index c.pid c.index
     → ¬ IsEarlier a.pid a.index c.pid c.index
 beside_not_earlier a b c beside none earlier = none
@@ -37,8 +37,7 @@ module _ (Is More : PlacedReason → Type 0) where
   -- candidates for all that is so
   pub first_of_all : (least : Option PlacedReason) → ((r : PlacedReason) → Is r → More r)
       → ((r : PlacedReason) → More r → (c : PlacedReason) × Is c × IsBeside r c)
-      → IsEarliest Is least
-      → IsEarliest More least
+      → IsEarliest Is least → IsEarliest More least
   first_of_all None more has none = λ other is. let c = has other is in none c.0 c.1
   first_of_all (Some found) more has first = (
     more found first.0,
@@ -60,8 +59,7 @@ module _ (Is More : PlacedReason → Type 0) where
     ]
 
     pub first_with : (least : Option PlacedReason) (result : PlacedReason)
-        → IsFirstWith least next result
-        → IsEarliest Is least → IsEarliest More (Some result)
+        → IsFirstWith least next result → IsEarliest Is least → IsEarliest More (Some result)
     first_with None result with none = (
       subst More (sym with) here,
       λ other is. elim (less other is) [
@@ -89,6 +87,52 @@ module _ (Is More : PlacedReason → Type 0) where
       )
     ]
 
+-- ONE PLACE MORE
+
+-- a candidate that is so by what is at a place before n
+pub record IsFoundBelow (Is : PlacedReason → Type 0) (place : (r : PlacedReason) → Is r → ℕ)
+    (n : ℕ) (r : PlacedReason) : Type 0 where
+  pub is : Is r
+  pub within : place r is < n
+
+module _ (Is : PlacedReason → Type 0) (place : (r : PlacedReason) → Is r → ℕ) where
+  abbrev Below : ℕ → PlacedReason → Type 0
+  Below n r = IsFoundBelow Is place n r
+
+  pub found_wider : (m n : ℕ) (r : PlacedReason) → m ≤ n → Below m r → Below n r
+  found_wider m n r wide c =
+      record { is = c.is; within = let less = c.within in omega (arith, less, wide) }
+
+  below_or : (n : ℕ) (r : PlacedReason) (c : Below (n + 1) r) → Below n r ⊎ (place r c.is ≡ n)
+  below_or n r c = elim (cases_lt (place r c.is) n) [
+    | inl less ↦ inl (record { is = c.is; within = less })
+    | inr high ↦ let within = c.within in inr (omega (arith, within, high))
+  ]
+
+  module _ (n : ℕ) (least : Option PlacedReason) (first : IsEarliest (Below n) least) where
+    older : (r : PlacedReason) → Below n r → Below (n + 1) r
+    older r = found_wider n (n + 1) r (omega arith)
+
+    pub found_still : ((r : PlacedReason) (c : Is r) → place r c ≡ n → ⊥)
+        → IsEarliest (Below (n + 1)) least
+    found_still none = first_still (Below n) (Below (n + 1)) least older
+        (λ r c. elim (below_or n r c) [
+          | inl old ↦ old
+          | inr new ↦ absurd (none r c.is new)
+        ]) first
+
+    pub found_more : (rank : ℕ) → ((r : PlacedReason) → Is r → reason_rank r.never ≡ rank)
+        → (next result : PlacedReason) (here : Is next) → place next here ≡ n
+        → ((r : PlacedReason) (c : Is r) → place r c ≡ n → IsBeside r next)
+        → IsFirstWith least next result → IsEarliest (Below (n + 1)) (Some result)
+    found_more rank ranked next result here at beside with =
+        first_with (Below n) (Below (n + 1)) rank next (λ r c. ranked r c.is) (ranked next here)
+        (record { is = here; within = omega (arith, at) }) older
+        (λ r c. elim (below_or n r c) [
+          | inl old ↦ inl old
+          | inr new ↦ inr (beside r c.is new)
+        ]) least result with first
+
 -- THE FIRST OF VERDICTS
 
 get_either : {A : Type 0} (xs : List A) (y : A) (k : ℕ) (x : A)
@@ -110,8 +154,7 @@ module _ (verdicts : List (Option PlacedReason)) where
   among_last r = record { place = length verdicts; at = at_seam verdicts [] (Some r) }
 
   among_either : (next : Option PlacedReason) (r : PlacedReason)
-      → IsVerdictAmong (verdicts ++ next ∷ []) r
-      → IsVerdictAmong verdicts r ⊎ (next ≡ Some r)
+      → IsVerdictAmong (verdicts ++ next ∷ []) r → IsVerdictAmong verdicts r ⊎ (next ≡ Some r)
   among_either next r a = elim (get_either verdicts next a.place (Some r) a.at) [
     | inl old ↦ inl (record { place = a.place; at = old })
     | inr new ↦ inr new
@@ -148,7 +191,7 @@ module _ (verdicts : List (Option PlacedReason)) where
       ⊎ ((result ≡ next) × ComesBefore next found)
       → IsFirstAmong (verdicts ++ Some next ∷ []) (Some result)
   first_and_next found next result first (inl kept) =
-      subst (λ (r : PlacedReason). IsFirstAmong (verdicts ++ Some next ∷ []) (Some r)) (sym kept.0) (
+      subst (λ r. IsFirstAmong (verdicts ++ Some next ∷ []) (Some r)) (sym kept.0) (
         among_more (Some next) found first.0,
         λ other a. elim (among_either (Some next) other a) [
           | inl old ↦ first.1 other old
@@ -157,7 +200,7 @@ module _ (verdicts : List (Option PlacedReason)) where
         ],
       )
   first_and_next found next result first (inr new) =
-      subst (λ (r : PlacedReason). IsFirstAmong (verdicts ++ Some next ∷ []) (Some r)) (sym new.0) (
+      subst (λ r. IsFirstAmong (verdicts ++ Some next ∷ []) (Some r)) (sym new.0) (
         among_last next,
         λ other a. elim (among_either (Some next) other a) [
           | inl old ↦ not_before other found next (first.1 other old) (not_both next found new.1)

@@ -2,7 +2,7 @@
 -- lower, and the first one that a walk meets is the lowest, since counts rise.
 use Rattle.std.proofs.Common.{◌≡◌, ◌⊎◌, ℕ, ◌<◌, ◌≤◌, ◌+◌, zero, Bool, true, false, List, Option}
 use Rattle.std.proofs.Common.{Some, None, inl, inr, slice_get, refl, sym, ◌∙◌, ap, subst, arith}
-use Rattle.std.proofs.lemmas.Bool.{cases_lt, false≢true}
+use Rattle.std.proofs.lemmas.Bool.{cases_lt, cases_order, false≢true}
 use Rattle.std.proofs.lemmas.Option.{same_Some}
 use Rattle.st_core.specs.declared.types.Pid.{Pid}
 use Rattle.st_core.specs.declared.types.Event.{Event}
@@ -16,13 +16,13 @@ use Rattle.lack_pieces.specs.declared.placed_reason.PlacedReason.{PlacedReason}
 use Rattle.lack_pieces.specs.declared.unfounded_events.Lowest.{Lowest}
 use Rattle.lack_pieces.specs.Firsts.{HoldsOfRank, IsEarliest, IsFirstOfRank, IsFirstWith}
 use Rattle.lack_pieces.specs.Firsts.{StampsRise}
-use Rattle.lack_pieces.specs.Lowest.{IsKnownBelow, IsLowest, IsLowestIn}
-use Rattle.lack_pieces.specs.Lowest.{IsReceiptCounted, IsStampCounted, IsUnfoundedReceipt}
-use Rattle.lack_pieces.specs.Lowest.{IsUnfoundedStamp}
+use Rattle.lack_pieces.specs.Lowest.{IsKnownBelow, IsLowest, IsLowestIn, IsReceiptCounted}
+use Rattle.lack_pieces.specs.Lowest.{IsStampCounted, IsUnfoundedReceipt, IsUnfoundedStamp}
 use Rattle.lack_pieces.specs.Pieces.{Piece}
 use Rattle.lack_pieces.specs.Reasons.{own_streams, HasStampBelow, IsAgainstIn}
 use Rattle.lack_pieces.specs.Verdicts.{AreInOrder, ComesBefore}
-use Rattle.lack_pieces.proofs.Candidates.{first_of_all, first_still, first_with, IsBeside}
+use Rattle.lack_pieces.proofs.Candidates.{first_of_all, found_more, found_still, IsBeside}
+use Rattle.lack_pieces.proofs.Candidates.{IsFoundBelow}
 use Rattle.lack_pieces.proofs.Order.{not_earlier, not_earlier_back}
 use Rattle.lack_pieces.proofs.Readings.{own_events}
 use Rattle.lack_pieces.proofs.ReceivedCounts.{counts_climb, reason_at}
@@ -99,7 +99,6 @@ module _ (piece : Piece) (lowest : Lowest) (is : IsLowestIn piece lowest) (e : E
 -- THE FIRST UNFOUNDED EVENT
 
 module _ (top : ℕ) (piece : Piece) where
-  -- of either sort
   abbrev pub IsEither : PlacedReason → Type 0
   IsEither r = IsUnfoundedStamp piece r ⊎ IsUnfoundedReceipt piece r
 
@@ -140,13 +139,7 @@ module _ (top : ℕ) (piece : Piece) where
         | inr both ↦ elim both.0 [
           | inl stamp ↦ (
             c,
-            inl (record {
-              event = h.event;
-              own = stamp;
-              zero = x.0;
-              why = inr both.1;
-              is = refl;
-            }),
+            inl (record { event = h.event; own = stamp; zero = x.0; why = inr both.1; is = refl }),
             beside,
           )
           | inr hidden ↦ (
@@ -242,10 +235,12 @@ IsReceived es i false = (j : ℕ) (f : Event) → j < i → slice_get es j ≡ S
 abbrev pub IsFoundedBelow : Piece → ℕ → Type 0
 IsFoundedBelow piece i = (other : PlacedReason) → IsUnfoundedStamp piece other → other.index < i → ⊥
 
+abbrev pub receipt_place : (piece : Piece) (r : PlacedReason) → IsUnfoundedReceipt piece r → ℕ
+receipt_place piece r t = t.hidden.0.place
+
 -- the receipt of an unfounded send that nobody reported is before place n
-pub record IsUnfoundedBelow (piece : Piece) (n : ℕ) (found : PlacedReason) : Type 0 where
-  pub is : IsUnfoundedReceipt piece found
-  pub within : is.hidden.0.place < n
+abbrev pub IsUnfoundedBelow : Piece → ℕ → PlacedReason → Type 0
+IsUnfoundedBelow piece n r = IsFoundBelow (IsUnfoundedReceipt piece) (receipt_place piece) n r
 
 module _ (piece : Piece) (i : ℕ) (e : Event) (at : slice_get piece.events i ≡ Some e) where
   pub received_here : is_stamp e ≡ false → IsReceived piece.events (i + 1) true
@@ -274,8 +269,7 @@ module _ (piece : Piece) (i : ℕ) (e : Event) (at : slice_get piece.events i �
       let there = subst (λ es. slice_get es h.1 ≡ Some h.2) (own_events piece) h.4 in
       false≢true (sym h.5 ∙ none h.1 h.2 h.3 there)
 
-  pub founded_more : IsFoundedBelow piece i
-      → (is_stamp e ≡ true → e.serial.prev ≡ 0
+  pub founded_more : IsFoundedBelow piece i → (is_stamp e ≡ true → e.serial.prev ≡ 0
       → ¬ (IsAfterReceive (own_streams piece) piece.pid i e ⊎ HasStampBelow piece e))
       → IsFoundedBelow piece (i + 1)
   founded_more before here other s less = elim (cases_lt other.index i) [
@@ -302,22 +296,18 @@ no_lower : {A : Type 0} (Counts : A → Type 0) (count prev : A → ℕ) (xs : L
     → ((k : ℕ) (y : A) → k < i → slice_get xs k ≡ Some y → Counts y → prev y ≡ 0)
     → ((k : ℕ) (y : A) → i < k → slice_get xs k ≡ Some y → Counts y → count x ≤ count y)
     → (k : ℕ) (y : A) → slice_get xs k ≡ Some y → Counts y → 0 < prev y → count x ≤ count y
-no_lower Counts count prev xs i x at none climb k y there counts above = elim (cases_lt k i) [
-  | inl less ↦ let zero_prev = none k y less there counts in absurd (omega (arith, zero_prev, above))
-  | inr high ↦ elim (cases_lt i k) [
-    | inl less ↦ climb k y less there counts
-    | inr equal ↦
-        let one : i ≡ k = omega (arith, high, equal) in
-        let same = ap count (same_Some x y (sym at ∙ ap (slice_get xs) one ∙ there)) in
-        omega (arith, same)
-  ]
+no_lower Counts count prev xs i x at none climb k y there counts above = elim (cases_order i k) [
+  | inl one ↦
+      omega (arith, ap count (same_Some x y (sym at ∙ ap (slice_get xs) one ∙ there)))
+  | inr (inl less) ↦ climb k y less there counts
+  | inr (inr less) ↦
+      absurd (omega (arith, none k y less there counts, above))
 ]
 
 pub lowest_stamp : (es : List Event) (i : ℕ) (e : Event) → StampsRise es → slice_get es i ≡ Some e
     → is_stamp e ≡ true → 0 < e.serial.prev
     → ((k : ℕ) (f : Event) → k < i → slice_get es k ≡ Some f → is_stamp f ≡ true
-    → f.serial.prev ≡ 0)
-    → IsLowest (IsStampCounted es) (Some e.serial.this)
+    → f.serial.prev ≡ 0) → IsLowest (IsStampCounted es) (Some e.serial.this)
 lowest_stamp es i e rise at stamps above none = (
   record { place = i; event = e; at = at; stamps = stamps; above = above; is = refl },
   λ count s.
@@ -346,66 +336,43 @@ lowest_receipt rs i r order at above none = (
 
 -- ONE RECEIPT MORE
 
-pub below_ranked : (piece : Piece) (n : ℕ) (r : PlacedReason) → IsUnfoundedBelow piece n r
-    → reason_rank r.never ≡ 5
-below_ranked piece n r u = ap reason_rank u.is.is
-
 module _ (piece : Piece) (n : ℕ) (receipt : Receipt)
     (at : slice_get piece.receipts n ≡ Some receipt) (least : Option PlacedReason)
     (first : IsEarliest (IsUnfoundedBelow piece n) least) where
-  older : (r : PlacedReason) → IsUnfoundedBelow piece n r → IsUnfoundedBelow piece (n + 1) r
-  older r u = record { is = u.is; within = let less = u.within in omega (arith, less) }
-
-  -- one of those before, or the receipt
-  older_or : (r : PlacedReason) (u : IsUnfoundedBelow piece (n + 1) r)
-      → IsUnfoundedBelow piece n r ⊎ (record { pid = r.pid; index = r.index; event = u.is.event }
-      ≡ receipt)
-  older_or r u = elim (cases_lt u.is.hidden.0.place n) [
-    | inl less ↦ inl (record { is = u.is; within = less })
-    | inr high ↦
-        let within = u.within in
-        let one : u.is.hidden.0.place ≡ n = omega (arith, within, high) in
-        let here : Receipt = record { pid = r.pid; index = r.index; event = u.is.event } in
-        inr (same_Some here receipt (sym u.is.hidden.0.at ∙ ap (slice_get piece.receipts) one ∙ at))
-  ]
+  at_it : (r : PlacedReason) (t : IsUnfoundedReceipt piece r) → t.hidden.0.place ≡ n
+      → record { pid = r.pid; index = r.index; event = t.event } ≡ receipt
+  at_it r t one =
+      let here : Receipt = record { pid = r.pid; index = r.index; event = t.event } in
+      same_Some here receipt (sym t.hidden.0.at ∙ ap (slice_get piece.receipts) one ∙ at)
 
   pub unfounded_still : (receipt.event.serial.prev ≡ 0
       → stamp_of (own_streams piece) piece.pid receipt.event.serial.this ≡ None
-      → ¬ HasStampBelow piece receipt.event)
-      → IsEarliest (IsUnfoundedBelow piece (n + 1)) least
-  unfounded_still none = first_still (IsUnfoundedBelow piece n) (IsUnfoundedBelow piece (n + 1))
-      least older (λ r u. elim (older_or r u) [
-        | inl old ↦ old
-        | inr same ↦
-            let event : u.is.event ≡ receipt.event = ap (λ (x : Receipt). x.event) same in
-            absurd (none (ap (λ (x : Event). x.serial.prev) (sym event) ∙ u.is.zero)
-            (subst (λ (x : Event). stamp_of (own_streams piece) piece.pid x.serial.this ≡ None)
-            event u.is.hidden.1)
-            (subst (λ (x : Event). HasStampBelow piece x) event u.is.behind))
-      ]) first
+      → ¬ HasStampBelow piece receipt.event) → IsEarliest (IsUnfoundedBelow piece (n + 1)) least
+  unfounded_still none =
+      found_still (IsUnfoundedReceipt piece) (receipt_place piece) n least first (λ r t one.
+      let event : t.event ≡ receipt.event = ap (λ (x : Receipt). x.event) (at_it r t one) in
+      none (ap (λ (x : Event). x.serial.prev) (sym event) ∙ t.zero)
+      (subst (λ (x : Event). stamp_of (own_streams piece) piece.pid x.serial.this ≡ None)
+      event t.hidden.1)
+      (subst (λ (x : Event). HasStampBelow piece x) event t.behind))
 
   pub unfounded_more : (next result : PlacedReason) → receipt.event.serial.prev ≡ 0
       → stamp_of (own_streams piece) piece.pid receipt.event.serial.this ≡ None
       → HasStampBelow piece receipt.event → next ≡ reason_at receipt never.Unfounded
       → IsFirstWith least next result → IsEarliest (IsUnfoundedBelow piece (n + 1)) (Some result)
   unfounded_more next result zero_prev hidden behind is with =
-      let more : IsUnfoundedBelow piece (n + 1) (reason_at receipt never.Unfounded) = record {
-        is = record {
-          event = receipt.event;
-          hidden = (record { place = n; at = at }, hidden);
-          zero = zero_prev;
-          behind = behind;
-          is = refl;
-        };
-        within = omega arith;
+      let here : IsUnfoundedReceipt piece (reason_at receipt never.Unfounded) = record {
+        event = receipt.event;
+        hidden = (record { place = n; at = at }, hidden);
+        zero = zero_prev;
+        behind = behind;
+        is = refl;
       } in
-      first_with (IsUnfoundedBelow piece n) (IsUnfoundedBelow piece (n + 1)) 5 next
-      (below_ranked piece n) (ap (λ (x : PlacedReason). reason_rank x.never) is)
-      (subst (IsUnfoundedBelow piece (n + 1)) (sym is) more) older
-      (λ r u. elim (older_or r u) [
-        | inl old ↦ inl old
-        | inr same ↦ inr (record {
-          pid = ap (λ (x : Receipt). x.pid) same ∙ sym (ap (λ (x : PlacedReason). x.pid) is);
-          index = ap (λ (x : Receipt). x.index) same ∙ sym (ap (λ (x : PlacedReason). x.index) is);
-        })
-      ]) least result with first
+      subst (λ (r : PlacedReason). IsFirstWith least r result
+      → IsEarliest (IsUnfoundedBelow piece (n + 1)) (Some result)) (sym is)
+      (found_more (IsUnfoundedReceipt piece) (receipt_place piece) n least first 5
+      (λ r t. ap reason_rank t.is) (reason_at receipt never.Unfounded) result here refl
+      (λ r t one. let same = at_it r t one in record {
+        pid = ap (λ (x : Receipt). x.pid) same;
+        index = ap (λ (x : Receipt). x.index) same;
+      })) with

@@ -2,7 +2,7 @@
 -- there each kind names one other place.
 use Rattle.std.proofs.Common.{◌≡◌, ℕ, List, Option, Some, None}
 use Rattle.std.proofs.Common.{inl, inr, refl, sym, ◌∙◌, ap, subst, arith}
-use Rattle.std.proofs.lemmas.Bool.{cases_lt}
+use Rattle.std.proofs.lemmas.Bool.{cases_order}
 use Rattle.std.proofs.lemmas.Option.{same_Some}
 use Rattle.std.specs.declared.cmp.Ordering.TheVariants.{Less, Equal, Greater}
 use Rattle.std.specs.Ordering.{ordering_reverse}
@@ -26,20 +26,16 @@ use Rattle.lack_pieces.proofs.Walks.{kind_of, IsOfKind}
 
 -- ONE PLACE
 
--- two places of which neither is earlier are one
-one_place : (q p : Pid) (j i : ℕ) → ¬ IsEarlier q j p i → ¬ IsEarlier p i q j
-    → (q ≡ p) × (j ≡ i)
+one_place : (q p : Pid) (j i : ℕ) → ¬ IsEarlier q j p i → ¬ IsEarlier p i q j → (q ≡ p) × (j ≡ i)
 one_place q p j i first second = elim (pid_cmp q p) as (λ o. pid_cmp q p ≡ o → (q ≡ p) × (j ≡ i)) [
   | Less ↦ λ is. absurd (first (inl is))
   | Equal ↦ λ is.
       let same = pid_cmp-Equal q p is in (
         same,
-        elim (cases_lt j i) [
-          | inl less ↦ absurd (first (inr (same, less)))
-          | inr high ↦ elim (cases_lt i j) [
-            | inl less ↦ absurd (second (inr (sym same, less)))
-            | inr low ↦ omega (arith, high, low)
-          ]
+        elim (cases_order j i) [
+          | inl one ↦ one
+          | inr (inl less) ↦ absurd (first (inr (same, less)))
+          | inr (inr less) ↦ absurd (second (inr (sym same, less)))
         ],
       )
   | Greater ↦ λ is. absurd (second (inl (pid_total.antisymm p q ∙ ap ordering_reverse is)))
@@ -47,12 +43,10 @@ one_place q p j i first second = elim (pid_cmp q p) as (λ o. pid_cmp q p ≡ o 
 
 one_last : (streams : List Stream) (p : Pid) (i : ℕ) (Is : Event → Type 0) (j k : ℕ)
     → IsLast streams p i Is j → IsLast streams p i Is k → j ≡ k
-one_last streams p i Is j k a b = elim (cases_lt j k) [
-  | inl less ↦ absurd (a.last k b.event less b.before b.at b.is)
-  | inr high ↦ elim (cases_lt k j) [
-    | inl less ↦ absurd (b.last j a.event less a.before a.at a.is)
-    | inr low ↦ omega (arith, high, low)
-  ]
+one_last streams p i Is j k a b = elim (cases_order j k) [
+  | inl one ↦ one
+  | inr (inl less) ↦ absurd (a.last k b.event less b.before b.at b.is)
+  | inr (inr less) ↦ absurd (b.last j a.event less a.before a.at a.is)
 ]
 
 -- ONE REASON
@@ -108,8 +102,7 @@ module _ (top : ℕ) (streams : List Stream) where
         sym (subst (λ (n : ℕ). IsOfKind n b) (sym rank) (kind_of b))
 
   one_first : (p q : Pid) (i j : ℕ) (a b : Never) → IsFirstReason top streams p i a
-      → IsFirstReason top streams q j b
-      → placed p i a ≡ placed q j b
+      → IsFirstReason top streams q j b → placed p i a ≡ placed q j b
   one_first p q i j a b x y =
       let low = x.first b q j y.event y.at y.holds in
       let high = y.first a p i x.event x.at x.holds in

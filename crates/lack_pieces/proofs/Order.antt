@@ -80,7 +80,6 @@ module _ (a b : PlacedReason) where
 
 -- WHAT DOESN'T COME BEFORE
 
--- in a total order
 not_less : {K : Type 0} (R : K → K → Ordering) → IsTotalOrder R → (x y z : K)
     → ¬ (R x y ≡ Less) → ¬ (R y z ≡ Less) → ¬ (R x z ≡ Less)
 not_less {K} R total x y z first second less = elim (R x y) as (λ o. R x y ≡ o → ⊥) [
@@ -97,13 +96,11 @@ not_before a b c first second before = not_less reason_cmp reason_total a b c
     (if_before a c before)
 
 pub not_earlier : (a b c : PlacedReason) → ¬ IsEarlier a.pid a.index b.pid b.index
-    → ¬ IsEarlier b.pid b.index c.pid c.index
-    → ¬ IsEarlier a.pid a.index c.pid c.index
+    → ¬ IsEarlier b.pid b.index c.pid c.index → ¬ IsEarlier a.pid a.index c.pid c.index
 not_earlier a b c first second earlier = not_less place_cmp place_total a b c
     (λ less. first (earlier_if a b less)) (λ less. second (earlier_if b c less))
     (if_earlier a c earlier)
 
--- of two of which one comes before the other, the other doesn't
 pub not_both : (a b : PlacedReason) → ComesBefore a b → ¬ ComesBefore b a
 not_both a b before after =
     let back : reason_cmp a b ≡ Greater =

@@ -55,7 +55,6 @@ none_if (Some x) h = absurd (cc)
 
 -- A PIECE OF STREAMS
 
--- the events of the process alone
 pub own_events : (piece : Piece) → events_of (own_streams piece) piece.pid ≡ piece.events
 own_events piece =
     let own : Stream = record { pid = piece.pid; events = piece.events } in

@@ -1,10 +1,10 @@
 -- Why one walk over the receipts finds what repeats, and what isn't the send of a receipt: receipts
 -- of one count are next to each other, and the sends and prints come in the order of the counts
 -- too.
-use Rattle.std.proofs.Common.{◌≡◌, ◌⊎◌, ℕ, ◌<◌, ◌≤◌, ◌+◌, ◌-◌, ◌==◌, ◌&&◌, zero, suc, true, false}
+use Rattle.std.proofs.Common.{◌≡◌, ℕ, ◌<◌, ◌≤◌, ◌+◌, ◌-◌, ◌==◌, ◌&&◌, zero, suc, true, false}
 use Rattle.std.proofs.Common.{cond, List, [], ◌∷◌, Option, Some, None, inl, inr, length, slice_get}
 use Rattle.std.proofs.Common.{refl, sym, ◌∙◌, ap, subst, arith}
-use Rattle.std.proofs.lemmas.Bool.{and_from, and_parts, cases_lt, eq-eqb, eqb-true}
+use Rattle.std.proofs.lemmas.Bool.{and_from, and_parts, cases_lt, cases_order, eq-eqb, eqb-true}
 use Rattle.std.proofs.lemmas.Option.{same_Some, slice_get_within}
 use Rattle.st_core.specs.declared.types.Pid.{Pid}
 use Rattle.st_core.specs.declared.types.Event.{Event}
@@ -22,14 +22,14 @@ use Rattle.lack_pieces.specs.Firsts.{HoldsOfRank, IsEarliest, IsFirstWith, IsNex
 use Rattle.lack_pieces.specs.Pieces.{Piece}
 use Rattle.lack_pieces.specs.Reasons.{own_streams}
 use Rattle.lack_pieces.specs.Verdicts.{AreInOrder}
-use Rattle.lack_pieces.proofs.Candidates.{first_still, first_with, not_before_itself, IsBeside}
+use Rattle.lack_pieces.proofs.Candidates.{found_more, found_still, not_before_itself, IsBeside}
+use Rattle.lack_pieces.proofs.Candidates.{IsFoundBelow}
 use Rattle.lack_pieces.proofs.Order.{not_earlier_back}
 use Rattle.lack_pieces.proofs.Readings.{own_events}
 use Rattle.lack_pieces.proofs.Walks.{mismatch, repeated}
 
 -- RECEIPTS IN ORDER
 
--- before something in a list there is something
 pub at_before : {A : Type 0} (xs : List A) (j k : ℕ) (x : A) → j < k → slice_get xs k ≡ Some x
     → (y : A) × (slice_get xs j ≡ Some y)
 at_before [] j k x less at = absurd (cc)
@@ -45,13 +45,21 @@ counts_climb receipts order j k a b less at there = elim (order j k a b less at 
   | inr both ↦ let same = both.0 in omega (arith, same)
 ]
 
--- the reason at the place of a receipt
 abbrev pub reason_at : Receipt → Never → PlacedReason
 reason_at r reason = record { pid = r.pid; index = r.index; never = reason }
 
 -- what a walk names past the end
 abbrev pub blank_receipt : Receipt
 blank_receipt = record { pid = record { node = 0; number = 0 }; index = 0; event = blank }
+
+beside_at : (a b : PlacedReason) (r s : Receipt) (x y : Never) → a ≡ reason_at r x
+    → b ≡ reason_at s y → r ≡ s → IsBeside a b
+beside_at a b r s x y first second same = record {
+  pid = ap (λ (x : PlacedReason). x.pid) first ∙ ap (λ (x : Receipt). x.pid) same
+      ∙ sym (ap (λ (x : PlacedReason). x.pid) second);
+  index = ap (λ (x : PlacedReason). x.index) first ∙ ap (λ (x : Receipt). x.index) same
+      ∙ sym (ap (λ (x : PlacedReason). x.index) second);
+}
 
 -- WHAT REPEATS
 
@@ -67,20 +75,12 @@ pub record IsRepeat (receipts : List Receipt) (found : PlacedReason) : Type 0 wh
   pub same : before.event.serial.this ≡ receipt.event.serial.this
   pub is : found ≡ reason_at receipt (never.Repeated before.pid before.index)
 
+abbrev pub repeat_place : (receipts : List Receipt) (r : PlacedReason) → IsRepeat receipts r → ℕ
+repeat_place receipts r c = c.place
+
 -- and the receipt is before place n
-pub record IsRepeatBelow (receipts : List Receipt) (n : ℕ) (found : PlacedReason) : Type 0 where
-  pub repeat : IsRepeat receipts found
-  pub within : repeat.place < n
-
-pub repeat_ranked : (receipts : List Receipt) (n : ℕ) (r : PlacedReason)
-    → IsRepeatBelow receipts n r
-    → reason_rank r.never ≡ 2
-repeat_ranked receipts n r c = ap (λ (x : PlacedReason). reason_rank x.never) c.repeat.is
-
-pub repeat_widened : (receipts : List Receipt) (m n : ℕ) (r : PlacedReason) → m ≤ n
-    → IsRepeatBelow receipts m r → IsRepeatBelow receipts n r
-repeat_widened receipts m n r wide c =
-    record { repeat = c.repeat; within = let less = c.within in omega (arith, less, wide) }
+abbrev pub IsRepeatBelow : List Receipt → ℕ → PlacedReason → Type 0
+IsRepeatBelow receipts n r = IsFoundBelow (IsRepeat receipts) (repeat_place receipts) n r
 
 module _ (top : ℕ) (piece : Piece) (order : AreInOrder piece.receipts) where
   repeat_earlier : (r : PlacedReason) (c : IsRepeat piece.receipts r)
@@ -94,7 +94,7 @@ module _ (top : ℕ) (piece : Piece) (order : AreInOrder piece.receipts) where
   pub repeat_holds : (n : ℕ) (r : PlacedReason) → IsRepeatBelow piece.receipts n r
       → HoldsOfRank top piece 2 r
   repeat_holds n r below =
-      let c = below.repeat in
+      let c = below.is in
       subst (HoldsOfRank top piece 2) (sym c.is) (record {
         event = c.receipt.event;
         holds = (
@@ -111,21 +111,17 @@ module _ (top : ℕ) (piece : Piece) (order : AreInOrder piece.receipts) where
   behind : (j k : ℕ) (a b : Receipt) → slice_get piece.receipts j ≡ Some a
       → slice_get piece.receipts k ≡ Some b → a.event.serial.this ≡ b.event.serial.this
       → IsEarlier a.pid a.index b.pid b.index → j < k
-  behind j k a b at there same earlier = elim (cases_lt j k) [
-    | inl less ↦ less
-    | inr high ↦ elim (cases_lt k j) [
-      | inl less ↦ absurd (elim (order k j b a less there at) [
-        | inl lower ↦ omega (arith, lower, same)
-        | inr both ↦ not_earlier_back (reason_at a never.TooHigh) (reason_at b never.TooHigh)
-            earlier both.1
-      ])
-      | inr low ↦
-          let one : j ≡ k = omega (arith, high, low) in
-          let receipt = same_Some a b (sym at
-          ∙ ap (slice_get piece.receipts) one ∙ there) in
-          absurd (not_before_itself (reason_at b never.TooHigh)
-          (subst (λ (r : Receipt). IsEarlier r.pid r.index b.pid b.index) receipt earlier))
-    ]
+  behind j k a b at there same earlier = elim (cases_order j k) [
+    | inl one ↦
+        let receipt = same_Some a b (sym at ∙ ap (slice_get piece.receipts) one ∙ there) in
+        absurd (not_before_itself (reason_at b never.TooHigh)
+        (subst (λ (r : Receipt). IsEarlier r.pid r.index b.pid b.index) receipt earlier))
+    | inr (inl less) ↦ less
+    | inr (inr less) ↦ absurd (elim (order k j b a less there at) [
+      | inl lower ↦ omega (arith, lower, same)
+      | inr both ↦ not_earlier_back (reason_at a never.TooHigh) (reason_at b never.TooHigh)
+          earlier both.1
+    ])
   ]
 
   -- the one before a receipt has its count, if an earlier one has
@@ -136,8 +132,7 @@ module _ (top : ℕ) (piece : Piece) (order : AreInOrder piece.receipts) where
       let climbs = counts_climb piece.receipts order k (suc k) b c (omega arith) there last in
       elim (cases_lt j k) [
         | inl before ↦
-            let low = counts_climb piece.receipts order j k a b before at there in
-            omega (arith, low, climbs, same)
+            omega (arith, counts_climb piece.receipts order j k a b before at there, climbs, same)
         | inr high ↦
             let one : j ≡ k = omega (arith, less, high) in
             let receipt = same_Some a b (sym at ∙ ap (slice_get piece.receipts) one ∙ there) in
@@ -145,8 +140,7 @@ module _ (top : ℕ) (piece : Piece) (order : AreInOrder piece.receipts) where
       ]
 
   repeat_at : (r : PlacedReason) (here first : Receipt) (k j : ℕ)
-      → slice_get piece.receipts k ≡ Some here
-      → slice_get piece.receipts j ≡ Some first
+      → slice_get piece.receipts k ≡ Some here → slice_get piece.receipts j ≡ Some first
       → first.event.serial.this ≡ here.event.serial.this → here.pid ≡ r.pid
       → here.index ≡ r.index → j < k
       → (c : PlacedReason) × IsRepeatBelow piece.receipts (length piece.receipts) c × IsBeside r c
@@ -155,7 +149,7 @@ module _ (top : ℕ) (piece : Piece) (order : AreInOrder piece.receipts) where
       let before = at_before piece.receipts k (suc k) here (omega arith) at in (
         reason_at here (never.Repeated before.0.pid before.0.index),
         record {
-          repeat = record {
+          is = record {
             first = k;
             place = suc k;
             next = omega arith;
@@ -185,63 +179,38 @@ module _ (receipts : List Receipt) (i : ℕ) (before receipt : Receipt) (positiv
     (at_first : slice_get receipts (i - 1) ≡ Some before)
     (at : slice_get receipts i ≡ Some receipt) (least : Option PlacedReason)
     (first : IsEarliest (IsRepeatBelow receipts i) least) where
-  older : (r : PlacedReason) → IsRepeatBelow receipts i r → IsRepeatBelow receipts (i + 1) r
-  older r = repeat_widened receipts i (i + 1) r (omega arith)
-
-  -- one of those before, or the receipt and the one before it
-  older_or : (r : PlacedReason) (c : IsRepeatBelow receipts (i + 1) r)
-      → IsRepeatBelow receipts i r ⊎ ((c.repeat.before ≡ before) × (c.repeat.receipt ≡ receipt))
-  older_or r below = let c = below.repeat in elim (cases_lt c.place i) [
-    | inl less ↦ inl (record { repeat = c; within = less })
-    | inr high ↦
-        let within = below.within in
-        let next = c.next in
-        let one : c.place ≡ i = omega (arith, within, high) in
-        let two : c.first ≡ i - 1 = omega (arith, next, one, positive) in
-        inr (
-          same_Some c.before before
-              (sym c.at_first ∙ ap (slice_get receipts) two ∙ at_first),
-          same_Some c.receipt receipt (sym c.at ∙ ap (slice_get receipts) one ∙ at),
-        )
-  ]
+  at_both : (r : PlacedReason) (c : IsRepeat receipts r) → c.place ≡ i
+      → (c.before ≡ before) × (c.receipt ≡ receipt)
+  at_both r c one =
+      let two : c.first ≡ i - 1 = omega (arith, c.next, one, positive) in (
+        same_Some c.before before (sym c.at_first ∙ ap (slice_get receipts) two ∙ at_first),
+        same_Some c.receipt receipt (sym c.at ∙ ap (slice_get receipts) one ∙ at),
+      )
 
   pub repeat_still : (before.event.serial.this ≡ receipt.event.serial.this → ⊥)
       → IsEarliest (IsRepeatBelow receipts (i + 1)) least
-  repeat_still other = first_still (IsRepeatBelow receipts i) (IsRepeatBelow receipts (i + 1)) least
-      older (λ r c. elim (older_or r c) [
-        | inl old ↦ old
-        | inr new ↦ absurd (other (ap (λ (x : Receipt). x.event.serial.this) (sym new.0) ∙ c.repeat.same
-            ∙ ap (λ (x : Receipt). x.event.serial.this) new.1))
-      ]) first
+  repeat_still other = found_still (IsRepeat receipts) (repeat_place receipts) i least first
+      (λ r c one. let new = at_both r c one in
+      other (ap (λ (x : Receipt). x.event.serial.this) (sym new.0) ∙ c.same
+      ∙ ap (λ (x : Receipt). x.event.serial.this) new.1))
 
   pub repeat_more : (next result : PlacedReason)
       → before.event.serial.this ≡ receipt.event.serial.this
       → next ≡ reason_at receipt (never.Repeated before.pid before.index)
       → IsFirstWith least next result → IsEarliest (IsRepeatBelow receipts (i + 1)) (Some result)
   repeat_more next result same is with =
-      first_with (IsRepeatBelow receipts i) (IsRepeatBelow receipts (i + 1)) 2 next
-      (repeat_ranked receipts i) (ap (λ (x : PlacedReason). reason_rank x.never) is) (record {
-        repeat = record {
-          first = i - 1;
-          place = i;
-          next = omega (arith, positive);
-          before = before;
-          receipt = receipt;
-          at_first = at_first;
-          at = at;
-          same = same;
-          is = is;
-        };
-        within = omega arith;
-      }) older (λ r c. elim (older_or r c) [
-        | inl old ↦ inl old
-        | inr new ↦ inr (record {
-          pid = ap (λ (x : PlacedReason). x.pid) c.repeat.is ∙ ap (λ (x : Receipt). x.pid) new.1
-              ∙ sym (ap (λ (x : PlacedReason). x.pid) is);
-          index = ap (λ (x : PlacedReason). x.index) c.repeat.is ∙ ap (λ (x : Receipt). x.index) new.1
-              ∙ sym (ap (λ (x : PlacedReason). x.index) is);
-        })
-      ]) least result with first
+      found_more (IsRepeat receipts) (repeat_place receipts) i least first 2
+      (λ r c. ap (λ (x : PlacedReason). reason_rank x.never) c.is) next result (record {
+        first = i - 1;
+        place = i;
+        next = omega (arith, positive);
+        before = before;
+        receipt = receipt;
+        at_first = at_first;
+        at = at;
+        same = same;
+        is = is;
+      }) refl (λ r c one. beside_at r next c.receipt receipt _ _ c.is is (at_both r c one).1) with
 
 -- THE SEND OR PRINT OF A COUNT
 
@@ -260,8 +229,7 @@ none_first q this i (e ∷ es) none =
 some_first : (q : Pid) (this i n : ℕ) (es : List Event) (e : Event) → slice_get es n ≡ Some e
     → is_stamp e ≡ true → e.serial.this ≡ this
     → ((k : ℕ) (f : Event) → k < n → slice_get es k ≡ Some f → is_stamp f ≡ true
-    → f.serial.this ≡ this → ⊥)
-    → first_from (own_rule this) q i es ≡ Some (i + n, e)
+    → f.serial.this ≡ this → ⊥) → first_from (own_rule this) q i es ≡ Some (i + n, e)
 some_first q this i n [] e at stamps count none = absurd (cc)
 some_first q this i zero (d ∷ es) e at stamps count none =
     let same = same_Some d e at in
@@ -289,8 +257,7 @@ module _ (piece : Piece) where
   HasNone count = (k : ℕ) (f : Event) → slice_get piece.events k ≡ Some f → is_stamp f ≡ true
       → f.serial.this ≡ count → ⊥
 
-  pub stamp_none : (count : ℕ) → HasNone count
-      → stamp_of (own_streams piece) piece.pid count ≡ None
+  pub stamp_none : (count : ℕ) → HasNone count → stamp_of (own_streams piece) piece.pid count ≡ None
   stamp_none count none = ap (λ es. first_from (own_rule count) piece.pid 0 es) (own_events piece)
       ∙ none_first piece.pid count 0 piece.events none
 
@@ -303,7 +270,6 @@ module _ (piece : Piece) where
       let low = rise k n f e less there at first stamps in omega (arith, low, same, is))
       ∙ ap (λ (m : ℕ). Some (m, e)) (let zero_more : 0 + n ≡ n = omega arith in zero_more)
 
-  -- the one that is found is there
   pub stamp_there : (count j : ℕ) (f : Event)
       → stamp_of (own_streams piece) piece.pid count ≡ Some (j, f)
       → (slice_get piece.events j ≡ Some f) × (is_stamp f ≡ true) × (f.serial.this ≡ count)
@@ -324,20 +290,13 @@ module _ (piece : Piece) where
             (eqb-true d.serial.this count both.1),
       )
 
--- two sends or prints of one count are one
 pub one_stamp : (es : List Event) → StampsRise es → (j k : ℕ) (f e : Event)
     → slice_get es j ≡ Some f → slice_get es k ≡ Some e → is_stamp f ≡ true → is_stamp e ≡ true
     → f.serial.this ≡ e.serial.this → f ≡ e
-one_stamp es rise j k f e at there first second same = elim (cases_lt j k) [
-  | inl less ↦ let low = rise j k f e less at there first second in
-      absurd (omega (arith, low, same))
-  | inr high ↦ elim (cases_lt k j) [
-    | inl less ↦ let low = rise k j e f less there at second first in
-        absurd (omega (arith, low, same))
-    | inr low ↦
-        let one : j ≡ k = omega (arith, high, low) in
-        same_Some f e (sym at ∙ ap (slice_get es) one ∙ there)
-  ]
+one_stamp es rise j k f e at there first second same = elim (cases_order j k) [
+  | inl one ↦ same_Some f e (sym at ∙ ap (slice_get es) one ∙ there)
+  | inr (inl less) ↦ absurd (omega (arith, rise j k f e less at there first second, same))
+  | inr (inr less) ↦ absurd (omega (arith, rise k j e f less there at second first, same))
 ]
 
 -- THE NEXT SEND OR PRINT
@@ -363,28 +322,20 @@ module _ (events : List Event) (receipts : List Receipt) (order : AreInOrder rec
   pub passed_next : IsPassed events receipts next (n + 1)
   passed_next k f m r less there stamps after here =
       let low = below_next k f less there stamps in
-      let high = counts_climb receipts order n m receipt r (omega (arith, after)) at here in
-      omega (arith, low, high)
+      omega (arith, low, counts_climb receipts order n m receipt r (omega (arith, after)) at here)
 
   -- if the next one has another count, none has the receipt's
-  pub none_has : StampsRise events
-      → ((f : Event) → slice_get events next ≡ Some f
+  pub none_has : StampsRise events → ((f : Event) → slice_get events next ≡ Some f
       → f.serial.this ≡ receipt.event.serial.this → ⊥)
       → (k : ℕ) (f : Event) → slice_get events k ≡ Some f → is_stamp f ≡ true
       → f.serial.this ≡ receipt.event.serial.this → ⊥
-  none_has rise other k f there stamps same = elim (cases_lt k next) [
-    | inl less ↦ let low = below_next k f less there stamps in omega (arith, low, same)
-    | inr high ↦ elim (cases_lt next k) [
-      | inl less ↦
-          let here = at_before events next k f less there in
-          let stamp = is.here here.0 here.1 in
-          let reaches = stamp.1 in
-          let above = rise next k here.0 f less here.1 there stamp.0 stamps in
-          omega (arith, reaches, above, same)
-      | inr low ↦
-          let one : k ≡ next = omega (arith, high, low) in
-          other f (subst (λ (i : ℕ). slice_get events i ≡ Some f) one there) same
-    ]
+  none_has rise other k f there stamps same = elim (cases_order k next) [
+    | inl one ↦ other f (subst (λ (i : ℕ). slice_get events i ≡ Some f) one there) same
+    | inr (inl less) ↦ omega (arith, below_next k f less there stamps, same)
+    | inr (inr less) ↦
+        let here = at_before events next k f less there in
+        let stamp = is.here here.0 here.1 in
+        omega (arith, stamp.1, rise next k here.0 f less here.1 there stamp.0 stamps, same)
   ]
 
 -- WHAT ISN'T THE SEND OF A RECEIPT
@@ -402,27 +353,18 @@ pub record IsMismatch (piece : Piece) (found : PlacedReason) : Type 0 where
   pub other : ¬ IsSendOf event receipt.event
   pub is : found ≡ reason_at receipt (never.Mismatch piece.pid index)
 
+abbrev pub mismatch_place : (piece : Piece) (r : PlacedReason) → IsMismatch piece r → ℕ
+mismatch_place piece r c = c.place
+
 -- and the receipt is before place n
-pub record IsMismatchBelow (piece : Piece) (n : ℕ) (found : PlacedReason) : Type 0 where
-  pub mismatch : IsMismatch piece found
-  pub within : mismatch.place < n
-
-pub mismatch_ranked : (piece : Piece) (n : ℕ) (r : PlacedReason) → IsMismatchBelow piece n r
-    → reason_rank r.never ≡ 3
-mismatch_ranked piece n r c = ap (λ (x : PlacedReason). reason_rank x.never) c.mismatch.is
-
-pub mismatch_widened : (piece : Piece) (m n : ℕ) (r : PlacedReason) → m ≤ n
-    → IsMismatchBelow piece m r
-    → IsMismatchBelow piece n r
-mismatch_widened piece m n r wide c =
-    record { mismatch = c.mismatch; within = let less = c.within in omega (arith, less, wide) }
+abbrev pub IsMismatchBelow : Piece → ℕ → PlacedReason → Type 0
+IsMismatchBelow piece n r = IsFoundBelow (IsMismatch piece) (mismatch_place piece) n r
 
 module _ (top : ℕ) (piece : Piece) where
   pub mismatch_holds : StampsRise piece.events → (n : ℕ) (r : PlacedReason)
-      → IsMismatchBelow piece n r
-      → HoldsOfRank top piece 3 r
+      → IsMismatchBelow piece n r → HoldsOfRank top piece 3 r
   mismatch_holds rise n r below =
-      let c = below.mismatch in
+      let c = below.is in
       subst (HoldsOfRank top piece 3) (sym c.is) (record {
         event = c.receipt.event;
         holds = (
@@ -445,7 +387,7 @@ module _ (top : ℕ) (piece : Piece) where
       ≡ Some (x.1, x.2.2)) x.2.1 x.2.3) in (
         reason_at receipt (never.Mismatch piece.pid x.1),
         record {
-          mismatch = record {
+          is = record {
             place = x.2.0.place;
             receipt = receipt;
             at = x.2.0.at;
@@ -466,30 +408,18 @@ module _ (top : ℕ) (piece : Piece) where
 module _ (piece : Piece) (n : ℕ) (receipt : Receipt)
     (at : slice_get piece.receipts n ≡ Some receipt) (least : Option PlacedReason)
     (first : IsEarliest (IsMismatchBelow piece n) least) where
-  older_mismatch : (r : PlacedReason) → IsMismatchBelow piece n r → IsMismatchBelow piece (n + 1) r
-  older_mismatch r = mismatch_widened piece n (n + 1) r (omega arith)
-
-  older_mismatch_or : (r : PlacedReason) (c : IsMismatchBelow piece (n + 1) r)
-      → IsMismatchBelow piece n r ⊎ (c.mismatch.receipt ≡ receipt)
-  older_mismatch_or r below = let c = below.mismatch in elim (cases_lt c.place n) [
-    | inl less ↦ inl (record { mismatch = c; within = less })
-    | inr high ↦
-        let within = below.within in
-        let one : c.place ≡ n = omega (arith, within, high) in
-        inr (same_Some c.receipt receipt (sym c.at ∙ ap (slice_get piece.receipts) one ∙ at))
-  ]
+  at_it : (r : PlacedReason) (c : IsMismatch piece r) → c.place ≡ n → c.receipt ≡ receipt
+  at_it r c one =
+      same_Some c.receipt receipt (sym c.at ∙ ap (slice_get piece.receipts) one ∙ at)
 
   -- the process has no send or print of its count but its send
   pub mismatch_still : ((k : ℕ) (f : Event) → slice_get piece.events k ≡ Some f
       → is_stamp f ≡ true → f.serial.this ≡ receipt.event.serial.this
       → ¬ ¬ IsSendOf f receipt.event) → IsEarliest (IsMismatchBelow piece (n + 1)) least
-  mismatch_still none = first_still (IsMismatchBelow piece n) (IsMismatchBelow piece (n + 1)) least
-      older_mismatch (λ r c. elim (older_mismatch_or r c) [
-        | inl old ↦ old
-        | inr same ↦ let m = c.mismatch in absurd (none m.index m.event m.own m.stamps
-            (m.count ∙ ap (λ (x : Receipt). x.event.serial.this) same)
-            (subst (λ (x : Receipt). ¬ IsSendOf m.event x.event) same m.other))
-      ]) first
+  mismatch_still none = found_still (IsMismatch piece) (mismatch_place piece) n least first
+      (λ r m one. let same = at_it r m one in none m.index m.event m.own m.stamps
+      (m.count ∙ ap (λ (x : Receipt). x.event.serial.this) same)
+      (subst (λ (x : Receipt). ¬ IsSendOf m.event x.event) same m.other))
 
   pub mismatch_more : (index : ℕ) (event : Event) (next result : PlacedReason)
       → slice_get piece.events index ≡ Some event → is_stamp event ≡ true
@@ -497,27 +427,16 @@ module _ (piece : Piece) (n : ℕ) (receipt : Receipt)
       → next ≡ reason_at receipt (never.Mismatch piece.pid index) → IsFirstWith least next result
       → IsEarliest (IsMismatchBelow piece (n + 1)) (Some result)
   mismatch_more index event next result own stamps count other is with =
-      first_with (IsMismatchBelow piece n) (IsMismatchBelow piece (n + 1)) 3 next
-      (mismatch_ranked piece n) (ap (λ (x : PlacedReason). reason_rank x.never) is) (record {
-        mismatch = record {
-          place = n;
-          receipt = receipt;
-          at = at;
-          index = index;
-          event = event;
-          own = own;
-          stamps = stamps;
-          count = count;
-          other = other;
-          is = is;
-        };
-        within = omega arith;
-      }) older_mismatch (λ r c. elim (older_mismatch_or r c) [
-        | inl old ↦ inl old
-        | inr same ↦ inr (record {
-          pid = ap (λ (x : PlacedReason). x.pid) c.mismatch.is ∙ ap (λ (x : Receipt). x.pid) same
-              ∙ sym (ap (λ (x : PlacedReason). x.pid) is);
-          index = ap (λ (x : PlacedReason). x.index) c.mismatch.is ∙ ap (λ (x : Receipt). x.index) same
-              ∙ sym (ap (λ (x : PlacedReason). x.index) is);
-        })
-      ]) least result with first
+      found_more (IsMismatch piece) (mismatch_place piece) n least first 3
+      (λ r c. ap (λ (x : PlacedReason). reason_rank x.never) c.is) next result (record {
+        place = n;
+        receipt = receipt;
+        at = at;
+        index = index;
+        event = event;
+        own = own;
+        stamps = stamps;
+        count = count;
+        other = other;
+        is = is;
+      }) refl (λ r c one. beside_at r next c.receipt receipt _ _ c.is is (at_it r c one)) with

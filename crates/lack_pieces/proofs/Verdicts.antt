@@ -26,7 +26,6 @@ use Rattle.lack_pieces.proofs.Order.{not_before}
 use Rattle.lack_pieces.proofs.Readings.{after_in, after_own, in_own, mismatch_in, repeated_in}
 use Rattle.lack_pieces.proofs.Readings.{stands}
 
--- a list of as many as another has something wherever that has
 at_both : {A B : Type 0} (xs : List A) (ys : List B) (k : ℕ) (x : A) → length ys ≡ length xs
     → slice_get xs k ≡ Some x → (y : B) × (slice_get ys k ≡ Some y)
 at_both [] ys k x even at = absurd (cc)

@@ -1,9 +1,8 @@
 -- Reasons of each rank as facts on the events of a piece: a walk that has passed no event with such
 -- a fact finds the first one.
-use Rattle.std.proofs.Common.{◌≡◌, ℕ, ◌<◌, ◌≤◌, ◌+◌, zero, suc, Bool, true, false, List}
-use Rattle.std.proofs.Common.{Option, Some, None}
-use Rattle.std.proofs.Common.{inl, inr, slice_get, refl, sym, ◌∙◌, ap, subst, arith}
-use Rattle.std.proofs.lemmas.Bool.{cases_lt}
+use Rattle.std.proofs.Common.{◌≡◌, ℕ, ◌<◌, ◌≤◌, ◌+◌, zero, suc, Bool, true, false, List, Option}
+use Rattle.std.proofs.Common.{Some, None, inl, inr, slice_get, refl, sym, ◌∙◌, ap, subst, arith}
+use Rattle.std.proofs.lemmas.Bool.{cases_lt, cases_order}
 use Rattle.std.proofs.lemmas.Option.{same_Some}
 use Rattle.st_core.specs.declared.types.Pid.{Pid}
 use Rattle.st_core.specs.declared.types.Event.{Event}
@@ -52,7 +51,6 @@ rank_below never.Unfounded = omega arith
 rank_below never.TooHigh = omega arith
 
 module _ (top : ℕ) (piece : Piece) where
-  -- the reason in a piece, if its kind is known
   of_kind : (rank : ℕ) (r : PlacedReason) → HoldsOfRank top piece rank r → IsOfKind rank r.never
   of_kind rank r h = subst (λ (n : ℕ). IsOfKind n r.never) h.of_rank (kind_of r.never)
 
@@ -114,7 +112,6 @@ module _ (top : ℕ) (piece : Piece) where
         })
       ]
 
-  -- so the first of its rank is the first
   pub first_in : (rank : ℕ) (found : PlacedReason) → HasNoneBelow rank
       → IsFirstOfRank top piece rank (Some found) → IsFirstIn top piece found
   first_in rank found below first = record {
@@ -153,7 +150,6 @@ first_own Is pid found is own here none = (
   ],
 )
 
--- the event at an index is the one there
 pub at_same : (es : List Event) (k : ℕ) (f e : Event) → slice_get es k ≡ Some f
     → slice_get es k ≡ Some e → f ≡ e
 at_same es k f e at there = same_Some f e (sym at ∙ there)
@@ -171,8 +167,7 @@ RiseBelow stamp es n = (j k : ℕ) (f e : Event) → j < k → k < n → slice_g
 pub rise_more : (stamp : Bool) (es : List Event) (n : ℕ) (e : Event) → slice_get es n ≡ Some e
     → RiseBelow stamp es n
     → (is_stamp e ≡ true → (j : ℕ) (f : Event) → j < n → slice_get es j ≡ Some f
-    → is_stamp f ≡ stamp → f.serial.this < e.serial.this)
-    → RiseBelow stamp es (n + 1)
+    → is_stamp f ≡ stamp → f.serial.this < e.serial.this) → RiseBelow stamp es (n + 1)
 rise_more stamp es n e at before here j k f d less within there is first second =
     elim (cases_lt k n) [
       | inl below ↦ before j k f d less below there is first second
@@ -185,12 +180,10 @@ rise_more stamp es n e at before here j k f d less within there is first second 
     ]
 
 module _ (piece : Piece) (k : ℕ) (f : Event) where
-  own_there : slice_get piece.events k ≡ Some f
-      → event_at (own_streams piece) piece.pid k ≡ Some f
+  own_there : slice_get piece.events k ≡ Some f → event_at (own_streams piece) piece.pid k ≡ Some f
   own_there at = subst (λ es. slice_get es k ≡ Some f) (sym (own_events piece)) at
 
-  there_own : event_at (own_streams piece) piece.pid k ≡ Some f
-      → slice_get piece.events k ≡ Some f
+  there_own : event_at (own_streams piece) piece.pid k ≡ Some f → slice_get piece.events k ≡ Some f
   there_own at = subst (λ es. slice_get es k ≡ Some f) (own_events piece) at
 
 module _ (top : ℕ) (piece : Piece) (n : ℕ) where
@@ -203,8 +196,7 @@ module _ (top : ℕ) (piece : Piece) (n : ℕ) where
       let high = k.1.1.2 in
       let at = there_own piece k.0 l.event (subst (λ (q : Pid). event_at (own_streams piece) q k.0
       ≡ Some l.event) own.own l.at) in
-      let low = rise k.0 r.index l.event h.event l.before less at own.at l.is k.1.1.0 in
-      omega (arith, low, high)
+      omega (arith, rise k.0 r.index l.event h.event l.before less at own.at l.is k.1.1.0, high)
 
   pub none_late : RiseBelow false piece.events n → (r : PlacedReason) → HoldsOfRank top piece 4 r
       → r.index < n → ⊥
@@ -215,8 +207,7 @@ module _ (top : ℕ) (piece : Piece) (n : ℕ) where
       let high = l.is.1 in
       let at = there_own piece k.0 l.event (subst (λ (q : Pid). event_at (own_streams piece) q k.0
       ≡ Some l.event) own.own l.at) in
-      let low = rise k.0 r.index l.event h.event l.before less at own.at l.is.0 k.1.1.0 in
-      omega (arith, low, high)
+      omega (arith, rise k.0 r.index l.event h.event l.before less at own.at l.is.0 k.1.1.0, high)
 
 -- the last send or print before an index, with its count
 pub record IsLastStampAt (es : List Event) (i : ℕ) (found : ℕ × ℕ) : Type 0 where
@@ -270,15 +261,12 @@ late_at top piece i e j at stamps l = (
       before = l.before;
       is = (l.receives, l.reaches);
       last = λ k f after within there both.
-          let low = l.last k f after within (there_own piece k f there) both.0 in
-          let high = both.1 in
-          omega (arith, low, high);
+          omega (arith, l.last k f after within (there_own piece k f there) both.0, both.1);
     },
   ),
 )
 
 module _ (es : List Event) (i : ℕ) (e : Event) (here : slice_get es i ≡ Some e) where
-  -- past an event that is a receive
   pub stamp_kept : (last : Option (ℕ × ℕ)) → is_stamp e ≡ false → IsLastStamp es i last
       → IsLastStamp es (i + 1) last
   stamp_kept None receives none = more_passed (λ _ (f : Event). is_stamp f ≡ false) es i e here none
@@ -290,12 +278,11 @@ module _ (es : List Event) (i : ℕ) (e : Event) (here : slice_get es i ≡ Some
         stamps = l.stamps;
         before = omega (arith, less);
         count = l.count;
-        last = λ k f after within at. more_passed (λ k (f : Event). found.0 < k → is_stamp f ≡ false)
-            es i e here (λ k f low at after. l.last k f after low at) (λ _. receives) k f within at
-            after;
+        last = λ k f after within at. more_passed
+            (λ k (f : Event). found.0 < k → is_stamp f ≡ false) es i e here
+            (λ k f low at after. l.last k f after low at) (λ _. receives) k f within at after;
       }
 
-  -- past a send or print, which is then the last
   pub stamp_here : is_stamp e ≡ true → IsLastStamp es (i + 1) (Some (i, e.serial.this))
   stamp_here stamps = record {
     event = e;
@@ -306,7 +293,6 @@ module _ (es : List Event) (i : ℕ) (e : Event) (here : slice_get es i ≡ Some
     last = λ k f after within at. absurd (omega (arith, after, within));
   }
 
-  -- a send or print that counts above the last one counts above all
   pub above_last : (last : Option (ℕ × ℕ)) → IsLastStamp es i last → RiseBelow true es i
       → ((found : ℕ × ℕ) → last ≡ Some found → found.1 < e.serial.this)
       → (j : ℕ) (f : Event) → j < i → slice_get es j ≡ Some f → is_stamp f ≡ true
@@ -316,19 +302,16 @@ module _ (es : List Event) (i : ℕ) (e : Event) (here : slice_get es i ≡ Some
   above_last (Some found) l rise above j f less at stamps =
       let high = above found refl in
       let count = l.count in
-      elim (cases_lt j found.0) [
-        | inl before ↦
+      elim (cases_order j found.0) [
+        | inl one ↦
+            let same = ap (λ (x : Event). x.serial.this) (at_same es found.0 f l.event
+            (subst (λ (n : ℕ). slice_get es n ≡ Some f) one at) l.at) in
+            omega (arith, same, high, count)
+        | inr (inl before) ↦
             let low = rise j found.0 f l.event before l.before at l.at stamps l.stamps in
             omega (arith, low, high, count)
-        | inr after ↦ elim (cases_lt found.0 j) [
-          | inl behind ↦
-              absurd (let clash : true ≡ false = sym stamps ∙ l.last j f behind less at in cc)
-          | inr equal ↦
-              let one : j ≡ found.0 = omega (arith, after, equal) in
-              let same = ap (λ (x : Event). x.serial.this) (at_same es found.0 f l.event
-              (subst (λ (n : ℕ). slice_get es n ≡ Some f) one at) l.at) in
-              omega (arith, same, high, count)
-        ]
+        | inr (inr behind) ↦
+            absurd (let clash : true ≡ false = sym stamps ∙ l.last j f behind less at in cc)
       ]
 
   -- THE LAST RECEIVE THAT COUNTS NO LOWER

@@ -3,7 +3,7 @@
 ghost use Rattle.std.specs.Prelude.{◌≡◌, ◌↔◌, ◌⊎◌, ◌++◌, ◌∷◌, [], IsTrue, List, Option};
 ghost use Rattle.st_pair.specs.Laws.{IsEarlier};
 ghost use Rattle.lack_decide.specs.Answers.{reason_rank};
-ghost use Rattle.lack_pieces.specs.declared.placed_reason.PlacedReason.{PlacedReason as ReasonValue};
+ghost use Rattle.lack_pieces.specs.declared.placed_reason.PlacedReason.{PlacedReason as Reason};
 ghost use Rattle.lack_pieces.specs.Verdicts.{ComesBefore, IsFirstAmong};
 
 use lack_decide::Never;
@@ -96,7 +96,7 @@ pub(crate) fn earlier_of(first: PlacedReason, second: PlacedReason) -> PlacedRea
 /// The verdict on streams so far: that on the pieces before, with that on one piece more. The order
 /// of the pieces doesn't matter.
 pub fn first_of(before: Option<PlacedReason>, next: Option<PlacedReason>) -> Option<PlacedReason>
-    ensures { (verdicts : List (Option ReasonValue)) → IsFirstAmong verdicts before
+    ensures { (verdicts : List (Option Reason)) → IsFirstAmong verdicts before
         → IsFirstAmong (verdicts ++ next ∷ []) result }
 {
     match (before, next) {

@@ -11,9 +11,6 @@ use Rattle.lack_pieces.specs.Pieces.{Piece}
 use Rattle.lack_pieces.proofs.Walks.{first_own, late, late_at, none_late, rise_more}
 use Rattle.lack_needs.proofs.ForCallers.{more_passed}
 use Rattle.lack_pieces.proofs.own_reasons.find_late.Goals as goal
-use Rattle.lack_pieces.proofs.own_reasons.find_late.Goals.{then-not-is_stamp}
-use Rattle.lack_pieces.proofs.own_reasons.find_late.Goals.{else-not-is_stamp+then-count-highest+in_default}
-use Rattle.lack_pieces.proofs.own_reasons.find_late.Goals.{else-not-is_stamp+else-count-highest}
 
 pub returns-in-Some : goal.returns-in-Some
 returns-in-Some c = λ top receipts.
@@ -43,28 +40,27 @@ loop-i-preserved c =
     record {
       rise = rise_more false es i e at c.loop-i.invariant.rise (λ stamps j f less there receives.
           elim c.if-not-is_stamp.branch [
-            | then-not-is_stamp w ↦ absurd (false≢true (sym w.if-not-is_stamp.true
+            | goal.then-not-is_stamp w ↦ absurd (false≢true (sym w.if-not-is_stamp.true
                 ∙ (c.is_stamp.ensures ∙ stamps)))
-            | else-not-is_stamp+then-count-highest+in_default w ↦
+            | goal.else-not-is_stamp+then-count-highest+in_default w ↦
                 w.in_default.ensures j f less there receives
-            | else-not-is_stamp+else-count-highest w ↦
+            | goal.else-not-is_stamp+else-count-highest w ↦
                 let low = c.loop-i.invariant.high j f less there receives in
                 let high = w.if-count-highest.false in
                 omega (arith, low, high)
           ]);
       high = elim c.if-not-is_stamp.branch [
-        | then-not-is_stamp w ↦
+        | goal.then-not-is_stamp w ↦
             let greatest = w.max-highest.ensures in
             subst IsHigh (sym w.highest-is)
             (more_passed (λ _ (f : Event). is_stamp f ≡ false
             → f.serial.this ≤ w.max-highest.result) es i e at
             (λ k f less there receives.
-            let low = c.loop-i.invariant.high k f less there receives in
-            omega (arith, low, greatest))
+            omega (arith, c.loop-i.invariant.high k f less there receives, greatest))
             (λ receives. omega (arith, greatest)))
-        | else-not-is_stamp+then-count-highest+in_default w ↦ subst IsHigh (sym w.highest-is)
+        | goal.else-not-is_stamp+then-count-highest+in_default w ↦ subst IsHigh (sym w.highest-is)
             (kept (sym c.is_stamp.ensures ∙ w.if-not-is_stamp.false))
-        | else-not-is_stamp+else-count-highest w ↦ subst IsHigh (sym w.highest-is)
+        | goal.else-not-is_stamp+else-count-highest w ↦ subst IsHigh (sym w.highest-is)
             (kept (sym c.is_stamp.ensures ∙ w.if-not-is_stamp.false))
       ];
     }

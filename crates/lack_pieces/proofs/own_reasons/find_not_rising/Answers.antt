@@ -8,9 +8,6 @@ use Rattle.lack_pieces.specs.Pieces.{Piece}
 use Rattle.lack_pieces.proofs.Walks.{above_last, falls_at, first_own, none_falls, not_rising}
 use Rattle.lack_pieces.proofs.Walks.{rise_more, stamp_here, stamp_kept, IsLastStamp}
 use Rattle.lack_pieces.proofs.own_reasons.find_not_rising.Goals as goal
-use Rattle.lack_pieces.proofs.own_reasons.find_not_rising.Goals.{then-is_stamp}
-use Rattle.lack_pieces.proofs.own_reasons.find_not_rising.Goals.{in-Some+else-event-count}
-use Rattle.lack_pieces.proofs.own_reasons.find_not_rising.Goals.{in_default, else-is_stamp}
 
 pub returns-then-event-count-clause-first : goal.returns-then-event-count-clause-first
 returns-then-event-count-clause-first c = λ top receipts.
@@ -38,22 +35,21 @@ loop-i-preserved c =
       rise = rise_more true es i e at c.loop-i.invariant.rise (λ stamps.
           above_last es i e at c.loop-i.last c.loop-i.invariant.last c.loop-i.invariant.rise
           (λ found same. elim c.if-is_stamp.branch [
-            | then-is_stamp w ↦ elim w.match-last.branch [
-              | in-Some+else-event-count v ↦
+            | goal.then-is_stamp w ↦ elim w.match-last.branch [
+              | goal.in-Some+else-event-count v ↦
                   let pair = same_Some (v.in-Some.index, v.in-Some.count) found
                   (sym v.in-Some.is ∙ same) in
                   let count = ap (λ (x : ℕ × ℕ). x.1) pair in
-                  let high = v.if-event-count.false in
-                  omega (arith, count, high)
-              | in_default v ↦ absurd (none-some found (sym v.in_default.is ∙ same))
+                  omega (arith, count, v.if-event-count.false)
+              | goal.in_default v ↦ absurd (none-some found (sym v.in_default.is ∙ same))
             ]
-            | else-is_stamp w ↦ absurd (false≢true (sym w.if-is_stamp.false
+            | goal.else-is_stamp w ↦ absurd (false≢true (sym w.if-is_stamp.false
                 ∙ (c.is_stamp.ensures ∙ stamps)))
           ]));
       last = elim c.if-is_stamp.branch [
-        | then-is_stamp w ↦ subst (IsLastStamp es (i + 1)) (sym w.last-is)
+        | goal.then-is_stamp w ↦ subst (IsLastStamp es (i + 1)) (sym w.last-is)
             (stamp_here es i e at (sym c.is_stamp.ensures ∙ w.if-is_stamp.true))
-        | else-is_stamp w ↦ subst (IsLastStamp es (i + 1)) (sym w.last-is)
+        | goal.else-is_stamp w ↦ subst (IsLastStamp es (i + 1)) (sym w.last-is)
             (stamp_kept es i e at c.loop-i.last (sym c.is_stamp.ensures ∙ w.if-is_stamp.false)
             c.loop-i.invariant.last)
       ];

@@ -24,9 +24,7 @@ returns-then-event g c = λ receipts.
     (λ other h. (too_high g.row.TOP piece other h).0.own) refl
     (λ other h less.
     let x = too_high g.row.TOP piece other h in
-    let low = c.loop-i.invariant other.index h.event less x.0.at in
-    let high = x.1 in
-    omega (arith, low, high))
+    omega (arith, c.loop-i.invariant other.index h.event less x.0.at, x.1))
 
 pub loop-i-preserved : goal.loop-i-preserved
 loop-i-preserved g c =
@@ -41,6 +39,4 @@ returns g c = λ receipts other h.
     record { pid = c.args.pid; events = c.args.events.now; receipts = receipts } in
     let x = too_high g.row.TOP piece other h in
     let within = slice_get_within c.args.events.now other.index h.event x.0.at in
-    let low = c.loop-i.invariant other.index h.event (omega (arith, within)) x.0.at in
-    let high = x.1 in
-    omega (arith, low, high)
+    omega (arith, c.loop-i.invariant other.index h.event (omega (arith, within)) x.0.at, x.1)

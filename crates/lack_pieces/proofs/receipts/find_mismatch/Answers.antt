@@ -7,16 +7,12 @@ use Rattle.st_pair.proofs.ForCallers.{at_get_or, blank}
 use Rattle.lack_decide.specs.Answers.{IsSendOf}
 use Rattle.lack_pieces.specs.Firsts.{HasCount, HoldsOfRank, IsEarliest}
 use Rattle.lack_pieces.specs.Pieces.{Piece}
-use Rattle.lack_pieces.proofs.Candidates.{first_of_all}
+use Rattle.lack_pieces.proofs.Candidates.{first_of_all, found_wider}
 use Rattle.lack_pieces.proofs.ReceivedCounts.{blank_receipt, mismatch_found, mismatch_holds}
-use Rattle.lack_pieces.proofs.ReceivedCounts.{mismatch_more, mismatch_still, mismatch_widened}
+use Rattle.lack_pieces.proofs.ReceivedCounts.{mismatch_more, mismatch_place, mismatch_still}
 use Rattle.lack_pieces.proofs.ReceivedCounts.{none_has, one_stamp, passed_next, IsMismatchBelow}
 use Rattle.lack_pieces.proofs.Walks.{at_same}
 use Rattle.lack_pieces.proofs.receipts.find_mismatch.Goals as goal
-use Rattle.lack_pieces.proofs.receipts.find_mismatch.Goals.{then-has_count+then-not-is_send_of}
-use Rattle.lack_pieces.proofs.receipts.find_mismatch.Goals.{else-has_count}
-use Rattle.lack_pieces.proofs.receipts.find_mismatch.Goals.{else-has_count-via-then-has_count+else-not-is_send_of}
-use Rattle.lack_pieces.proofs.receipts.find_mismatch.Goals.{else-has_count-via-else-has_count}
 
 pub loop-receipt-preserved : goal.loop-receipt-preserved
 loop-receipt-preserved c =
@@ -35,7 +31,7 @@ loop-receipt-preserved c =
       within = is.within;
       passed = passed_next es rs order n receipt at c.loop-receipt.next next passed is;
       least = elim c.if-has_count.branch [
-        | then-has_count+then-not-is_send_of w ↦
+        | goal.then-has_count+then-not-is_send_of w ↦
             let has = subst (HasCount es next receipt.event.serial.this) w.if-has_count.true
             c.has_count.ensures in
             let same = at_same es next event has.0 (at_get_or es next blank
@@ -46,10 +42,11 @@ loop-receipt-preserved c =
             (λ sent. false≢true (sym w.if-not-is_send_of.true ∙ w.is_send_of.ensures.1
             (subst (λ (f : Event). IsSendOf f receipt.event) (sym same) sent)))
             w.reason.ensures w.least_with.ensures)
-        | else-has_count w ↦ subst (IsEarliest (IsMismatchBelow piece (n + 1))) (sym w.least-is)
+        | goal.else-has_count w ↦
+            subst (IsEarliest (IsMismatchBelow piece (n + 1))) (sym w.least-is)
             (mismatch_still piece n receipt at c.loop-receipt.least c.loop-receipt.invariant.least
             (λ k f there stamps count other. elim w.else-has_count.branch [
-              | else-has_count-via-then-has_count+else-not-is_send_of v ↦
+              | goal.else-has_count-via-then-has_count+else-not-is_send_of v ↦
                   let has = subst (HasCount es next receipt.event.serial.this)
                   v.if-has_count.true c.has_count.ensures in
                   let same = at_same es next event has.0 (at_get_or es next blank
@@ -58,7 +55,7 @@ loop-receipt-preserved c =
                   (is.here has.0 has.1).0 stamps (has.2 ∙ sym count) in
                   other (subst (λ (x : Event). IsSendOf x receipt.event) (same ∙ one)
                   (v.is_send_of.ensures.0 v.if-not-is_send_of.false))
-              | else-has_count-via-else-has_count v ↦
+              | goal.else-has_count-via-else-has_count v ↦
                   none_has es rs order n receipt at c.loop-receipt.next next passed is
                   c.requires.rise (subst (HasCount es next receipt.event.serial.this)
                   v.if-has_count.false c.has_count.ensures) k f there stamps count
@@ -75,7 +72,7 @@ returns c = λ top.
     (mismatch_holds top piece c.requires.rise n)
     (λ r h. let found = mismatch_found top piece r h in (
       found.0,
-      mismatch_widened piece (length rs) n found.0 c.loop-receipt-test.false found.1,
+      found_wider _ (mismatch_place piece) (length rs) n _ c.loop-receipt-test.false found.1,
       found.2,
     ))
     c.loop-receipt.invariant.least

@@ -9,8 +9,6 @@ use Rattle.st_pair.proofs.ForCallers.{at_get_or, blank}
 use Rattle.lack_pieces.proofs.Walks.{at_same}
 use Rattle.lack_needs.proofs.ForCallers.{more_passed}
 use Rattle.lack_pieces.proofs.receipts.next_stamp.Goals as goal
-use Rattle.lack_pieces.proofs.receipts.next_stamp.Goals.{else-is_stamp-via-then-is_stamp+else-count-events}
-use Rattle.lack_pieces.proofs.receipts.next_stamp.Goals.{else-is_stamp-via-else-is_stamp}
 
 pub returns-then-count-events : goal.returns-then-count-events
 returns-then-count-events c =
@@ -38,8 +36,8 @@ loop-i-preserved c = λ k f after less there.
     → f.serial.this < c.args.count) es i e (at_get_or es i blank c.loop-i-test.true)
     (λ k f low there after. c.loop-i.invariant k f after low there)
     (λ _ stamps. elim c.else-is_stamp.branch [
-      | else-is_stamp-via-then-is_stamp+else-count-events w ↦ w.if-count-events.false
-      | else-is_stamp-via-else-is_stamp w ↦ absurd (false≢true (sym w.if-is_stamp.false
+      | goal.else-is_stamp-via-then-is_stamp+else-count-events w ↦ w.if-count-events.false
+      | goal.else-is_stamp-via-else-is_stamp w ↦ absurd (false≢true (sym w.if-is_stamp.false
           ∙ (c.is_stamp.ensures ∙ stamps)))
     ]) k f less there after
 
@@ -49,6 +47,5 @@ returns c = record {
   within = omega arith;
   passed = λ k f after less at. c.loop-i.invariant k f after (omega (arith, less)) at;
   here = λ f at.
-      let short = slice_get_within c.args.events.now (length c.args.events.now) f at in
-      absurd (omega (arith, short));
+      absurd (omega (arith, slice_get_within c.args.events.now (length c.args.events.now) f at));
 }

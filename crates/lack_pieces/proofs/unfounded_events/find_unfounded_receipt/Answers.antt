@@ -11,11 +11,6 @@ use Rattle.lack_pieces.proofs.Founding.{unfounded_more, unfounded_still, IsUnfou
 use Rattle.lack_pieces.proofs.ReceivedCounts.{blank_receipt, none_has, passed_next, stamp_none}
 use Rattle.lack_pieces.proofs.ReceivedCounts.{stamp_some}
 use Rattle.lack_pieces.proofs.unfounded_events.find_unfounded_receipt.Goals as goal
-use Rattle.lack_pieces.proofs.unfounded_events.find_unfounded_receipt.Goals.{then-receipt-eq0+then-not-has_count+then-is_behind_stamp}
-use Rattle.lack_pieces.proofs.unfounded_events.find_unfounded_receipt.Goals.{else-receipt-eq0}
-use Rattle.lack_pieces.proofs.unfounded_events.find_unfounded_receipt.Goals.{else-receipt-eq0-via-then-receipt-eq0+then-not-has_count+else-is_behind_stamp}
-use Rattle.lack_pieces.proofs.unfounded_events.find_unfounded_receipt.Goals.{else-receipt-eq0-via-then-receipt-eq0+else-not-has_count}
-use Rattle.lack_pieces.proofs.unfounded_events.find_unfounded_receipt.Goals.{else-receipt-eq0-via-else-receipt-eq0}
 
 pub loop-receipt-preserved : goal.loop-receipt-preserved
 loop-receipt-preserved c =
@@ -34,7 +29,7 @@ loop-receipt-preserved c =
       least = λ pid lowest.
           let piece : Piece = record { pid = pid; events = es; receipts = rs } in
           elim c.if-receipt-eq0.branch [
-            | then-receipt-eq0+then-not-has_count+then-is_behind_stamp w ↦
+            | goal.then-receipt-eq0+then-not-has_count+then-is_behind_stamp w ↦
                 subst (IsEarliest (IsUnfoundedBelow piece (n + 1))) (sym w.least-is)
                 (unfounded_more piece n receipt at c.loop-receipt.least
                 (c.loop-receipt.invariant.least pid lowest) w.reason.result w.least_with.result
@@ -44,21 +39,21 @@ loop-receipt-preserved c =
                 w.if-not-has_count.true w.has_count.ensures)))
                 ((w.is_behind_stamp.ensures piece lowest).0 w.if-is_behind_stamp.true)
                 w.reason.ensures w.least_with.ensures)
-            | else-receipt-eq0 w ↦
+            | goal.else-receipt-eq0 w ↦
                 subst (IsEarliest (IsUnfoundedBelow piece (n + 1))) (sym w.least-is)
                 (unfounded_still piece n receipt at c.loop-receipt.least
                 (c.loop-receipt.invariant.least pid lowest) (λ zero_prev hidden behind.
                 elim w.else-receipt-eq0.branch [
-                  | else-receipt-eq0-via-then-receipt-eq0+then-not-has_count+else-is_behind_stamp
-                      v ↦
-                      false≢true (sym v.if-is_behind_stamp.false
-                      ∙ (v.is_behind_stamp.ensures piece lowest).1 behind)
-                  | else-receipt-eq0-via-then-receipt-eq0+else-not-has_count v ↦
-                      let has = subst (HasCount es next receipt.event.serial.this)
-                      v.if-not-has_count.false v.has_count.ensures in
-                      none-some (next, has.0) (sym hidden ∙ stamp_some piece c.requires.rise
-                      receipt.event.serial.this next has.0 has.1 (is.here has.0 has.1).0 has.2)
-                  | else-receipt-eq0-via-else-receipt-eq0 v ↦ v.if-receipt-eq0.false zero_prev
+                | goal.else-receipt-eq0-via-then-receipt-eq0+then-not-has_count+else-is_behind_stamp
+                    v ↦
+                    false≢true (sym v.if-is_behind_stamp.false
+                    ∙ (v.is_behind_stamp.ensures piece lowest).1 behind)
+                | goal.else-receipt-eq0-via-then-receipt-eq0+else-not-has_count v ↦
+                    let has = subst (HasCount es next receipt.event.serial.this)
+                    v.if-not-has_count.false v.has_count.ensures in
+                    none-some (next, has.0) (sym hidden ∙ stamp_some piece c.requires.rise
+                    receipt.event.serial.this next has.0 has.1 (is.here has.0 has.1).0 has.2)
+                | goal.else-receipt-eq0-via-else-receipt-eq0 v ↦ v.if-receipt-eq0.false zero_prev
                 ]))
           ];
     }
@@ -74,8 +69,7 @@ returns c = λ pid lowest.
       r,
       record {
         is = t;
-        within =
-            let short = slice_get_within rs t.hidden.0.place _ t.hidden.0.at in omega (arith, short);
+        within = omega (arith, slice_get_within rs t.hidden.0.place _ t.hidden.0.at);
       },
       record { pid = refl; index = refl },
     )) (c.loop-receipt.invariant.least pid lowest)

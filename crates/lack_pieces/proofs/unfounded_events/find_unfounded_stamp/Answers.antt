@@ -9,12 +9,6 @@ use Rattle.lack_pieces.proofs.Founding.{after_receive, founded_more, not_after_r
 use Rattle.lack_pieces.proofs.Founding.{received_here, received_kept, IsReceived}
 use Rattle.lack_pieces.proofs.Walks.{first_own}
 use Rattle.lack_pieces.proofs.unfounded_events.find_unfounded_stamp.Goals as goal
-use Rattle.lack_pieces.proofs.unfounded_events.find_unfounded_stamp.Goals.{then-not-is_stamp}
-use Rattle.lack_pieces.proofs.unfounded_events.find_unfounded_stamp.Goals.{else-not-is_stamp+else-event-eq0}
-use Rattle.lack_pieces.proofs.unfounded_events.find_unfounded_stamp.Goals.{else-event-eq0-via-then-event-eq0+else-is_behind_stamp}
-use Rattle.lack_pieces.proofs.unfounded_events.find_unfounded_stamp.Goals.{then-received}
-use Rattle.lack_pieces.proofs.unfounded_events.find_unfounded_stamp.Goals.{else-received}
-use Rattle.lack_pieces.proofs.unfounded_events.find_unfounded_stamp.Goals.{else-event-eq0-via-else-event-eq0}
 
 pub returns-then-is_behind_stamp : goal.returns-then-is_behind_stamp
 returns-then-is_behind_stamp c = λ receipts is.
@@ -29,9 +23,9 @@ returns-then-is_behind_stamp c = λ receipts is.
       own = (record { own = refl; at = at }, stamps);
       zero = c.if-event-eq0.true;
       why = elim c.if-received.branch [
-        | then-received w ↦ inl (after_receive piece i e at stamps
+        | goal.then-received w ↦ inl (after_receive piece i e at stamps
             (subst (IsReceived es i) w.if-received.true c.loop-i.invariant.received))
-        | else-received w ↦ inr ((w.is_behind_stamp.ensures piece is).0
+        | goal.else-received w ↦ inr ((w.is_behind_stamp.ensures piece is).0
             (sym w.value-is ∙ c.if-is_behind_stamp.true))
       ];
       is = refl;
@@ -49,14 +43,14 @@ loop-i-preserved c =
           let piece : Piece = record { pid = c.args.pid; events = es; receipts = receipts } in
           founded_more piece i e at (c.loop-i.invariant.founded receipts is)
           (λ stamps zero_prev why. elim c.if-not-is_stamp.branch [
-            | then-not-is_stamp w ↦ false≢true (sym w.if-not-is_stamp.true
+            | goal.then-not-is_stamp w ↦ false≢true (sym w.if-not-is_stamp.true
                 ∙ (c.is_stamp.ensures ∙ stamps))
-            | else-not-is_stamp+else-event-eq0 w ↦ elim w.else-event-eq0.branch [
-              | else-event-eq0-via-then-event-eq0+else-is_behind_stamp v ↦
+            | goal.else-not-is_stamp+else-event-eq0 w ↦ elim w.else-event-eq0.branch [
+              | goal.else-event-eq0-via-then-event-eq0+else-is_behind_stamp v ↦
                   elim v.if-received.branch [
-                    | then-received u ↦ false≢true (sym v.if-is_behind_stamp.false
+                    | goal.then-received u ↦ false≢true (sym v.if-is_behind_stamp.false
                         ∙ (u.value-is ∙ u.if-received.true))
-                    | else-received u ↦ elim why [
+                    | goal.else-received u ↦ elim why [
                       | inl after ↦ not_after_receive piece i e at
                           (subst (IsReceived es i) u.if-received.false
                           c.loop-i.invariant.received) after
@@ -64,15 +58,16 @@ loop-i-preserved c =
                           ∙ (u.value-is ∙ (u.is_behind_stamp.ensures piece is).1 behind))
                     ]
                   ]
-              | else-event-eq0-via-else-event-eq0 v ↦ v.if-event-eq0.false zero_prev
+              | goal.else-event-eq0-via-else-event-eq0 v ↦ v.if-event-eq0.false zero_prev
             ]
           ]);
       received =
           let piece : Piece = record { pid = c.args.pid; events = es; receipts = [] } in
           elim c.if-not-is_stamp.branch [
-            | then-not-is_stamp w ↦ subst (IsReceived es (i + 1)) (sym w.received-is)
+            | goal.then-not-is_stamp w ↦ subst (IsReceived es (i + 1)) (sym w.received-is)
                 (received_here piece i e at (sym c.is_stamp.ensures ∙ w.if-not-is_stamp.true))
-            | else-not-is_stamp+else-event-eq0 w ↦ subst (IsReceived es (i + 1)) (sym w.received-is)
+            | goal.else-not-is_stamp+else-event-eq0 w ↦
+                subst (IsReceived es (i + 1)) (sym w.received-is)
                 (received_kept piece i e at c.loop-i.received
                 (sym c.is_stamp.ensures ∙ w.if-not-is_stamp.false) c.loop-i.invariant.received)
           ];

@@ -27,6 +27,4 @@ loop-receipt-preserved c =
 pub returns : goal.returns
 returns c = λ count s.
     let within = slice_get_within c.args.receipts.now s.place s.receipt s.at in
-    let zero_prev = c.loop-receipt.invariant s.place s.receipt (omega (arith, within)) s.at in
-    let positive = s.above in
-    omega (arith, zero_prev, positive)
+    omega (arith, c.loop-receipt.invariant s.place s.receipt (omega (arith, within)) s.at, s.above)

@@ -8,8 +8,6 @@ use Rattle.st_pair.proofs.ForCallers.{at_get_or, blank}
 use Rattle.lack_pieces.proofs.Founding.{lowest_stamp}
 use Rattle.lack_needs.proofs.ForCallers.{more_passed}
 use Rattle.lack_pieces.proofs.unfounded_events.lowest_of_stamps.Goals as goal
-use Rattle.lack_pieces.proofs.unfounded_events.lowest_of_stamps.Goals.{else-is_stamp-via-then-is_stamp+else-event-ne0}
-use Rattle.lack_pieces.proofs.unfounded_events.lowest_of_stamps.Goals.{else-is_stamp-via-else-is_stamp}
 
 pub returns-then-event-ne0 : goal.returns-then-event-ne0
 returns-then-event-ne0 c =
@@ -26,8 +24,8 @@ loop-event-preserved c =
     more_passed (λ _ (f : Event). is_stamp f ≡ true → f.serial.prev ≡ 0) es i (get_or es i blank)
     (at_get_or es i blank c.loop-event-test.true) c.loop-event.invariant
     (λ stamps. elim c.else-is_stamp.branch [
-      | else-is_stamp-via-then-is_stamp+else-event-ne0 w ↦ w.if-event-ne0.false
-      | else-is_stamp-via-else-is_stamp w ↦ absurd (false≢true (sym w.if-is_stamp.false
+      | goal.else-is_stamp-via-then-is_stamp+else-event-ne0 w ↦ w.if-event-ne0.false
+      | goal.else-is_stamp-via-else-is_stamp w ↦ absurd (false≢true (sym w.if-is_stamp.false
           ∙ (c.is_stamp.ensures ∙ stamps)))
     ])
 
@@ -35,5 +33,4 @@ pub returns : goal.returns
 returns c = λ count s.
     let within = slice_get_within c.args.events.now s.place s.event s.at in
     let zero_prev = c.loop-event.invariant s.place s.event (omega (arith, within)) s.at s.stamps in
-    let positive = s.above in
-    omega (arith, zero_prev, positive)
+    omega (arith, zero_prev, s.above)
