@@ -166,7 +166,6 @@ module _ (top : ℕ) (wholes : List Whole) (sound : IsStreams (all_streams whole
             ] at_f are
       ] at_e parts.1
 
-  -- a message that was received was sent
   was_sent : (s : Event) (q : Pid) (j : ℕ) → is_send s ≡ true
       → event_at told q j ≡ Some (receipt_of s) → HasEvent s (marked_of wholes s.from)
   was_sent s q j sends at =

@@ -4,8 +4,8 @@
 use Rattle.std.proofs.Common.{[], ◌≡◌, inl, inr, ℕ, zero, suc, ◌<◌, ◌≤◌, ◌==◌, ◌&&◌, nat_lt}
 use Rattle.std.proofs.Common.{Bool, true, false, cond, List, ◌∷◌, length, take, Option, Some}
 use Rattle.std.proofs.Common.{None, slice_get, get_or, refl, sym, ◌∙◌, ap, arith}
-use Rattle.std.proofs.lemmas.Bool.{and_parts, cases_lt, eqb-true, false≢true, ltb-false, ltb-true}
-use Rattle.std.proofs.lemmas.Bool.{eq-eqb, not-true, or_cases}
+use Rattle.std.proofs.lemmas.Bool.{and_parts, cases_lt, cases_order, eqb-true, false≢true}
+use Rattle.std.proofs.lemmas.Bool.{eq-eqb, ltb-false, ltb-true, not-true, or_cases}
 use Rattle.std.proofs.lemmas.List.{length-take-le}
 use Rattle.std.proofs.lemmas.Option.{none-some, same_Some, slice_get_within, slice_get-get_or}
 use Rattle.st_core.specs.declared.types.Event.{Event}
@@ -29,13 +29,13 @@ pub record IsStamped (ms : List Marked) (v c : ℕ) : Type 0 where
   pub prev : marked.event.serial.prev ≡ v
   pub count : marked.event.serial.this ≡ c
 
+abbrev mark : Event → Marked
+mark e = record { event = e; told = true }
+
 -- told event i, where as many are told before it
 record IsInTurn (ms : List Marked) (i : ℕ) (e : Event) : Type 0 where
   index : ℕ
-  marked : Marked
-  at : slice_get ms index ≡ Some marked
-  event : marked.event ≡ e
-  told : marked.told ≡ true
+  at : slice_get ms index ≡ Some (mark e)
   before : length (told_events (take index ms)) ≡ i
 
 in_turn : (ms : List Marked) (i : ℕ) (e : Event) → slice_get (told_events ms) i ≡ Some e
@@ -45,14 +45,10 @@ in_turn ms i e at =
     let within = slice_get_within (told_events ms) i e at in
     record {
       index = place.index;
-      marked = record { event = e; told = true };
       at = place.at;
-      event = refl;
-      told = refl;
       before = ap length place.before ∙ length-take-le i (told_events ms) (omega arith);
     }
 
--- the next event is the stamp of count c
 abbrev is_next : Option Event → ℕ → Bool
 is_next next c = elim next [ None ↦ false | Some n ↦ is_stamp n && n.serial.this == c ]
 
@@ -74,15 +70,12 @@ past_end (x ∷ xs) zero none = absurd (none-some x (sym none))
 past_end (x ∷ xs) (suc i) none = let rest = past_end xs i none in omega arith
 
 module _ (ms : List Marked) (go_on : GoOn ms) where
-  -- a stamp counts above all before it
   above : (a b : ℕ) (x y : Marked) → a < b → slice_get ms a ≡ Some x → slice_get ms b ≡ Some y
       → is_stamp y.event ≡ true → x.event.serial.this < y.event.serial.this
   above a b x y less at_x at_y stamps =
       let count = (go_on b y at_y stamps).count in
-      let low = greatest_has (events ms) b a x.event (event_of_mark ms a x at_x) less in
-      omega arith
+      omega (arith, greatest_has (events ms) b a x.event (event_of_mark ms a x at_x) less)
 
-  -- so one whose count isn't above another's isn't after it
   not_after : (a b : ℕ) (x y : Marked) → slice_get ms a ≡ Some x → slice_get ms b ≡ Some y
       → is_stamp y.event ≡ true → y.event.serial.this ≤ x.event.serial.this → b ≤ a
   not_after a b x y at_x at_y stamps most = elim (cases_lt a b) [
@@ -90,25 +83,20 @@ module _ (ms : List Marked) (go_on : GoOn ms) where
     | inr not_less ↦ omega arith
   ]
 
-  -- and one of two stamps with the lower count is first
   is_first : (a b : ℕ) (x y : Marked) → slice_get ms a ≡ Some x → slice_get ms b ≡ Some y
       → is_stamp x.event ≡ true → x.event.serial.this < y.event.serial.this → a < b
-  is_first a b x y at_x at_y stamps less = elim (cases_lt a b) [
-    | inl first ↦ first
-    | inr not_first ↦ elim (cases_lt b a) [
-      | inl last ↦ let rises = above b a y x last at_y at_x stamps in absurd (omega arith)
-      | inr not_last ↦
-          let here : a ≡ b = omega arith in
-          let same = ap (λ (m : Marked). m.event.serial.this)
-          (same_Some x y (sym at_x ∙ ap (slice_get ms) here ∙ at_y)) in
-          absurd (omega arith)
-    ]
+  is_first a b x y at_x at_y stamps less = elim (cases_order a b) [
+    | inl here ↦
+        let same = ap (λ (m : Marked). m.event.serial.this)
+        (same_Some x y (sym at_x ∙ ap (slice_get ms) here ∙ at_y)) in
+        absurd (omega arith)
+    | inr (inl first) ↦ first
+    | inr (inr last) ↦ let rises = above b a y x last at_y at_x stamps in absurd (omega arith)
   ]
 
   -- THE STAMP
 
   module _ (i v c : ℕ) (stamp : IsStamped ms v c) where
-    -- no more than i told events are before it
     up_to : (next : Option Event) → slice_get (told_events ms) i ≡ next → is_up_to next c ≡ true
         → length (told_events (take stamp.index ms)) ≤ i
     up_to None none within =
@@ -119,42 +107,34 @@ module _ (ms : List Marked) (go_on : GoOn ms) where
         let t = in_turn ms i n at in
         let high = ltb-false n.serial.this c (not-true (nat_lt n.serial.this c) within) in
         let count = stamp.count in
-        let same = ap (λ (x : Event). x.serial.this) t.event in
-        let most = not_after t.index stamp.index t.marked stamp.marked t.at stamp.at stamp.stamps
+        let most = not_after t.index stamp.index (mark n) stamp.marked t.at stamp.at stamp.stamps
         (omega arith) in
-        let grows = told_grows ms stamp.index t.index most in
-        let before = t.before in
-        omega arith
+        omega (arith, told_grows ms stamp.index t.index most, t.before)
 
-    -- told event i - 1 is before it
     behind : (j : ℕ) (b : Event) (at_b : slice_get (told_events ms) j ≡ Some b) → i ≡ suc j
         → (next : Option Event) → slice_get (told_events ms) i ≡ next
         → is_behind (Some b) next c ≡ true → (in_turn ms j b at_b).index < stamp.index
     behind j b at_b here next at_n is =
         let t = in_turn ms j b at_b in
-        let same = ap (λ (x : Event). x.serial.this) t.event in
         let count = stamp.count in
         elim (or_cases (is_next next c) (is_stamp b && nat_lt b.serial.this c) is) [
           | inl it ↦
               let n = next_there next c it in
               let u = in_turn ms i n.event (at_n ∙ n.is) in
               let high = n.count in
-              let one = ap (λ (x : Event). x.serial.this) u.event in
-              let order = not_after stamp.index u.index stamp.marked u.marked stamp.at u.at
-              (ap is_stamp u.event ∙ n.stamps) (omega arith) in
+              let order = not_after stamp.index u.index stamp.marked (mark n.event) stamp.at u.at
+              n.stamps (omega arith) in
               let before_b = t.before in
               let before_n = u.before in
               elim (cases_lt t.index u.index) [
                 | inl less ↦ omega arith
                 | inr not_less ↦
-                    let grows = told_grows ms u.index t.index (omega arith) in
-                    absurd (omega arith)
+                    absurd (omega (arith, told_grows ms u.index t.index (omega arith)))
               ]
           | inr above_b ↦
               let parts = and_parts (is_stamp b) (nat_lt b.serial.this c) above_b in
               let less = ltb-true b.serial.this c parts.1 in
-              is_first t.index stamp.index t.marked stamp.marked t.at stamp.at
-              (ap is_stamp t.event ∙ parts.0) (omega arith)
+              is_first t.index stamp.index (mark b) stamp.marked t.at stamp.at parts.0 (omega arith)
         ]
 
     -- WHAT IS BEFORE IT
@@ -183,23 +163,21 @@ module _ (ms : List Marked) (go_on : GoOn ms) where
     told_start j n b f at_b at_f here less higher other before =
         let t = in_turn ms j b at_b in
         let u = in_turn ms n f at_f in
-        let next = told_next ms t.index t.marked t.at t.told in
+        let next = told_next ms t.index (mark b) t.at refl in
         let before_b = t.before in
         let before_f = u.before in
         let order : u.index < suc t.index = elim (cases_lt t.index u.index) [
           | inl later ↦
-              let grows = told_grows ms (suc t.index) u.index (omega arith) in
-              absurd (omega arith)
+              absurd (omega (arith, told_grows ms (suc t.index) u.index (omega arith)))
           | inr not_later ↦ omega arith
         ] in
-        let known = greatest_has (events ms) (suc t.index) u.index u.marked.event
-        (event_of_mark ms u.index u.marked u.at) order in
-        let same = ap (λ (x : Event). x.serial.this) u.event in
+        let known = greatest_has (events ms) (suc t.index) u.index f
+        (event_of_mark ms u.index (mark f) u.at) order in
         record {
           index = t.index;
-          marked = t.marked;
+          marked = mark b;
           at = t.at;
-          other = λ left. other (ap (λ (x : Event). prev_after (x ∷ [])) (sym t.event) ∙ left);
+          other = other;
           high = omega arith;
           before = before;
           turn = omega arith;
@@ -235,29 +213,26 @@ module _ (ms : List Marked) (go_on : GoOn ms) where
           → (in_turn ms j b at_b).index < stamp.index → IsStart
       stamp_start j b at_b here keeps before =
           let t = in_turn ms j b at_b in
-          let next = told_next ms t.index t.marked t.at t.told in
+          let next = told_next ms t.index (mark b) t.at refl in
           let before_b = t.before in
           let count = w.count in
-          let same = ap (λ (x : Event). x.serial.this) t.event in
           let later : t.index < suc w.index → IsStart = λ order.
-          let grows = told_grows ms (suc t.index) (suc w.index) (omega arith) in
-          at_stamp (omega arith) in
+          at_stamp (omega (arith, told_grows ms (suc t.index) (suc w.index) (omega arith))) in
           elim (is_stamp b) as (λ s. is_stamp b ≡ s
           → cond s (nat_lt d b.serial.this) (b.serial.this == v) ≡ false → IsStart) [
             | true ↦ λ stamps low.
                 let most = ltb-false d b.serial.this low in
-                let order = not_after w.index t.index w.marked t.marked w.at t.at
-                (ap is_stamp t.event ∙ stamps) (omega arith) in
+                let order = not_after w.index t.index w.marked (mark b) w.at t.at stamps
+                (omega arith) in
                 later (omega arith)
             | false ↦ λ receives not_v. elim (cases_lt w.index t.index) [
               | inl less ↦ record {
                 index = t.index;
-                marked = t.marked;
+                marked = mark b;
                 at = t.at;
                 other = λ left.
-                    let is = left_of b false receives
-                    ∙ ap (λ (x : Event). prev_after (x ∷ [])) (sym t.event) ∙ left in
-                    false≢true (sym not_v ∙ eq-eqb b.serial.this v is);
+                    false≢true (sym not_v
+                    ∙ eq-eqb b.serial.this v (left_of b false receives ∙ left));
                 high = known (suc t.index) (omega arith);
                 before = before;
                 turn = omega arith;

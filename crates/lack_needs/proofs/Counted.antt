@@ -1,11 +1,9 @@
 -- Why the counts that are found are 0 and those of the streams. All counts are noted, sorted, and
 -- each is kept once. Two lists that rise and have the same members are one list.
-use Rattle.std.proofs.Common.{◌≡◌, ℕ, ◌+◌, zero, suc, ◌<◌, ◌⊎◌, inl, inr, nat_lt, true, false, cond}
-use Rattle.std.proofs.Common.{List, [], ◌∷◌}
-use Rattle.std.proofs.Common.{◌++◌, length, drop, get_or, refl, sym, ◌∙◌, ap, subst, arith}
+use Rattle.std.proofs.Common.{◌≡◌, ℕ, ◌+◌, zero, suc, ◌<◌, ◌⊎◌, inl, inr, List, [], ◌∷◌, ◌++◌}
+use Rattle.std.proofs.Common.{length, drop, get_or, refl, sym, ◌∙◌, ap, subst, arith}
 use Rattle.std.specs.List.{AllPairs, Contains}
 use Rattle.std.specs.List.Sorted.{IsStrictlyIncreasing}
-use Rattle.std.proofs.lemmas.Bool.{ltb-false}
 use Rattle.std.proofs.lemmas.List.{append_assoc}
 use Rattle.std.proofs.lemmas.List.Kept.{AllPairs-from_increasing}
 use Rattle.st_core.specs.declared.types.Pid.{Pid}
@@ -15,7 +13,8 @@ use Rattle.st_core.specs.Run.{Stream, pids_of}
 use Rattle.st_core.specs.Streams.{events_of}
 use Rattle.st_pair.proofs.ForCallers.{drop_next, stream_here}
 use Rattle.lack_laws.specs.Renumbering.{counts_of, insert_count, insert_counts}
-use Rattle.lack_laws.proofs.ForCallers.{AllAbove, Climbs, IsIn, above_in, insert_climbs}
+use Rattle.lack_laws.proofs.ForCallers.{AllAbove, Climbs, IsIn, above_in, counts_climb, insert_by}
+use Rattle.lack_laws.proofs.ForCallers.{insert_has, insert_keeps}
 use Rattle.lack_needs.specs.Counts.{all_counts, counts_in}
 
 -- NOTING THE COUNTS
@@ -47,7 +46,6 @@ rest_in x xs ys above are c here = elim (are c (inr here)) [
   | inr later ↦ later
 ]
 
--- the first of two lists that rise, with the same members
 first_same : (x y : ℕ) (xs ys : List ℕ) → AllAbove x xs → AllAbove y ys → IsIn x (y ∷ ys)
     → IsIn y (x ∷ xs) → x ≡ y
 first_same x y xs ys above below here there = elim here [
@@ -55,9 +53,7 @@ first_same x y xs ys above below here there = elim here [
   | inr later ↦ elim there [
     | inl same ↦ sym same
     | inr other ↦
-        let low = above_in y x ys below later in
-        let high = above_in x y xs above other in
-        absurd (omega arith)
+        absurd (omega (arith, above_in y x ys below later, above_in x y xs above other))
   ]
 ]
 
@@ -76,62 +72,19 @@ one_list (x ∷ xs) (y ∷ ys) up down to from =
 
 -- THE COUNTS OF STREAMS
 
--- c and the members of the list, and no others
 insert_in : (b c : ℕ) (ds : List ℕ) → IsIn b (c ∷ ds) → IsIn b (insert_count c ds)
-insert_in b c [] here = here
-insert_in b c (d ∷ ds) here =
-    elim (nat_lt c d) as (λ x. nat_lt c d ≡ x
-    → IsIn b (cond x (c ∷ d ∷ ds) (cond (nat_lt d c) (d ∷ insert_count c ds) (d ∷ ds)))) [
-      | true ↦ λ _. here
-      | false ↦ λ low. elim (nat_lt d c) as (λ y. nat_lt d c ≡ y
-          → IsIn b (cond y (d ∷ insert_count c ds) (d ∷ ds))) [
-            | true ↦ λ _. elim here [
-              | inl same ↦ inr (insert_in b c ds (inl same))
-              | inr rest ↦ elim rest [
-                | inl first ↦ inl first
-                | inr later ↦
-                    inr (insert_in b c ds (inr later))
-              ]
-            ]
-            | false ↦ λ high. elim here [
-              | inl same ↦
-                  let at_least = ltb-false c d low in
-                  let at_most = ltb-false d c high in
-                  inl (omega (arith, same))
-              | inr rest ↦ rest
-            ]
-          ] refl
-    ] refl
+insert_in b c ds (inl same) = subst (λ x. IsIn x (insert_count c ds)) (sym same) (insert_has c ds)
+insert_in b c ds (inr later) = insert_keeps b c ds later
 
 in_insert : (b c : ℕ) (ds : List ℕ) → IsIn b (insert_count c ds) → IsIn b (c ∷ ds)
-in_insert b c [] here = here
-in_insert b c (d ∷ ds) here =
-    (elim (nat_lt c d) as (λ x.
-    IsIn b (cond x (c ∷ d ∷ ds) (cond (nat_lt d c) (d ∷ insert_count c ds) (d ∷ ds)))
-    → IsIn b (c ∷ d ∷ ds)) [
-      | true ↦ λ here. here
-      | false ↦ elim (nat_lt d c) as (λ y. IsIn b (cond y (d ∷ insert_count c ds) (d ∷ ds))
-          → IsIn b (c ∷ d ∷ ds)) [
-            | true ↦ λ here. elim here [
-              | inl first ↦ inr (inl first)
-              | inr later ↦ elim (in_insert b c ds later)
-                  [ inl same ↦ inl same | inr rest ↦ inr (inr rest) ]
-            ]
-            | false ↦ λ here. inr here
-          ]
-    ]) here
+in_insert b c [] = λ here. here
+in_insert b c (d ∷ ds) = insert_by (λ xs. IsIn b xs → IsIn b (c ∷ d ∷ ds)) c d ds (λ _ here. here)
+    (λ _ here. elim here [
+      | inl first ↦ inr (inl first)
+      | inr later ↦ elim (in_insert b c ds later)
+          [ inl same ↦ inl same | inr rest ↦ inr (inr rest) ]
+    ]) (λ _ here. inr here)
 
-insert_all_climbs : (es : List Event) (cs : List ℕ) → Climbs cs → Climbs (insert_counts es cs)
-insert_all_climbs [] cs climb = climb
-insert_all_climbs (e ∷ es) cs climb =
-    insert_climbs e.serial.prev (insert_count e.serial.this (insert_counts es cs))
-    (insert_climbs e.serial.this (insert_counts es cs) (insert_all_climbs es cs climb))
-
-pub counts_climb : (streams : List Stream) → Climbs (counts_of streams)
-counts_climb [] = (tt, tt)
-counts_climb (x ∷ streams) = insert_all_climbs x.events (counts_of streams) (counts_climb streams)
-
--- in the counts of the events, or in the others
 insert_all_in : (b : ℕ) (es : List Event) (cs : List ℕ) → IsIn b (counts_in es) ⊎ IsIn b cs
     → IsIn b (insert_counts es cs)
 insert_all_in b [] cs here = elim here [ inl none ↦ absurd none | inr other ↦ other ]
@@ -163,7 +116,6 @@ in_insert_all b (e ∷ es) cs here =
       ]
     ]
 
--- membership of two lists, one after the other
 in_either : (b : ℕ) (cs ds : List ℕ) → IsIn b (cs ++ ds) → IsIn b cs ⊎ IsIn b ds
 in_either b [] ds here = inr here
 in_either b (c ∷ cs) ds here = elim here [

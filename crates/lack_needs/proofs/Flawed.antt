@@ -18,12 +18,10 @@ use Rattle.lack_needs.specs.Places.{flaw_place, place_where}
 
 module _ (rule : Pid → ℕ → Event → Option (Pid × ℕ)) (p : Pid) (es : List Event) (i : ℕ) (e : Event)
     (at : slice_get es i ≡ Some e) where
-  -- the rule gives something here
   pub here : rule p i e ≡ Some (p, i) → first_from rule p i (drop i es) ≡ Some (p, i)
   here gives = first_from-at rule p i i es e at
       ∙ ap (λ (o : Option (Pid × ℕ)). or_else o (first_from rule p (i + 1) (drop (suc i) es))) gives
 
-  -- or nothing
   pub passed : rule p i e ≡ None → first_from rule p i (drop i es)
       ≡ first_from rule p (i + 1) (drop (i + 1) es)
   passed none =
@@ -61,10 +59,8 @@ in_streams test streams p es is =
 
 module _ (rule : Pid → ℕ → Event
     → Option (Pid × ℕ)) (streams : List Stream) (rising : IsRising (pids_of streams)) where
-  -- a process that gives something
   pub given : (pids : List Pid) (k : ℕ) (d : Pid) (es : List Event) (x : Pid × ℕ)
-      → pids ≡ pids_of streams
-      → k < length pids → es ≡ events_of streams (get_or pids k d)
+      → pids ≡ pids_of streams → k < length pids → es ≡ events_of streams (get_or pids k d)
       → Some x ≡ first_from rule (get_or pids k d) 0 es
       → first rule streams ≡ first rule (drop k streams) → Some x ≡ first rule streams
   given pids k d es x are within events gives far =
@@ -75,7 +71,6 @@ module _ (rule : Pid → ℕ → Event
       sym (far ∙ first-loop rule streams rising pids k d are within
       ∙ ap (λ (o : Option (Pid × ℕ)). or_else o (first rule (drop (k + 1) streams))) from)
 
-  -- a process that gives nothing
   pub none_given : (pids : List Pid) (k : ℕ) (d : Pid) (es : List Event) → pids ≡ pids_of streams
       → k < length pids
       → es ≡ events_of streams (get_or pids k d) → None ≡ first_from rule (get_or pids k d) 0 es
@@ -87,7 +82,6 @@ module _ (rule : Pid → ℕ → Event
       far ∙ first-loop rule streams rising pids k d are within
       ∙ ap (λ (o : Option (Pid × ℕ)). or_else o (first rule (drop (k + 1) streams))) from
 
--- a test that gives no place doesn't hold
 pub none_false : {X : Type 0} (b : Bool) (x : X) → cond b (Some x) None ≡ None → b ≡ false
 none_false true x is = absurd (none-some x (sym is))
 none_false false x is = refl
@@ -107,7 +101,6 @@ least_there test streams p i rising is =
           (l.least q j h.event h.at earlier)) ∙ h.holds);
     })
 
--- if it gives none, it holds of none
 pub holds_of_none : (test : List Event → Event → Bool) (streams : List Stream)
     → first (flaw_place test streams) streams ≡ None → HoldsOfNone test streams
 holds_of_none test streams none = λ p i e at.

@@ -35,7 +35,6 @@ pub marks_later : (lists : List (List Bool)) (k : ℕ)
 marks_later [] k = refl
 marks_later (ms ∷ lists) k = refl
 
--- all events are those of the streams
 pub all_kept : (streams : List Stream) (lists : List (List Bool))
     → all_streams (wholes_with streams lists) ≡ streams
 all_kept [] lists = refl
@@ -45,7 +44,6 @@ all_kept (x ∷ streams) lists =
     y ∷ all_streams (wholes_with streams (drop 1 lists))) (all_events x.events (get_or lists 0 []))
     ∙ ap (λ ys. x ∷ ys) (all_kept streams (drop 1 lists))
 
--- the mark of an event, if it is there
 pub mark_read : (es : List Event) (ms : List Bool) (i : ℕ)
     → option_map (λ (m : Marked). m.told) (slice_get (marked_with es ms) i)
     ≡ option_map (λ (e : Event). get_or ms i false) (slice_get es i)
@@ -76,8 +74,7 @@ first_kept x streams lists p b is =
 
 -- the marked events of the process at a place
 pub marked_kept : (streams : List Stream) (lists : List (List Bool)) (k : ℕ) (p : Pid)
-    → IsRising (pids_of streams)
-    → slice_get (pids_of streams) k ≡ Some p
+    → IsRising (pids_of streams) → slice_get (pids_of streams) k ≡ Some p
     → marked_of (wholes_with streams lists) p ≡ marked_with (events_of streams p)
     (get_or lists k [])
 marked_kept [] lists k p rising at = absurd (cc)

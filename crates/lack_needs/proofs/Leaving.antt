@@ -13,8 +13,7 @@ pub left_more : (es : List Event) (i : ℕ) (e : Event) → slice_get es i ≡ S
 left_more es i e at = ap left_by (sym (rw add-one (take_more es i e at)))
 
 pub left_push : (es : List Event) (e : Event) (greatest prev : ℕ)
-    → greatest ≡ max (greatest_count es) e.serial.this
-    → prev ≡ prev_after (e ∷ [])
+    → greatest ≡ max (greatest_count es) e.serial.this → prev ≡ prev_after (e ∷ [])
     → (let left : Left = record { greatest = greatest; prev = prev } in left)
     ≡ left_by (es ++ e ∷ [])
 left_push es e greatest prev is leaves =

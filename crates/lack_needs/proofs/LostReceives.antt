@@ -37,8 +37,7 @@ greatest_grows es zero n most = omega arith
 greatest_grows [] (suc m) n most = omega arith
 greatest_grows (e ∷ es) (suc m) zero most = absurd (omega arith)
 greatest_grows (e ∷ es) (suc m) (suc n) most =
-    let rest = greatest_grows es m n (omega arith) in
-    omega arith
+    omega (arith, greatest_grows es m n (omega arith))
 
 -- BACK FROM A PREV
 
@@ -164,14 +163,11 @@ told_most ms n =
     let all = ap (λ xs. length (told_events xs)) (take_all (n + length ms) ms (omega arith)) in
     omega (arith, grows, all)
 
--- one more is told up to a told event
-pub told_next : (ms : List Marked) (k : ℕ) (m : Marked) → slice_get ms k ≡ Some m
-    → m.told ≡ true
+pub told_next : (ms : List Marked) (k : ℕ) (m : Marked) → slice_get ms k ≡ Some m → m.told ≡ true
     → length (told_events (take (suc k) ms)) ≡ suc (length (told_events (take k ms)))
 told_next ms k m at told =
     let front = told_events (take k ms) in
-    let push = ap length (told_push ms k m at told) ∙ length-append front (m.event ∷ []) in
-    omega (arith, push)
+    omega (arith, ap length (told_push ms k m at told) ∙ length-append front (m.event ∷ []))
 
 -- a receive between these places is after i told events, and isn't told itself
 pub lost : (ms : List Marked) (k l i v : ℕ) → IsReceivedBetween ms k l v
@@ -185,8 +181,7 @@ lost ms k l i v r from to =
     elim r.marked.told as (λ b. r.marked.told ≡ b → HasLostReceive i v ms) [
       | true ↦ λ told.
           let one = told_next ms r.index r.marked r.at told in
-          let next = told_grows ms (suc r.index) l (omega arith) in
-          absurd (omega arith)
+          absurd (omega (arith, told_grows ms (suc r.index) l (omega arith)))
       | false ↦ λ untold. record {
         index = r.index;
         event = r.marked.event;

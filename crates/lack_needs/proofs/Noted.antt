@@ -90,10 +90,8 @@ set_long (y ∷ xs) (suc i) x = ap suc (set_long xs i x)
 
 -- WHAT IS NOTED
 
--- an event with prev 0 changes nothing
 pub noted_zero : (ps : List Pid) (low : Pid → Option ℕ) (lows : List (Option ℕ)) (e : Event)
-    → e.serial.prev ≡ 0
-    → IsNoted ps low lows → IsNoted ps (λ q. lowest_with q (low q) e) lows
+    → e.serial.prev ≡ 0 → IsNoted ps low lows → IsNoted ps (λ q. lowest_with q (low q) e) lows
 noted_zero ps low lows e is_zero noted = record {
   long = noted.long;
   each = λ k p at. noted.each k p at
@@ -104,7 +102,6 @@ noted_zero ps low lows e is_zero noted = record {
       (and_false (pid_eq e.from p) false refl));
 }
 
--- nor does one of a process that isn't there
 pub noted_missing : (ps : List Pid) (low : Pid → Option ℕ) (lows : List (Option ℕ)) (e : Event)
     → AllByRecursion (λ p. pid_eq p e.from ≡ false) ps
     → IsNoted ps low lows → IsNoted ps (λ q. lowest_with q (low q) e) lows

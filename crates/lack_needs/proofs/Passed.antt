@@ -9,8 +9,7 @@ use Rattle.st_core.specs.Pid.{IsBelow, IsRising}
 use Rattle.st_core.proofs.ForCallers.{all_at, not_below_itself}
 
 pub more_passed : {A : Type 0} (P : ℕ → A → Type 0) (xs : List A) (n : ℕ) (x : A)
-    → slice_get xs n ≡ Some x
-    → ((k : ℕ) (y : A) → k < n → slice_get xs k ≡ Some y → P k y) → P n x
+    → slice_get xs n ≡ Some x → ((k : ℕ) (y : A) → k < n → slice_get xs k ≡ Some y → P k y) → P n x
     → (k : ℕ) (y : A) → k < n + 1 → slice_get xs k ≡ Some y → P k y
 more_passed P xs n x at before here k y less there = elim (cases_lt k n) [
   | inl below ↦ before k y below there

@@ -19,7 +19,6 @@ use Rattle.lack_needs.specs.Counts.{ranked_stream}
 
 -- RANKS
 
--- none of these is less
 none_less : (xs : List ℕ) (c : ℕ) → ((k d : ℕ) → k < length xs → nat_lt (get_or xs k d) c ≡ false)
     → rank xs c ≡ 0
 none_less [] c each = refl
@@ -41,7 +40,6 @@ rank_is (x ∷ xs) c (suc i) bound before behind =
 
 -- A PROCESS THAT COMES LAST
 
--- it is listed
 pub lists_last : (xs : List Stream) (p : Pid) (es : List Event)
     → lists (xs ++ record { pid = p; events = es } ∷ []) p ≡ true
 lists_last [] p es =
@@ -52,7 +50,6 @@ lists_last (x ∷ xs) p es =
     cond b (Some x) (stream_of (xs ++ record { pid = p; events = es } ∷ []) p) in is_some o ≡ true)
     [ true ↦ refl | false ↦ lists_last xs p es ]
 
--- an event of it is after its others
 pub added_last : (xs : List Stream) (p : Pid) (es : List Event) (e : Event) → ComesLast xs p
     → added (xs ++ record { pid = p; events = es } ∷ []) p e ≡ xs
     ++ record { pid = p; events = es ++ e ∷ [] } ∷ []
@@ -67,8 +64,7 @@ added_last (x ∷ xs) p es e last =
 
 -- one event more
 pub ranked_more : (counts : List ℕ) (old now next : List Stream) (p : Pid) (es : List Event) (i : ℕ)
-    → ComesLast old p
-    → i < length es → now ≡ old ++ ranked_stream counts p (take i es) ∷ []
+    → ComesLast old p → i < length es → now ≡ old ++ ranked_stream counts p (take i es) ∷ []
     → next ≡ added now p (event_with (rank counts) (get_or es i blank))
     → next ≡ old ++ ranked_stream counts p (take (i + 1) es) ∷ []
 ranked_more counts old now next p es i last within is step =
@@ -82,8 +78,7 @@ ranked_more counts old now next p es i last within is step =
 
 -- a process comes after those before it
 pub last_of : (streams : List Stream) (k : ℕ) (x : Stream) → IsRising (pids_of streams)
-    → slice_get streams k ≡ Some x
-    → ComesLast (take k streams) x.pid
+    → slice_get streams k ≡ Some x → ComesLast (take k streams) x.pid
 last_of [] k x rising at = absurd (cc)
 last_of (y ∷ streams) zero x rising at = tt
 last_of (y ∷ streams) (suc k) x rising at =
@@ -101,7 +96,6 @@ module _ (f : ℕ → ℕ) where
   still_last [] p last = tt
   still_last (x ∷ streams) p last = (last.0, still_last streams p last.1)
 
-  -- the next process comes last
   pub comes_last : (streams : List Stream) (pids : List Pid) (k : ℕ) (d : Pid) (now : List Stream)
       → IsRising (pids_of streams) → pids ≡ pids_of streams → k < length pids
       → now ≡ with_counts f (take k streams) → ComesLast now (get_or pids k d)
@@ -113,7 +107,6 @@ module _ (f : ℕ → ℕ) where
 
 -- THE EVENTS OF A PROCESS
 
--- they are its own
 pub own_events : (streams : List Stream) (pids : List Pid) (k : ℕ) (d : Pid) (es : List Event)
     → IsRising (pids_of streams) → AreOwn streams → pids ≡ pids_of streams → k < length pids
     → es ≡ events_of streams (get_or pids k d) → AllByRecursion
@@ -141,8 +134,7 @@ streams_more counts streams pids k d es now next rising are within is so_far ste
 
 -- one event more
 pub event_more : (old now next : List Stream) (p : Pid) (es : List Event) (i : ℕ) → ComesLast old p
-    → i < length es
-    → now ≡ old ++ record { pid = p; events = take i es } ∷ []
+    → i < length es → now ≡ old ++ record { pid = p; events = take i es } ∷ []
     → next ≡ added now p (get_or es i blank)
     → next ≡ old ++ record { pid = p; events = take (i + 1) es } ∷ []
 event_more old now next p es i last within is step =

@@ -32,9 +32,11 @@ inserted_moves q (x ∷ xs) =
     elim (is_lt (pid_cmp q x.pid)) as (λ b. IsPermutation (q ∷ x.pid ∷ ps)
     (pids_of (cond b (silent q ∷ x ∷ xs) (x ∷ inserted q xs)))) [
       | true ↦ IsPermutation-refl (q ∷ x.pid ∷ ps)
-      | false ↦ IsPermutation-trans (q ∷ x.pid ∷ ps) (x.pid ∷ q ∷ ps) (x.pid ∷ pids_of (inserted q xs))
+      | false ↦
+          let later = pids_of (inserted q xs) in
+          IsPermutation-trans (q ∷ x.pid ∷ ps) (x.pid ∷ q ∷ ps) (x.pid ∷ later)
           (IsPermutation-middle (q ∷ []) x.pid ps)
-          (IsPermutation-cons x.pid (q ∷ ps) (pids_of (inserted q xs)) (inserted_moves q xs))
+          (IsPermutation-cons x.pid (q ∷ ps) later (inserted_moves q xs))
     ]
 
 silent_moves : (streams : List Stream) → IsStreams streams → (qs : List Pid)
@@ -90,8 +92,8 @@ first_is x y xs ys rising sorted zero k at there = sym (same_Some x y at)
 first_is x y xs ys rising sorted (suc j) zero at there = same_Some y x there
 first_is x y xs ys rising sorted (suc j) (suc k) at there =
     let below : is_lt (pid_cmp x y) ≡ true = ap is_lt (all_at (IsBelow x) xs j y rising.0 at) in
-    let far = sorted_far (λ a b. is_lt (pid_cmp a b)) (ranks_by pid_total (λ p. p)) (y ∷ ys) sorted 0
-    (suc k) y (omega arith) (slice_get_within (y ∷ ys) (suc k) x there) in
+    let far = sorted_far (λ a b. is_lt (pid_cmp a b)) (ranks_by pid_total (λ p. p)) (y ∷ ys) sorted
+    0 (suc k) y (omega arith) (slice_get_within (y ∷ ys) (suc k) x there) in
     let here : get_or ys k y ≡ x = get_or_from_slice_get ys k x y there in
     absurd (false≢true (sym far ∙ ap (λ p. is_lt (pid_cmp p y)) here ∙ below))
 
@@ -114,11 +116,7 @@ sorted_is (x ∷ xs) (y ∷ ys) rising sorted same =
     let first = first_is x y xs ys rising sorted here.0 there.0 here.1 there.1 in
     ap (λ p. p ∷ ys) first
     ∙ ap (λ ps. x ∷ ps) (sorted_is xs ys rising.1 (rest_sorted y ys sorted) (λ f.
-    let all = same f in
-    let a = sum_by-cons f x xs in
-    let b = sum_by-cons f y ys in
-    let heads = ap f first in
-    omega (arith, all, a, b, heads)))
+    omega (arith, same f, sum_by-cons f x xs, sum_by-cons f y ys, ap f first)))
 
 -- so both together, sorted, are the pids
 pub silent_pids : (streams : List Stream) → IsStreams streams → (qs before after : List Pid)

@@ -1,8 +1,8 @@
 -- The told events of whole streams: one event more, all processes place by place, and how many are
 -- untold.
 use Rattle.std.proofs.Common.{◌≡◌, ℕ, ◌+◌, ◌<◌, zero, suc, Bool, true, false, not, cond, List, []}
-use Rattle.std.proofs.Common.{◌∷◌, length, drop}
-use Rattle.std.proofs.Common.{slice_get, get_or, map, Some, refl, sym, ◌∙◌, ap, arith}
+use Rattle.std.proofs.Common.{◌∷◌, length, drop, slice_get, get_or, map, Some, refl, sym, ◌∙◌, ap}
+use Rattle.std.proofs.Common.{arith}
 use Rattle.std.specs.List.{count_by}
 use Rattle.std.proofs.lemmas.List.Sums.{sum_by-cons}
 use Rattle.std.proofs.lemmas.Option.{same_Some}
@@ -55,8 +55,7 @@ pub record IsToldAt (all : List Stream) (lists : List (List Bool)) (streams : Li
 
 -- so at each place, so of all
 pub all_told : (all : List Stream) (lists : List (List Bool)) (streams : List Stream)
-    → length all ≡ length streams
-    → ((k : ℕ) → k < length streams → IsToldAt all lists streams k)
+    → length all ≡ length streams → ((k : ℕ) → k < length streams → IsToldAt all lists streams k)
     → told_streams (wholes_with all lists) ≡ streams
 all_told [] lists [] len each = refl
 all_told [] lists (y ∷ streams) len each = absurd (omega arith)

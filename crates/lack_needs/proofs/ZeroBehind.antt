@@ -5,14 +5,14 @@ use Rattle.std.proofs.Common.{◌≡◌, inl, inr, ℕ, ◌+◌, zero, suc, ◌<
 use Rattle.std.proofs.Common.{Bool, true, false, not, cond, List, [], ◌∷◌, take, slice_get, Option}
 use Rattle.std.proofs.Common.{Some, None, is_some, if◌then◌else◌, refl, sym, ◌∙◌, ap, arith}
 use Rattle.std.proofs.lemmas.Bool.{and_from, and_parts, eq-eqb, eqb-true, false≢true, le-ltb}
-use Rattle.std.proofs.lemmas.Bool.{lt-ltb, ltb-false, ltb-true}
+use Rattle.std.proofs.lemmas.Bool.{lt-ltb, ltb-false, ltb-true, not-true}
 use Rattle.std.proofs.lemmas.Option.{cond_some, none-some, same_Some}
 use Rattle.st_core.specs.declared.types.Pid.{Pid}
 use Rattle.st_core.specs.declared.types.Event.{Event}
 use Rattle.st_core.specs.Pid.{pid_eq, IsRising}
 use Rattle.st_core.specs.Run.{Stream, pids_of}
 use Rattle.st_core.specs.Streams.{events_of}
-use Rattle.st_core.proofs.ForCallers.{pid_eq-refl, pid_same, or_true, or_false}
+use Rattle.st_core.proofs.ForCallers.{pid_eq-refl, pid_same, or_true, or_false, some_of}
 use Rattle.st_pair.specs.Places.{event_at, first, first_from, is_stamp, or_else}
 use Rattle.st_pair.proofs.ForCallers.{event_none, given_at}
 use Rattle.st_order.specs.Items.{is_hidden}
@@ -92,15 +92,11 @@ all_below q n low (x ∷ rest) =
 
 -- WHAT IS FOUND
 
--- if a count is higher than the lowest, one of the lower ones is there
 lower_there : (streams : List Stream) (rising : IsRising (pids_of streams)) (q : Pid) (n : ℕ)
     → is_known_below (lowest_count streams q) n ≡ true → (x : Pid × ℕ)
     × (first (below q n) streams ≡ Some x)
 lower_there streams rising q n is =
-    elim (first (below q n) streams) as (λ o. is_some o ≡ true → (x : Pid × ℕ) × (o ≡ Some x)) [
-      | None ↦ λ h. absurd (false≢true h)
-      | Some x ↦ λ _. (x, refl)
-    ] (sym (all_below q n None streams) ∙ is)
+    some_of (first (below q n) streams) (sym (all_below q n None streams) ∙ is)
 
 -- a receive among the first events
 record HasReceive (es : List Event) (i : ℕ) : Type 0 where
@@ -109,10 +105,6 @@ record HasReceive (es : List Event) (i : ℕ) : Type 0 where
   at : slice_get es index ≡ Some event
   receives : is_stamp event ≡ false
   before : index < i
-
-not_stamp : (b : Bool) → not b ≡ true → b ≡ false
-not_stamp true h = absurd (false≢true h)
-not_stamp false h = refl
 
 receive_there : (es : List Event) (i : ℕ) → has_receive (take i es) ≡ true → HasReceive es i
 receive_there es zero has = absurd (false≢true has)
@@ -124,7 +116,7 @@ receive_there (d ∷ es) (suc i) has =
         index = 0;
         event = d;
         at = refl;
-        receives = not_stamp (is_stamp d) here;
+        receives = not-true (is_stamp d) here;
         before = omega arith;
       }
       | false ↦ λ _ later.
@@ -140,8 +132,7 @@ receive_there (d ∷ es) (suc i) has =
     ] refl has
 
 there_receive : (es : List Event) (i j : ℕ) (d : Event) → slice_get es j ≡ Some d
-    → is_stamp d ≡ false → j < i
-    → has_receive (take i es) ≡ true
+    → is_stamp d ≡ false → j < i → has_receive (take i es) ≡ true
 there_receive es zero j d at receives before = absurd (omega arith)
 there_receive [] (suc i) j d at receives before = absurd (none-some d at)
 there_receive (e ∷ es) (suc i) zero d at receives before =

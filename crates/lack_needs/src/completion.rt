@@ -122,7 +122,8 @@ impl Completion {
 
     /// Whether the event at this index of the process is told; none if there is no event.
     pub fn told(&self, pid: Pid, index: u64) -> Option<bool>
-        ensures { result ≡ option_map (λ m. m.told) (slice_get (marked_of self.now.wholes pid) index) }
+        ensures { result
+            ≡ option_map (λ m. m.told) (slice_get (marked_of self.now.wholes pid) index) }
     {
         match self.streams.place_of(pid) {
             None => None,

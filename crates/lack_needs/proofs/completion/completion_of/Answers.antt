@@ -14,6 +14,4 @@ invariant_of-result c =
     let told = ap total_of c.requires
     ∙ silent_total c.args.streams.now c.args.unlisted.items in
     let more = c.total.ensures in
-    let own = c.total-2.ensures in
-    let rest = c.saturating_sub-added.ensures in
-    omega (arith, count, all, told, more, own, rest)
+    omega (arith, count, all, told, more, c.total-2.ensures, c.saturating_sub-added.ensures)

@@ -27,7 +27,4 @@ returns-else-place-len c = λ low noted.
     let within = slice_get_within (pids_of c.args.streams.now) c.in-Some.place c.args.event.now.from
     c.in-Some.ensures.found in
     let long = noted.long in
-    let past = c.if-place-len.false in
-    let count = c.len.ensures in
-    let same = c.args.lows.now.ok.0 in
-    absurd (omega (arith, within, long, past, count, same))
+    absurd (omega (arith, within, long, c.if-place-len.false, c.len.ensures, c.args.lows.now.ok.0))
