@@ -5,9 +5,9 @@ use Rattle.std.proofs.Common.{[], ◌≡◌, ℕ, Bool, true, false, cond, List,
 use Rattle.std.proofs.Common.{is_none, is_some, slice_get, refl, sym, ◌∙◌, ap, zero, suc, ◌+◌, ◌<◌}
 use Rattle.std.proofs.Common.{◌==◌, ◌&&◌, ◌||◌, nat_lt, not, subst, arith}
 use Rattle.std.proofs.Common.{option_and_then}
-use Rattle.std.proofs.lemmas.Bool.{and_parts, false≢true, eq-eqb, eqb-true, and_from}
+use Rattle.std.proofs.lemmas.Bool.{and_parts, false≢true, eq-eqb, eqb-true, and_from, lt-ltb}
+use Rattle.std.proofs.lemmas.Bool.{not-false}
 use Rattle.std.proofs.lemmas.Option.{cond_some, none-some, option_and_then_some, same_Some}
-use Rattle.std.proofs.lemmas.Bool.Decides.{nat_tests}
 use Rattle.st_core.specs.declared.types.Pid.{Pid}
 use Rattle.st_core.specs.declared.types.Kind.{Kind}
 use Rattle.st_core.specs.declared.types.Event.{Event}
@@ -23,7 +23,8 @@ use Rattle.st_pair.specs.Pairing.{receive_of, refusal, repeated, stamp_before, s
 use Rattle.st_pair.specs.declared.answer.PairFault.TheVariants as fault
 use Rattle.st_pair.specs.declared.answer.Source.TheVariants as source
 use Rattle.st_pair.proofs.ForCallers.{events_in, given_at, given_from, got_rule, own_rule, Rule}
-use Rattle.st_pair.proofs.ForCallers.{from_none, cond_none, event_none, IsPaired, once_place}
+use Rattle.st_pair.proofs.ForCallers.{from_none, cond_none, event_none, got_says, IsPaired}
+use Rattle.st_pair.proofs.ForCallers.{once_place}
 use Rattle.st_pair.proofs.ForCallers.{serial_rises, source_from, stamp_counts_rise, stamp_once}
 use Rattle.st_order.specs.Items.{is_hidden}
 
@@ -61,14 +62,6 @@ own_at (x ∷ streams) p i e own at =
       | false ↦ λ other at. own_at streams p i e own.1 at
     ] refl at
 
--- WHAT RULES SAY
-
-given_unless : {X : Type 0} (a b : Bool) (y x : X) → cond a None (cond b (Some y) None) ≡ Some x
-    → (a ≡ false) × (b ≡ true) × (y ≡ x)
-given_unless true b y x h = absurd (none-some x h)
-given_unless false true y x h = (refl, refl, same_Some y x h)
-given_unless false false y x h = absurd (none-some x h)
-
 -- ANY TWO EVENTS
 
 -- any two events of these streams fit
@@ -97,6 +90,39 @@ fit_as xs ys there fit = record {
   agree = λ p i j e f at_e receives at_f. fit.agree p i j e f (there p i e at_e) receives
       (there e.from j f at_f);
 }
+
+pub record HasStamp (streams : List Stream) (q : Pid) (v : ℕ) : Type 0 where
+  pub index : ℕ
+  pub event : Event
+  pub at : event_at streams q index ≡ Some event
+  pub stamps : is_stamp event ≡ true
+  pub count : event.serial.this ≡ v
+
+pub stamp_if : (streams : List Stream) (q : Pid) (v : ℕ) (f : ℕ × Event)
+    → stamp_of streams q v ≡ Some f → (s : HasStamp streams q v) × (f.1 ≡ s.event)
+stamp_if streams q v f is =
+    let found = given_from (own_rule v) q 0 (events_of streams q) f is in
+    let g = found.1 in
+    let says = cond_some (is_stamp g && g.serial.this == v) (0 + found.0, g) f found.3 in
+    let parts = and_parts (is_stamp g) (g.serial.this == v) says.0 in (
+      record {
+        index = found.0;
+        event = g;
+        at = found.2;
+        stamps = parts.0;
+        count = eqb-true g.serial.this v parts.1;
+      },
+      ap (λ (x : ℕ × Event). x.1) (sym says.1),
+    )
+
+pub none_stamped : (streams : List Stream) (q : Pid) (v : ℕ) → stamp_of streams q v ≡ None
+    → HasStamp streams q v → ⊥
+none_stamped streams q v none s =
+    let e = s.event in
+    none-some (0 + s.index, e)
+    (sym (from_none (own_rule v) q 0 (events_of streams q) none s.index e s.at)
+    ∙ ap (λ b. cond b (Some (0 + s.index, e)) None)
+    (and_from (is_stamp e) (e.serial.this == v) s.stamps (eq-eqb e.serial.this v s.count)))
 
 record IsStampBefore (es : List Event) (i : ℕ) (g : ℕ × Event) : Type 0 where
   below : g.0 < i
@@ -132,6 +158,10 @@ stands_not : {X : Type 0} (b : Bool) (y x : X) → b ≡ true → cond b None (S
 stands_not true y x is h = none-some x h
 stands_not false y x is h = absurd (false≢true is)
 
+or_if : (a b : Bool) → (a ≡ false → b ≡ true) → (a || b) ≡ true
+or_if true b h = refl
+or_if false b h = h refl
+
 module _ (streams : List Stream) (rising : IsRising (pids_of streams)) (fit : FitTogether streams)
   where
     nowhere : (rule : Rule PairFault) → ((p : Pid) (i : ℕ) (e : Event) (x : PairFault)
@@ -145,74 +175,49 @@ module _ (streams : List Stream) (rising : IsRising (pids_of streams)) (fit : Fi
     no_prev : (p : Pid) (i : ℕ) (e : Event) (x : PairFault) → event_at streams p i ≡ Some e
         → prev_not_before p i e ≡ Some x → ⊥
     no_prev p i e x at h =
-        let less = fit.rises p i e at in
         stands_not (nat_lt e.serial.prev e.serial.this) (fault.PrevNotBefore p i) x
-        (grind (arith, nat_tests)) h
+        (lt-ltb e.serial.prev e.serial.this (fit.rises p i e at)) h
 
     no_fall : (p : Pid) (i : ℕ) (e : Event) (x : PairFault) → event_at streams p i ≡ Some e
         → not_rising streams p i e ≡ Some x → ⊥
     no_fall p i e x at h =
-        let test = λ (b : Bool) (f : ℕ × Event). not b || nat_lt f.1.serial.this e.serial.this in
-        option_and_then_some (λ (f : ℕ × Event). cond (test (is_stamp e) f) None
+        let less = λ (f : ℕ × Event). nat_lt f.1.serial.this e.serial.this in
+        option_and_then_some (λ (f : ℕ × Event). cond (not (is_stamp e) || less f) None
         (Some (fault.NotRising p i f.0)))
         (stamp_before (events_of streams p) i) x h (λ f is rest.
         let b = stamp_before_is (events_of streams p) i f is in
-        let passes : test (is_stamp e) f ≡ true = elim (is_stamp e)
-        as (λ b. is_stamp e ≡ b → test b f ≡ true) [
-          | false ↦ λ _. refl
-          | true ↦ λ stamps. let less = fit.grows p f.0 i f.1 e b.below b.at at b.stamps stamps
-              in grind (arith, nat_tests)
-        ] refl in
-        stands_not (test (is_stamp e) f) (fault.NotRising p i f.0) x passes rest)
+        stands_not (not (is_stamp e) || less f) (fault.NotRising p i f.0) x
+        (or_if (not (is_stamp e)) (less f) (λ stamps. lt-ltb f.1.serial.this e.serial.this
+        (fit.grows p f.0 i f.1 e b.below b.at at b.stamps (not-false (is_stamp e) stamps)))) rest)
 
     no_second : (p : Pid) (i : ℕ) (e : Event) (x : PairFault) → event_at streams p i ≡ Some e
         → repeated streams p i e ≡ Some x → ⊥
     no_second p i e x at h =
-        let test = λ (b : Bool) (y : Pid × ℕ). b || (pid_eq y.0 p && y.1 == i) in
-        option_and_then_some (λ (y : Pid × ℕ). cond (test (is_stamp e) y) None
+        let here = λ (y : Pid × ℕ). pid_eq y.0 p && y.1 == i in
+        option_and_then_some (λ (y : Pid × ℕ). cond (is_stamp e || here y) None
         (Some (fault.Repeated p i y.0 y.1)))
         (receive_of streams e.from e.serial.this) x h (λ y is rest.
         let g = given_at (got_rule e.from e.serial.this) streams y rising is in
-        let d = g.event in
-        let says = given_unless (is_stamp d)
-        (pid_eq d.from e.from && d.serial.this == e.serial.this) (g.pid, g.index) y
-        g.gives in
-        let parts = and_parts (pid_eq d.from e.from) (d.serial.this == e.serial.this) says.1 in
-        let passes : test (is_stamp e) y ≡ true = elim (is_stamp e)
-        as (λ b. is_stamp e ≡ b → test b y ≡ true) [
-          | true ↦ λ _. refl
-          | false ↦ λ receives.
-              let same = fit.once g.pid p g.index i d e g.at at says.0 receives
-              (pid_same d.from e.from parts.0)
-              (eqb-true d.serial.this e.serial.this parts.1) in
-              let pid : y.0 ≡ p = ap (λ (z : Pid × ℕ). z.0) (sym says.2) ∙ same.0 in
-              let index : y.1 ≡ i = ap (λ (z : Pid × ℕ). z.1) (sym says.2) ∙ same.1 in
-              and_from (pid_eq y.0 p) (y.1 == i) (ap (λ q. pid_eq q p) pid ∙ pid_eq-refl p)
-              (eq-eqb y.1 i index)
-        ] refl in
-        stands_not (test (is_stamp e) y) (fault.Repeated p i y.0 y.1) x passes rest)
+        let says = got_says e.from e.serial.this g.pid g.index g.event y g.gives in
+        stands_not (is_stamp e || here y) (fault.Repeated p i y.0 y.1) x
+        (or_if (is_stamp e) (here y) (λ receives.
+        let same = fit.once g.pid p g.index i g.event e g.at at says.receives receives says.from
+        says.count in
+        and_from (pid_eq y.0 p) (y.1 == i)
+        (ap (λ q. pid_eq q p) (sym says.pid ∙ same.0) ∙ pid_eq-refl p)
+        (eq-eqb y.1 i (sym says.index ∙ same.1)))) rest)
 
     no_other : (p : Pid) (i : ℕ) (e : Event) (x : PairFault) → event_at streams p i ≡ Some e
         → mismatch streams p i e ≡ Some x → ⊥
     no_other p i e x at h =
-        let test = λ (b : Bool) (f : ℕ × Event). b || agrees f.1 e in
-        option_and_then_some (λ (f : ℕ × Event). cond (test (is_stamp e) f) None
+        option_and_then_some (λ (f : ℕ × Event). cond (is_stamp e || agrees f.1 e) None
         (Some (fault.Mismatch p i e.from f.0)))
         (stamp_of streams e.from e.serial.this) x h (λ f is rest.
-        let found = given_from (own_rule e.serial.this) e.from 0 (events_of streams e.from) f is in
-        let g = found.1 in
-        let says = cond_some (is_stamp g && g.serial.this == e.serial.this) (0 + found.0, g) f
-        found.3 in
-        let parts = and_parts (is_stamp g) (g.serial.this == e.serial.this) says.0 in
-        let passes : test (is_stamp e) f ≡ true = elim (is_stamp e)
-        as (λ b. is_stamp e ≡ b → test b f ≡ true) [
-          | true ↦ λ _. refl
-          | false ↦ λ receives.
-              ap (λ (z : ℕ × Event). agrees z.1 e) (sym says.1)
-              ∙ fit.agree p i found.0 e g at receives found.2 parts.0
-              (eqb-true g.serial.this e.serial.this parts.1)
-        ] refl in
-        stands_not (test (is_stamp e) f) (fault.Mismatch p i e.from f.0) x passes rest)
+        let found = stamp_if streams e.from e.serial.this f is in
+        let s = found.0 in
+        stands_not (is_stamp e || agrees f.1 e) (fault.Mismatch p i e.from f.0) x
+        (or_if (is_stamp e) (agrees f.1 e) (λ receives. ap (λ z. agrees z e) found.1
+        ∙ fit.agree p i s.index e s.event at receives s.at s.stamps s.count)) rest)
 
     next_rule : (rule : Rule PairFault) (rules : List (Rule PairFault)) → first rule streams ≡ None
         → first_rule streams rules ≡ None → first_rule streams (rule ∷ rules) ≡ None
@@ -229,39 +234,6 @@ module _ (streams : List Stream) (rising : IsRising (pids_of streams)) (fit : Fi
         (nowhere (not_rising streams) no_fall)
         (next_rule (repeated streams) (mismatch streams ∷ []) (nowhere (repeated streams) no_second)
         (next_rule (mismatch streams) [] (nowhere (mismatch streams) no_other) refl)))
-
-pub record HasStamp (streams : List Stream) (q : Pid) (v : ℕ) : Type 0 where
-  pub index : ℕ
-  pub event : Event
-  pub at : event_at streams q index ≡ Some event
-  pub stamps : is_stamp event ≡ true
-  pub count : event.serial.this ≡ v
-
-pub stamp_if : (streams : List Stream) (q : Pid) (v : ℕ) (f : ℕ × Event)
-    → stamp_of streams q v ≡ Some f → (s : HasStamp streams q v) × (f.1 ≡ s.event)
-stamp_if streams q v f is =
-    let found = given_from (own_rule v) q 0 (events_of streams q) f is in
-    let g = found.1 in
-    let says = cond_some (is_stamp g && g.serial.this == v) (0 + found.0, g) f found.3 in
-    let parts = and_parts (is_stamp g) (g.serial.this == v) says.0 in (
-      record {
-        index = found.0;
-        event = g;
-        at = found.2;
-        stamps = parts.0;
-        count = eqb-true g.serial.this v parts.1;
-      },
-      ap (λ (x : ℕ × Event). x.1) (sym says.1),
-    )
-
-pub none_stamped : (streams : List Stream) (q : Pid) (v : ℕ) → stamp_of streams q v ≡ None
-    → HasStamp streams q v → ⊥
-none_stamped streams q v none s =
-    let e = s.event in
-    none-some (0 + s.index, e)
-    (sym (from_none (own_rule v) q 0 (events_of streams q) none s.index e s.at)
-    ∙ ap (λ b. cond b (Some (0 + s.index, e)) None)
-    (and_from (is_stamp e) (e.serial.this == v) s.stamps (eq-eqb e.serial.this v s.count)))
 
 -- WHAT PAIRING ACCEPTS
 

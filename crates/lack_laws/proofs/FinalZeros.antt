@@ -133,8 +133,7 @@ module _ (top : ℕ) (wholes : List Whole) (sound : IsStreams (all_streams whole
       → (is_stamp f ≡ true → 0 < f.serial.prev) → event_at all p i ≡ Some e → is_stamp e ≡ true
       → 0 < e.serial.prev
   in_turn p = zero_never [] (events_of all p) (along_from [] (events_of all p) (λ k e at.
-      let rise = fit.rises p k e at in
-      (omega arith, full.goes_on p k e at)))
+      (omega (arith, fit.rises p k e at), full.goes_on p k e at)))
 
   pub in_all : (p : Pid) (i : ℕ) (e : Event) → event_at told p i ≡ Some e
       → (k : ℕ) × (event_at all p k ≡ Some e)
@@ -159,8 +158,7 @@ module _ (top : ℕ) (wholes : List Whole) (sound : IsStreams (all_streams whole
       (at_mark wholes p first.index (record { event = z.received; told = true }) was.0)
       (λ stamps. absurd (false≢true (sym z.receives ∙ stamps)))
       (at_mark wholes p place.index (record { event = z.event; told = true }) place.at) z.stamps in
-      let none = z.is_zero in
-      absurd (omega arith)
+      absurd (omega (arith, z.is_zero))
 
   -- each event tells of a stamp of the process that it is from
   pub record Tells (e : Event) : Type 0 where
@@ -221,8 +219,7 @@ module _ (top : ℕ) (wholes : List Whole) (sound : IsStreams (all_streams whole
       let some = z.above in
       let above = in_turn q s.index t.index s.event t.event turn s_at (λ _. omega arith) t.at
       t.stamps in
-      let none = z.is_zero in
-      absurd (omega arith)
+      absurd (omega (arith, z.is_zero))
 
   no_unfounded : (p : Pid) (i : ℕ) → ¬ IsUnfounded told p i
   no_unfounded p i (inl z) = no_receive p i z

@@ -159,8 +159,7 @@ module _ (top : ℕ) (streams : List Stream) (good : IsOpen top streams) (p : Pi
         elim (cases_lt j last.index) [
           | inl earlier ↦
               let lead = good.leads q j last.index d last.event earlier at_d last.at last.stamps in
-              let rise = lead.0 in
-              (omega arith, λ none. lead.1 (root none))
+              (omega (arith, lead.0), λ none. lead.1 (root none))
           | inr not_earlier ↦
               let here : j ≡ last.index = omega arith in
               let same = same_Some last.event d (sym last.at

@@ -40,8 +40,7 @@ leads streams timely p j i d e less at_d at_e stamp =
     let above = ltb-true (greatest_count before) e.serial.this
     (above_if (is_stamp e) (nat_lt (greatest_count before) e.serial.this) stamp
     (timely p i e at_e)) in
-    let low = greatest_has (events_of streams p) i j d at_d less in
-    omega arith
+    omega (arith, greatest_has (events_of streams p) i j d at_d less)
 
 record IsSettledNext (earlier : List Move) (m : Move) : Type 0 where
   turn : out_of_turn earlier m ≡ false

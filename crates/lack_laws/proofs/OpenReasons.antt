@@ -141,8 +141,7 @@ needless_if top streams good sent caused = record {
   reported = λ p i e at. seen_if streams e (sent p i e at);
   timely = λ p i e at. on_time (is_stamp e) (greatest_count (take i (events_of streams p)))
       e.serial.this (λ stamps.
-      let rise = good.fit.rises p i e at in
-      greatest_low (events_of streams p) i e.serial.this (omega arith)
+      greatest_low (events_of streams p) i e.serial.this (omega (arith, good.fit.rises p i e at))
       (λ j d less there. (good.leads p j i d e less there at stamps).0));
   caused = λ p i e at. caused_at [] (events_of streams p) (caused p) i e at;
   within = good.within;
@@ -269,8 +268,7 @@ contradicts top streams (Late p i) against none =
 contradicts top streams (Unfounded p i) against none = none.founded p i against
 contradicts top streams (TooHigh p i) against none =
     let high = ltb-true top against.event.serial.this against.holds in
-    let low = none.within p i against.event against.at in
-    absurd (omega arith)
+    absurd (omega (arith, none.within p i against.event against.at))
 
 pub open_final : (top : ℕ) (streams : List Stream) → IsStreams streams → (reason : OpenReason)
     → StandsAgainstOpen top streams reason → (others : List Pid) (acts : List Act) → NoReset acts

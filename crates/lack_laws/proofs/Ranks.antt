@@ -44,9 +44,7 @@ insert_by P c d ds before later here =
           → P (cond y (d ∷ insert_count c ds) (d ∷ ds))) [
             | true ↦ λ more. later (ltb-true d c more)
             | false ↦ λ high.
-                let at_least = ltb-false c d low in
-                let at_most = ltb-false d c high in
-                here (omega arith)
+                here (omega (arith, ltb-false c d low, ltb-false d c high))
           ] refl
     ] refl
 
@@ -187,9 +185,7 @@ low_first : (c : ℕ) (cs : List ℕ) (n : ℕ) → Climbs (c ∷ cs) → c ≤ 
 low_first c [] n climb = omega arith
 low_first c (d ∷ ds) zero climb = omega arith
 low_first c (d ∷ ds) (suc n) climb =
-    let next = low_first d ds n climb.1 in
-    let high = climb.0.0 in
-    omega arith
+    omega (arith, low_first d ds n climb.1, climb.0.0)
 
 rises : (cs : List ℕ) → Climbs cs → (m n : ℕ) → m < n → count_of_rank cs m < count_of_rank cs n
 rises [] climb m n less = less
@@ -197,9 +193,7 @@ rises (c ∷ []) climb m n less = omega arith
 rises (c ∷ d ∷ ds) climb zero zero less = absurd (omega (arith, less))
 rises (c ∷ d ∷ ds) climb (suc m) zero less = absurd (omega (arith, less))
 rises (c ∷ d ∷ ds) climb zero (suc n) less =
-    let low = low_first d ds n climb.1 in
-    let high = climb.0.0 in
-    omega arith
+    omega (arith, low_first d ds n climb.1, climb.0.0)
 rises (c ∷ d ∷ ds) climb (suc m) (suc n) less = rises (d ∷ ds) climb.1 m n (omega (arith, less))
 
 first_is : (rest : List ℕ) → count_of_rank (0 ∷ rest) 0 ≡ 0

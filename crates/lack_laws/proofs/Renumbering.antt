@@ -54,9 +54,7 @@ module _ (f : ℕ → ℕ) (keeps : KeepsOrder f) where
 
   pub injective : (m n : ℕ) → f m ≡ f n → m ≡ n
   injective m n same =
-      let low = le_back m n (omega (arith, same)) in
-      let high = le_back n m (omega (arith, same)) in
-      omega arith
+      omega (arith, le_back m n (omega (arith, same)), le_back n m (omega (arith, same)))
 
   pub eq_same : (m n : ℕ) → (f m == f n) ≡ (m == n)
   eq_same m n = elim (m == n) as (λ b. (m == n) ≡ b → (f m == f n) ≡ b) [
@@ -68,13 +66,11 @@ module _ (f : ℕ → ℕ) (keeps : KeepsOrder f) where
   pub max_kept : (m n : ℕ) → max (f m) (f n) ≡ f (max m n)
   max_kept m n = elim (cases_lt m n) [
     | inl less ↦
-        let up = keeps.rises m n less in
         let same : f (max m n) ≡ f n = ap f (omega arith) in
-        omega arith
+        omega (arith, keeps.rises m n less)
     | inr more ↦
-        let up = le_kept n m more in
         let same : f (max m n) ≡ f m = ap f (omega arith) in
-        omega arith
+        omega (arith, le_kept n m more)
   ]
 
   -- WHAT EVENTS LEAVE

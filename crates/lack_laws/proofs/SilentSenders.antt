@@ -99,9 +99,7 @@ module _ (top : ℕ) (streams : List Stream) (good : IsOpen top streams) (p : Pi
 
   high : v ≤ top
   high =
-      let rise = good.fit.rises p i e at in
-      let low = good.within p i e at in
-      omega arith
+      omega (arith, good.fit.rises p i e at, good.within p i e at)
 
   joins_sent : CanJoin top silent_there z 0 send
   joins_sent = record {
@@ -157,8 +155,7 @@ module _ (top : ℕ) (streams : List Stream) (good : IsOpen top streams) (p : Pi
               omega arith,
               λ none.
                   let from = own_stamp p i e at_sent stamps ∙ sym (own_stamp p j d at_d stamps_d) in
-                  let root = open_sent.roots p p i j e d at_sent at_d none from lead.0 in
-                  absurd (omega arith),
+                  absurd (omega (arith, open_sent.roots p p i j e d at_sent at_d none from lead.0)),
             )
         | inr not_later ↦
             let here : i ≡ j = omega arith in

@@ -15,7 +15,7 @@ use Rattle.st_core.specs.Run.{Stream, pids_of}
 use Rattle.st_core.specs.Streams.{events_of, is_among, IsStreams, lists, stream_of, total_of}
 use Rattle.st_core.specs.Laws.{IsReportAmong}
 use Rattle.st_core.proofs.ForCallers.{is_lt-true, pid_cmp-Equal, pid_eq-refl, pid_same}
-use Rattle.st_core.proofs.ForCallers.{IsBelow-trans, or_right, AreReports, lists_among}
+use Rattle.st_core.proofs.ForCallers.{IsBelow-trans, or_false, or_right, AreReports, lists_among}
 use Rattle.st_core.proofs.ForCallers.{all_apart, is_among-missing}
 use Rattle.st_pair.proofs.ForCallers.{events_in, pid_total}
 use Rattle.st_order.specs.Items.{greatest}
@@ -192,11 +192,6 @@ or_left true true c = refl
 or_left true false c = refl
 or_left false b c = refl
 
-or_known : (a b : Bool) → a ≡ true → a ≡ (b || a)
-or_known true true h = refl
-or_known true false h = refl
-or_known false b h = absurd (false≢true h)
-
 module _ (streams : List Stream) (sound : IsStreams streams) where
   pub silent_sound : (others : List Pid) → IsStreams (with_silent streams others)
   silent_sound [] = sound
@@ -220,11 +215,7 @@ module _ (streams : List Stream) (sound : IsStreams streams) where
 
   pub silent_lists : (others : List Pid) (p : Pid)
       → lists (with_silent streams others) p ≡ (lists streams p || is_among others p)
-  silent_lists [] p = or_nothing (lists streams p)
-    where
-      or_nothing : (b : Bool) → b ≡ (b || false)
-      or_nothing true = refl
-      or_nothing false = refl
+  silent_lists [] p = sym (or_false (lists streams p))
   silent_lists (q ∷ qs) p =
       let all = with_silent streams qs in
       let before = silent_lists qs p in
@@ -233,8 +224,7 @@ module _ (streams : List Stream) (sound : IsStreams streams) where
       ≡ (lists streams p || (pid_eq q p || is_among qs p))) [
         | true ↦ λ is. elim (pid_eq q p) as (λ b. pid_eq q p ≡ b
             → lists all p ≡ (b || lists all p)) [
-              | true ↦ λ same. or_known (lists all p) true (ap (lists all) (sym (pid_same q p same))
-                  ∙ is)
+              | true ↦ λ same. ap (lists all) (sym (pid_same q p same)) ∙ is
               | false ↦ λ _. refl
             ] refl
             ∙ ap (λ b. pid_eq q p || b) before ∙ sym turn
@@ -288,8 +278,7 @@ total_inserted q (x ∷ rest) =
           (x ∷ rest) in omega arith
       | false ↦
           let one = sum_by-cons (λ (y : Stream). length y.events) x (inserted q rest) in
-          let more = total_inserted q rest in
-          omega arith
+          omega (arith, total_inserted q rest)
     ]
 
 pub silent_total : (streams : List Stream) (others : List Pid)
