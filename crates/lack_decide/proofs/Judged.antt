@@ -12,7 +12,6 @@ use Rattle.st_plan.specs.Marks.{told_events}
 use Rattle.lack_needs.specs.Completions.{marked_with}
 use Rattle.lack_needs.proofs.ForCallers.{IsToldAt}
 
--- one more place
 pub told_next : (all : List Stream) (lists : List (List Bool)) (streams : List Stream) (n : ℕ)
     → ((k : ℕ) → k < n → IsToldAt all lists streams k) → IsToldAt all lists streams n
     → (k : ℕ) → k < n + 1 → IsToldAt all lists streams k

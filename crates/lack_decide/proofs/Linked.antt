@@ -28,10 +28,8 @@ use Rattle.st_plan.proofs.ForCallers.{greatest_has}
 
 -- THE EVENTS OF A PROCESS
 
--- an event has a process that is listed
 pub place_with : (streams : List Stream) (p : Pid) (i : ℕ) (e : Event)
-    → event_at streams p i ≡ Some e
-    → (k : ℕ) × (slice_get (pids_of streams) k ≡ Some p)
+    → event_at streams p i ≡ Some e → (k : ℕ) × (slice_get (pids_of streams) k ≡ Some p)
 place_with [] p i e at = absurd (none-some e at)
 place_with (x ∷ streams) p i e at =
     elim (pid_eq x.pid p) as (λ b. pid_eq x.pid p ≡ b
@@ -61,8 +59,7 @@ AllFit top streams links n = (k : ℕ) (p : Pid) → k < n → slice_get (pids_o
 module _ (top : ℕ) (streams : List Stream) (links : List (List ℕ)) (sound : IsStreams streams)
     (fit : (p : Pid) → AreEventsFit top streams links (events_of streams p)) where
   grows : (p : Pid) (j i : ℕ) (d e : Event) → j < i → event_at streams p j ≡ Some d
-      → event_at streams p i ≡ Some e
-      → is_stamp e ≡ true → d.serial.this < e.serial.this
+      → event_at streams p i ≡ Some e → is_stamp e ≡ true → d.serial.this < e.serial.this
   grows p j i d e less at there stamps =
       let below = greatest_has (events_of streams p) i j d at less in
       let before = take i (events_of streams p) in
@@ -70,7 +67,6 @@ module _ (top : ℕ) (streams : List Stream) (links : List (List ℕ)) (sound : 
       (nat_lt (greatest_count before) e.serial.this) stamps (fit p i e there).goes_on.timely) in
       omega (arith, below, above)
 
-  -- two stamps of a process with one count are one
   one_stamp : (p : Pid) (j i : ℕ) (d e : Event) → event_at streams p j ≡ Some d
       → event_at streams p i ≡ Some e
       → is_stamp d ≡ true → is_stamp e ≡ true → d.serial.this ≡ e.serial.this → j ≡ i

@@ -68,7 +68,6 @@ abbrev pub AllNeeded : List Stream → List (List Bool) → ℕ → Type 0
 AllNeeded streams lists n = (k : ℕ) (p : Pid) → k < n → slice_get (pids_of streams) k ≡ Some p
     → AreNeeded streams (events_of streams p) (get_or lists k [])
 
--- a process with a marked event is listed
 listed_at : (streams : List Stream) (lists : List (List Bool)) (p : Pid) (i : ℕ) (m : Marked)
     → slice_get (marked_of (wholes_with streams lists) p) i ≡ Some m
     → (k : ℕ) × (slice_get (pids_of streams) k ≡ Some p)
@@ -79,7 +78,6 @@ listed_at streams lists p i m at =
     ∙ ap (λ es. slice_get es i) (events_all wholes p)
     ∙ event_of_mark (marked_of wholes p) i m at)
 
--- so each addition is needed
 pub additions_needed : (streams : List Stream) (lists : List (List Bool)) (n : ℕ)
     → IsRising (pids_of streams) → length (pids_of streams) ≤ n → AllNeeded streams lists n
     → AreAdditionsNeeded (wholes_with streams lists)

@@ -7,9 +7,9 @@ use Rattle.std.proofs.Common.{if◌then◌else◌}
 use Rattle.std.specs.Prelude.{is_none, is_some}
 use Rattle.std.specs.declared.cmp.Ordering.TheVariants.{Less, Equal, Greater}
 use Rattle.std.specs.Ordering.{ordering_reverse}
-use Rattle.std.proofs.lemmas.Bool.{and_from, and_parts, cases_lt, eq-eqb, eqb-true, false≢true}
-use Rattle.std.proofs.lemmas.Bool.{ltb-false, ltb-true}
-use Rattle.std.proofs.lemmas.Option.{none-some, same_Some}
+use Rattle.std.proofs.lemmas.Bool.{and_from, and_parts, cases_lt, cases_order, eq-eqb, eqb-true}
+use Rattle.std.proofs.lemmas.Bool.{false≢true, ltb-false, ltb-true, not-false, or_parts}
+use Rattle.std.proofs.lemmas.Option.{none-some, option_and_then_some, same_Some}
 use Rattle.st_core.specs.declared.types.Pid.{Pid}
 use Rattle.st_core.specs.declared.types.Event.{Event}
 use Rattle.st_core.specs.Laws.{greatest_count}
@@ -39,17 +39,6 @@ use Rattle.lack_decide.specs.declared.answer.Never.TheVariants as never
 use Rattle.lack_decide.specs.Answers.{reason_rank, IsAgainst, IsLast, IsFirstReason, IsSendOf}
 use Rattle.lack_decide.specs.Found.{IsFoundReason}
 
--- TESTS
-
-neither : (a b : Bool) → (a || b) ≡ false → (a ≡ false) × (b ≡ false)
-neither true b h = absurd (false≢true (sym h))
-neither false b h = (refl, h)
-
--- a receive, or not (a stamp that counts higher)
-stamps_low : (stamp less : Bool) → (not stamp || less) ≡ false → (stamp ≡ true) × (less ≡ false)
-stamps_low true less h = (refl, h)
-stamps_low false less h = absurd (false≢true (sym h))
-
 -- ONE PLACE AND ANOTHER
 
 module _ (q p : Pid) (j i : ℕ) where
@@ -59,115 +48,85 @@ module _ (q p : Pid) (j i : ℕ) where
         | Less ↦ λ is. inl (inl is)
         | Equal ↦ λ is.
             let same = pid_cmp-Equal q p is in
-            elim (cases_lt j i) [
-              | inl less ↦ inl (inr (same, less))
-              | inr high ↦ elim (cases_lt i j) [
-                | inl less ↦ inr (inr (sym same, less))
-                | inr low ↦
-                    let index : j ≡ i = omega arith in
-                    absurd (false≢true (sym other ∙ and_from (pid_eq q p) (j == i)
-                    (ap (λ (x : Pid). pid_eq x p) same ∙ pid_eq-refl p) (eq-eqb j i index)))
-              ]
+            elim (cases_order j i) [
+              | inl index ↦ absurd (false≢true (sym other ∙ and_from (pid_eq q p) (j == i)
+                  (ap (λ (x : Pid). pid_eq x p) same ∙ pid_eq-refl p) (eq-eqb j i index)))
+              | inr (inl less) ↦ inl (inr (same, less))
+              | inr (inr less) ↦ inr (inr (sym same, less))
             ]
         | Greater ↦ λ is. inr (inl (pid_total.antisymm p q ∙ ap ordering_reverse is))
       ] refl
 
 -- WHAT PAIRING ASKS
 
--- the last stamp before an index, if there is one, is among those before it
 module _ (streams : List Stream) (p : Pid) where
-  abbrev IsLastStamp : ℕ → ℕ → Type 0
-  IsLastStamp i j = IsLast streams p i (λ f. is_stamp f ≡ true) j
+  -- what holds of the events before an index, and of the one there
+  up_to : (P : ℕ → Event → Type 0) (i : ℕ) → ((f : Event) → event_at streams p i ≡ Some f → P i f)
+      → ((k : ℕ) (f : Event) → k < i → event_at streams p k ≡ Some f → P k f)
+      → (k : ℕ) (f : Event) → k < suc i → event_at streams p k ≡ Some f → P k f
+  up_to P i here before k f within at = elim (cases_lt k i) [
+    | inl less ↦ before k f less at
+    | inr high ↦
+        let same : i ≡ k = omega (arith, within, high) in
+        subst (λ n. P n f) same (here f (subst (λ n. event_at streams p n ≡ Some f) (sym same) at))
+  ]
 
-  later_last : (i j : ℕ) → ((f : Event) → event_at streams p i ≡ Some f → is_stamp f ≡ true → ⊥)
-      → IsLastStamp i j → IsLastStamp (suc i) j
-  later_last i j here l = record {
-    event = l.event;
-    at = l.at;
-    before = let less = l.before in omega (arith, less);
-    is = l.is;
-    last = λ k f after within at. elim (cases_lt k i) [
-      | inl less ↦ l.last k f after less at
-      | inr high ↦
-          let same : k ≡ i = omega (arith, within, high) in
-          here f (subst (λ n. event_at streams p n ≡ Some f) same at)
-    ];
-  }
+  -- the last stamp before an index, or that there is none
+  abbrev IsLastStamp : ℕ → Option (ℕ × Event) → Type 0
+  IsLastStamp i None = (j : ℕ) (f : Event) → j < i → event_at streams p j ≡ Some f
+      → is_stamp f ≡ true → ⊥
+  IsLastStamp i (Some g) =
+      (l : IsLast streams p i (λ f. is_stamp f ≡ true) g.0) × (l.event ≡ g.1)
 
-  last_stamp : (i : ℕ) (g : ℕ × Event) → stamp_before (events_of streams p) i ≡ Some g
-      → (l : IsLastStamp i g.0) × (l.event ≡ g.1)
-  unfolding later_last
-  last_stamp zero g h = absurd (none-some g h)
-  last_stamp (suc i) g h = elim (event_at streams p i) as (λ o. event_at streams p i ≡ o
+  still_last : (i : ℕ) (last : Option (ℕ × Event))
+      → ((f : Event) → event_at streams p i ≡ Some f → is_stamp f ≡ true → ⊥)
+      → IsLastStamp i last → IsLastStamp (suc i) last
+  still_last i None here none = up_to (λ _ f. is_stamp f ≡ true → ⊥) i here none
+  still_last i (Some g) here found =
+      let l = found.0 in
+      let low = l.before in
+      let last = up_to (λ k f. g.0 < k → is_stamp f ≡ true → ⊥) i (λ f at _. here f at)
+      (λ k f less at after. l.last k f after less at) in (
+        record {
+          event = l.event;
+          at = l.at;
+          before = omega (arith, low);
+          is = l.is;
+          last = λ k f after within at. last k f within at after;
+        },
+        found.1,
+      )
+
+  last_stamp : (i : ℕ) → IsLastStamp i (stamp_before (events_of streams p) i)
+  last_stamp zero = λ j f less at stamps. omega (arith, less)
+  last_stamp (suc i) =
+      let rest = stamp_before (events_of streams p) i in
+      elim (event_at streams p i) as (λ o. event_at streams p i ≡ o
       → (let last : Option (ℕ × Event) = elim o [
-        | None ↦ stamp_before (events_of streams p) i
-        | Some f ↦ if is_stamp f then Some (i, f) else stamp_before (events_of streams p) i
-      ] in last) ≡ Some g → (l : IsLastStamp (suc i) g.0) × (l.event ≡ g.1)) [
-        | None ↦ λ none h.
-            let rest = last_stamp i g h in
-            (later_last i g.0 (λ f at. absurd (none-some f (sym none ∙ at))) rest.0, rest.1)
-        | Some f ↦ λ at h. elim (is_stamp f) as (λ b. is_stamp f ≡ b
-            → cond b (Some (i, f)) (stamp_before (events_of streams p) i) ≡ Some g
-            → (l : IsLastStamp (suc i) g.0) × (l.event ≡ g.1)) [
-              | true ↦ λ stamps h.
-                  let here : ℕ × Event = (i, f) in
-                  let pair = same_Some here g h in
-                  let index : i ≡ g.0 = ap (λ (x : ℕ × Event). x.0) pair in
-                  let event : f ≡ g.1 = ap (λ (x : ℕ × Event). x.1) pair in (
-                    record {
-                      event = f;
-                      at = subst (λ n. event_at streams p n ≡ Some f) index at;
-                      before = omega (arith, index);
-                      is = stamps;
-                      last = λ k d after within there. absurd (omega (arith, index, after, within));
-                    },
-                    event,
-                  )
-              | false ↦ λ receives h.
-                  let rest = last_stamp i g h in (
-                    later_last i g.0 (λ d there stamps. false≢true (sym receives
-                        ∙ ap is_stamp (same_Some f d (sym at ∙ there)) ∙ stamps)) rest.0,
-                    rest.1,
-                  )
-            ] refl h
-      ] refl h
-
-  -- there is one, if there is a stamp
-  some_stamp : (i j : ℕ) (f : Event) → j < i → event_at streams p j ≡ Some f → is_stamp f ≡ true
-      → stamp_before (events_of streams p) i ≡ None → ⊥
-  some_stamp zero j f less at stamps none = omega (arith, less)
-  some_stamp (suc i) j f less at stamps none = elim (event_at streams p i)
-      as (λ o. event_at streams p i ≡ o
-      → (let last : Option (ℕ × Event) = elim o [
-        | None ↦ stamp_before (events_of streams p) i
-        | Some d ↦ if is_stamp d then Some (i, d) else stamp_before (events_of streams p) i
-      ] in last) ≡ None → ⊥) [
-        | None ↦ λ nothing none. some_stamp i j f
-            (elim (cases_lt j i) [
-              | inl below ↦ below
-              | inr high ↦
-                  let same : j ≡ i = omega (arith, less, high) in
-                  absurd (none-some f (sym nothing ∙ subst (λ n. event_at streams p n ≡ Some f) same
-                  at))
-            ]) at stamps none
-        | Some d ↦ λ there none. elim (is_stamp d) as (λ b. is_stamp d ≡ b
-            → cond b (Some (i, d)) (stamp_before (events_of streams p) i) ≡ None → ⊥) [
-              | true ↦ λ is none. let here : ℕ × Event = (i, d) in none-some here (sym none)
-              | false ↦ λ receives none. some_stamp i j f
-                  (elim (cases_lt j i) [
-                    | inl below ↦ below
-                    | inr high ↦
-                        let same : j ≡ i = omega (arith, less, high) in
-                        let event = same_Some d f (sym there
-                        ∙ subst (λ n. event_at streams p n ≡ Some f) same at) in
-                        absurd (false≢true (sym receives ∙ ap is_stamp event ∙ stamps))
-                  ]) at stamps none
-            ] refl none
-      ] refl none
+        | None ↦ rest
+        | Some f ↦ if is_stamp f then Some (i, f) else rest
+      ] in IsLastStamp (suc i) last)) [
+        | None ↦ λ none.
+            still_last i rest (λ f at. absurd (none-some f (sym none ∙ at))) (last_stamp i)
+        | Some f ↦ λ at. elim (is_stamp f)
+            as (λ b. is_stamp f ≡ b → IsLastStamp (suc i) (cond b (Some (i, f)) rest)) [
+              | true ↦ λ stamps. (
+                record {
+                  event = f;
+                  at = at;
+                  before = omega arith;
+                  is = stamps;
+                  last = λ k d after within there. absurd (omega (arith, after, within));
+                },
+                refl,
+              )
+              | false ↦ λ receives. still_last i rest (λ d there stamps. false≢true (sym receives
+                  ∙ ap is_stamp (same_Some f d (sym at ∙ there)) ∙ stamps)) (last_stamp i)
+            ] refl
+      ] refl
 
 got : (q : Pid) (this : ℕ) (p : Pid) (i : ℕ) (e : Event) → is_stamp e ≡ false → e.from ≡ q
-    → e.serial.this ≡ this
-    → got_rule q this p i e ≡ Some (p, i)
+    → e.serial.this ≡ this → got_rule q this p i e ≡ Some (p, i)
 got q this p i e receives from count =
     let place : Pid × ℕ = (p, i) in
     ap (λ b. cond b None (cond (pid_eq e.from q && e.serial.this == this) (Some place) None))
@@ -197,8 +156,7 @@ hidden_as false q None = refl
 hidden_as false q (Some f) = refl
 
 some_as : (stamp : Bool) (q : Pid) (o : Option (ℕ × Event))
-    → cond stamp false (hides (source_from q o)) ≡ false
-    → (stamp || is_some o) ≡ true
+    → cond stamp false (hides (source_from q o)) ≡ false → (stamp || is_some o) ≡ true
 some_as true q o h = refl
 some_as false q None h = absurd (false≢true (sym h))
 some_as false q (Some f) h = refl
@@ -225,35 +183,32 @@ module _ (top : ℕ) (streams : List Stream) (sound : IsStreams streams) where
 
   not_falling : (p : Pid) (i : ℕ) (e : Event) (j : ℕ) → not_rising streams p i e ≡ None
       → IsAgainst top streams p i e (never.NotRising j) → ⊥
-  not_falling p i e j quiet against = let stamps = against.0 in let l = against.1 in let high =
-      against.2 in
-      elim (stamp_before (events_of streams p) i)
-      as (λ o. stamp_before (events_of streams p) i ≡ o → option_and_then (λ (f : ℕ × Event).
-      if not (is_stamp e) || nat_lt f.1.serial.this e.serial.this then None else Some
-      (fault.NotRising p i f.0)) o
-      ≡ None → ⊥) [
-        | None ↦ λ none quiet. some_stamp streams p i j l.event l.before l.at l.is none
-        | Some f ↦ λ is quiet.
-            let other = last_stamp streams p i f is in
+  not_falling p i e j quiet against =
+      let stamps = against.0 in
+      let l = against.1 in
+      let high = against.2 in
+      elim (stamp_before (events_of streams p) i) as (λ o. IsLastStamp streams p i o
+      → option_and_then (λ (f : ℕ × Event).
+      if not (is_stamp e) || nat_lt f.1.serial.this e.serial.this then None
+      else Some (fault.NotRising p i f.0)) o ≡ None → ⊥) [
+        | None ↦ λ none quiet. none j l.event l.before l.at l.is
+        | Some f ↦ λ other quiet.
             let m = other.0 in
             let test = cond_none (not (is_stamp e) || nat_lt f.1.serial.this e.serial.this)
             (fault.NotRising p i f.0) quiet in
             let less = ltb-true f.1.serial.this e.serial.this
             (ap (λ b. not b || nat_lt f.1.serial.this e.serial.this) (sym stamps) ∙ test) in
-            elim (cases_lt j f.0) [
-              | inl below ↦ l.last f.0 m.event below m.before m.at m.is
-              | inr above ↦ elim (cases_lt f.0 j) [
-                | inl below ↦ m.last j l.event below l.before l.at l.is
-                | inr equal ↦
-                    let index : f.0 ≡ j = omega (arith, above, equal) in
-                    let same = same_Some m.event l.event
-                    (sym m.at ∙ ap (event_at streams p) index ∙ l.at) in
-                    let count : f.1.serial.this ≡ l.event.serial.this =
-                    ap (λ (x : Event). x.serial.this) (sym other.1 ∙ same) in
-                    omega (arith, less, high, count)
-              ]
+            elim (cases_order f.0 j) [
+              | inl index ↦
+                  let same = same_Some m.event l.event
+                  (sym m.at ∙ ap (event_at streams p) index ∙ l.at) in
+                  let count : f.1.serial.this ≡ l.event.serial.this =
+                  ap (λ (x : Event). x.serial.this) (sym other.1 ∙ same) in
+                  omega (arith, less, high, count)
+              | inr (inl below) ↦ m.last j l.event below l.before l.at l.is
+              | inr (inr below) ↦ l.last f.0 m.event below m.before m.at m.is
             ]
-      ] refl quiet
+      ] (last_stamp streams p i) quiet
 
   not_twice : (p : Pid) (i : ℕ) (e : Event) (q : Pid) (j : ℕ) → event_at streams p i ≡ Some e
       → repeated streams p i e ≡ None → IsAgainst top streams p i e (never.Repeated q j) → ⊥
@@ -314,9 +269,7 @@ module _ (top : ℕ) (streams : List Stream) (sound : IsStreams streams) where
       let es = events_of streams p in
       let less = ltb-true (greatest_count (take i es)) e.serial.this
       (above_if (is_stamp e) (nat_lt (greatest_count (take i es)) e.serial.this) stamps quiet) in
-      let low = greatest_has es i j l.event l.at l.before in
-      let high = l.is.1 in
-      omega (arith, less, low, high)
+      omega (arith, less, greatest_has es i j l.event l.at l.before, l.is.1)
 
   unfounded_if : (p : Pid) (i : ℕ) (e : Event) → event_at streams p i ≡ Some e
       → IsAgainst top streams p i e never.Unfounded → IsUnfounded streams p i
@@ -361,8 +314,7 @@ module _ (top : ℕ) (streams : List Stream) (sound : IsStreams streams) where
   not_against (never.Late j) p i e at quiet against = not_late p i e j quiet against
   not_against never.Unfounded p i e at quiet against = quiet (unfounded_if p i e at against)
   not_against never.TooHigh p i e at quiet against =
-      let low = ltb-false top e.serial.this quiet in
-      omega (arith, low, against)
+      omega (arith, ltb-false top e.serial.this quiet, against)
 
   -- THE FIRST THAT IS
 
@@ -371,8 +323,7 @@ module _ (top : ℕ) (streams : List Stream) (sound : IsStreams streams) where
 
   abbrev AreQuietBefore : Pid → ℕ → ℕ → Type 0
   AreQuietBefore p i n = (q : Pid) (j : ℕ) (f : Event) → event_at streams q j ≡ Some f
-      → IsEarlier q j p i
-      → IsQuiet n q j f
+      → IsEarlier q j p i → IsQuiet n q j f
 
   reason_if : (p : Pid) (i : ℕ) (e : Event) (reason : Never) → event_at streams p i ≡ Some e
       → IsAgainst top streams p i e reason → ((n : ℕ) → n < reason_rank reason → AreQuiet n)
@@ -399,24 +350,19 @@ module _ (top : ℕ) (streams : List Stream) (sound : IsStreams streams) where
   IsMeant (fault.Repeated p i q j) = IsFirstReason top streams p i (never.Repeated q j)
   IsMeant (fault.Mismatch p i q j) = IsFirstReason top streams p i (never.Mismatch q j)
 
-  -- the rules before one of them give nothing
-  record AreNone (n : ℕ) : Type 0 where
-    prev : 0 < n → first prev_not_before streams ≡ None
-    rising : 1 < n → first (not_rising streams) streams ≡ None
-    once : 2 < n → first (repeated streams) streams ≡ None
-    matched : 3 < n → first (mismatch streams) streams ≡ None
+  -- no reason of the kinds before this one
+  abbrev AreQuietBelow : ℕ → Type 0
+  AreQuietBelow n = (m : ℕ) → m < n → AreQuiet m
 
-  quiet_before : (n m : ℕ) → n ≤ 4 → AreNone n → m < n → AreQuiet m
-  quiet_before n zero small none less q j f at =
-      event_none prev_not_before streams (none.prev (omega (arith, less))) q j f at
-  quiet_before n (suc zero) small none less q j f at =
-      event_none (not_rising streams) streams (none.rising (omega (arith, less))) q j f at
-  quiet_before n (suc (suc zero)) small none less q j f at =
-      event_none (repeated streams) streams (none.once (omega (arith, less))) q j f at
-  quiet_before n (suc (suc (suc zero))) small none less q j f at =
-      event_none (mismatch streams) streams (none.matched (omega (arith, less))) q j f at
-  quiet_before n (suc (suc (suc (suc m)))) small none less q j f at =
-      absurd (omega (arith, less, small))
+  quiet_more : (n : ℕ) → AreQuietBelow n → AreQuiet n → AreQuietBelow (suc n)
+  quiet_more n below here m less = elim (cases_lt m n) [
+    | inl low ↦ below m low
+    | inr high ↦ let same : n ≡ m = omega (arith, less, high) in subst AreQuiet same here
+  ]
+
+  quiet_prev : first prev_not_before streams ≡ None → AreQuietBelow 1
+  quiet_prev none = quiet_more 0 (λ m less. absurd (omega (arith, less)))
+      (event_none prev_not_before streams none)
 
   prev_meant : (x : PairFault) → IsLeast prev_not_before streams x → IsMeant x
   prev_meant x l =
@@ -427,77 +373,69 @@ module _ (top : ℕ) (streams : List Stream) (sound : IsStreams streams) where
       subst IsMeant parts.1 (reason_if l.pid l.index e never.PrevNotBefore l.at high
       (λ n less. absurd (omega (arith, less))) l.least)
 
-  rising_meant : (x : PairFault) → AreNone 1 → IsLeast (not_rising streams) streams x → IsMeant x
-  rising_meant x none l =
+  rising_meant : (x : PairFault) → AreQuietBelow 1 → IsLeast (not_rising streams) streams x
+      → IsMeant x
+  rising_meant x below l =
       let e = l.event in
-      elim (stamp_before (events_of streams l.pid) l.index)
-      as (λ o. stamp_before (events_of streams l.pid) l.index ≡ o
-      → option_and_then (λ (f : ℕ × Event).
+      option_and_then_some (λ (f : ℕ × Event).
       if not (is_stamp e) || nat_lt f.1.serial.this e.serial.this then None
-      else Some (fault.NotRising l.pid l.index f.0)) o ≡ Some x → IsMeant x) [
-        | None ↦ λ nothing gives. absurd (none-some x gives)
-        | Some f ↦ λ is gives.
-            let parts = some_unless (not (is_stamp e) || nat_lt f.1.serial.this e.serial.this)
-            (fault.NotRising l.pid l.index f.0) x gives in
-            let tests = stamps_low (is_stamp e) (nat_lt f.1.serial.this e.serial.this) parts.0 in
-            let last = last_stamp streams l.pid l.index f is in
-            let low = ltb-false f.1.serial.this e.serial.this tests.1 in
-            let count = ap (λ (d : Event). d.serial.this) last.1 in
-            let high : e.serial.this ≤ last.0.event.serial.this = omega (arith, low, count) in
-            subst IsMeant parts.1 (reason_if l.pid l.index e (never.NotRising f.0) l.at
-            (tests.0, last.0, high) (λ n less. quiet_before 1 n (omega arith) none less) l.least)
-      ] refl l.gives
+      else Some (fault.NotRising l.pid l.index f.0))
+      (stamp_before (events_of streams l.pid) l.index) x l.gives (λ f is gives.
+      let less = nat_lt f.1.serial.this e.serial.this in
+      let parts = some_unless (not (is_stamp e) || less) (fault.NotRising l.pid l.index f.0) x
+      gives in
+      let tests = or_parts (not (is_stamp e)) less parts.0 in
+      let last = subst (IsLastStamp streams l.pid l.index) is (last_stamp streams l.pid l.index) in
+      let low = ltb-false f.1.serial.this e.serial.this tests.1 in
+      let count = ap (λ (d : Event). d.serial.this) last.1 in
+      let high : e.serial.this ≤ last.0.event.serial.this = omega (arith, low, count) in
+      subst IsMeant parts.1 (reason_if l.pid l.index e (never.NotRising f.0) l.at
+      (not-false (is_stamp e) tests.0, last.0, high) below l.least))
 
-  repeated_meant : (x : PairFault) → AreNone 2 → IsLeast (repeated streams) streams x → IsMeant x
-  repeated_meant x none l =
+  repeated_meant : (x : PairFault) → AreQuietBelow 2 → IsLeast (repeated streams) streams x
+      → IsMeant x
+  repeated_meant x below l =
       let e = l.event in
-      elim (receive_of streams e.from e.serial.this)
-      as (λ o. receive_of streams e.from e.serial.this ≡ o → option_and_then (λ (y : Pid × ℕ).
+      option_and_then_some (λ (y : Pid × ℕ).
       if is_stamp e || (pid_eq y.0 l.pid && y.1 == l.index) then None
-      else Some (fault.Repeated l.pid l.index y.0 y.1)) o ≡ Some x → IsMeant x) [
-        | None ↦ λ nothing gives. absurd (none-some x gives)
-        | Some y ↦ λ is gives.
-            let parts = some_unless (is_stamp e || (pid_eq y.0 l.pid && y.1 == l.index))
-            (fault.Repeated l.pid l.index y.0 y.1) x gives in
-            let tests = neither (is_stamp e) (pid_eq y.0 l.pid && y.1 == l.index) parts.0 in
-            let m = first_least (got_rule e.from e.serial.this) streams y pids_rise is in
-            let says = got_says e.from e.serial.this m.pid m.index m.event y m.gives in
-            let there : event_at streams y.0 y.1 ≡ Some m.event =
-            subst (λ (r : Pid). event_at streams r y.1 ≡ Some m.event) says.pid
-            (subst (λ (n : ℕ). event_at streams m.pid n ≡ Some m.event) says.index m.at) in
-            let earlier : IsEarlier y.0 y.1 l.pid l.index =
-            elim (in_order y.0 l.pid y.1 l.index tests.1) [
-              | inl before ↦ before
-              | inr after ↦
-                  let place : IsEarlier l.pid l.index m.pid m.index =
-                  subst (λ (r : Pid). IsEarlier l.pid l.index r m.index) (sym says.pid)
-                  (subst (λ (n : ℕ). IsEarlier l.pid l.index y.0 n) (sym says.index) after) in
-                  let found : Pid × ℕ = (l.pid, l.index) in
-                  absurd (none-some found (sym (m.least l.pid l.index e l.at place)
-                  ∙ got e.from e.serial.this l.pid l.index e tests.0 refl refl))
-            ] in
-            subst IsMeant parts.1 (reason_if l.pid l.index e (never.Repeated y.0 y.1) l.at
-            (tests.0, earlier, m.event, there, says.receives, says.from, says.count)
-            (λ n less. quiet_before 2 n (omega arith) none less) l.least)
-      ] refl l.gives
+      else Some (fault.Repeated l.pid l.index y.0 y.1))
+      (receive_of streams e.from e.serial.this) x l.gives (λ y is gives.
+      let here = pid_eq y.0 l.pid && y.1 == l.index in
+      let parts = some_unless (is_stamp e || here) (fault.Repeated l.pid l.index y.0 y.1) x
+      gives in
+      let tests = or_parts (is_stamp e) here parts.0 in
+      let m = first_least (got_rule e.from e.serial.this) streams y pids_rise is in
+      let says = got_says e.from e.serial.this m.pid m.index m.event y m.gives in
+      let there : event_at streams y.0 y.1 ≡ Some m.event =
+      subst (λ (r : Pid). event_at streams r y.1 ≡ Some m.event) says.pid
+      (subst (λ (n : ℕ). event_at streams m.pid n ≡ Some m.event) says.index m.at) in
+      let earlier : IsEarlier y.0 y.1 l.pid l.index =
+      elim (in_order y.0 l.pid y.1 l.index tests.1) [
+        | inl before ↦ before
+        | inr after ↦
+            let place : IsEarlier l.pid l.index m.pid m.index =
+            subst (λ (r : Pid). IsEarlier l.pid l.index r m.index) (sym says.pid)
+            (subst (λ (n : ℕ). IsEarlier l.pid l.index y.0 n) (sym says.index) after) in
+            let found : Pid × ℕ = (l.pid, l.index) in
+            absurd (none-some found (sym (m.least l.pid l.index e l.at place)
+            ∙ got e.from e.serial.this l.pid l.index e tests.0 refl refl))
+      ] in
+      subst IsMeant parts.1 (reason_if l.pid l.index e (never.Repeated y.0 y.1) l.at
+      (tests.0, earlier, m.event, there, says.receives, says.from, says.count) below l.least))
 
-  mismatch_meant : (x : PairFault) → AreNone 3 → IsLeast (mismatch streams) streams x → IsMeant x
-  mismatch_meant x none l =
+  mismatch_meant : (x : PairFault) → AreQuietBelow 3 → IsLeast (mismatch streams) streams x
+      → IsMeant x
+  mismatch_meant x below l =
       let e = l.event in
-      elim (stamp_of streams e.from e.serial.this)
-      as (λ o. stamp_of streams e.from e.serial.this ≡ o → option_and_then (λ (f : ℕ × Event).
-      if is_stamp e || agrees f.1 e then None else Some (fault.Mismatch l.pid l.index e.from f.0)) o
-      ≡ Some x
-      → IsMeant x) [
-        | None ↦ λ nothing gives. absurd (none-some x gives)
-        | Some f ↦ λ is gives.
-            let parts = some_unless (is_stamp e || agrees f.1 e)
-            (fault.Mismatch l.pid l.index e.from f.0) x gives in
-            let tests = neither (is_stamp e) (agrees f.1 e) parts.0 in
-            subst IsMeant parts.1 (reason_if l.pid l.index e (never.Mismatch e.from f.0) l.at
-            (tests.0, refl, f.1, is, λ send. false≢true (sym tests.1 ∙ sends_it f.1 e send))
-            (λ n less. quiet_before 3 n (omega arith) none less) l.least)
-      ] refl l.gives
+      option_and_then_some (λ (f : ℕ × Event). if is_stamp e || agrees f.1 e then None
+      else Some (fault.Mismatch l.pid l.index e.from f.0))
+      (stamp_of streams e.from e.serial.this) x l.gives (λ f is gives.
+      let parts = some_unless (is_stamp e || agrees f.1 e)
+      (fault.Mismatch l.pid l.index e.from f.0) x gives in
+      let tests = or_parts (is_stamp e) (agrees f.1 e) parts.0 in
+      subst IsMeant parts.1 (reason_if l.pid l.index e (never.Mismatch e.from f.0) l.at
+      (tests.0, refl, f.1, is, λ send. false≢true (sym tests.1 ∙ sends_it f.1 e send))
+      below l.least))
 
   -- a rule gives it first, or gives nothing
   by_rule : (x : PairFault) (rule : Rule PairFault) (rules : List (Rule PairFault))
@@ -519,61 +457,40 @@ module _ (top : ℕ) (streams : List Stream) (sound : IsStreams streams) where
   pair_meant x =
       by_rule x prev_not_before (not_rising streams ∷ repeated streams ∷ mismatch streams ∷ [])
       (prev_meant x) (λ none.
+      let one = quiet_prev none in
       by_rule x (not_rising streams) (repeated streams ∷ mismatch streams ∷ [])
-      (rising_meant x (record {
-        prev = λ less. none;
-        rising = λ less. absurd (omega (arith, less));
-        once = λ less. absurd (omega (arith, less));
-        matched = λ less. absurd (omega (arith, less));
-      })) (λ none-2.
-      by_rule x (repeated streams) (mismatch streams ∷ []) (repeated_meant x (record {
-        prev = λ less. none;
-        rising = λ less. none-2;
-        once = λ less. absurd (omega (arith, less));
-        matched = λ less. absurd (omega (arith, less));
-      })) (λ none-3.
-      by_rule x (mismatch streams) [] (mismatch_meant x (record {
-        prev = λ less. none;
-        rising = λ less. none-2;
-        once = λ less. none-3;
-        matched = λ less. absurd (omega (arith, less));
-      })) (λ none-4 h. absurd (none-some x h)))))
+      (rising_meant x one) (λ none-2.
+      let two = quiet_more 1 one (event_none (not_rising streams) streams none-2) in
+      by_rule x (repeated streams) (mismatch streams ∷ []) (repeated_meant x two) (λ none-3.
+      let three = quiet_more 2 two (event_none (repeated streams) streams none-3) in
+      by_rule x (mismatch streams) [] (mismatch_meant x three)
+      (λ none-4 h. absurd (none-some x h)))))
 
-  -- streams that pairing accepts
-  paired_quiet : refusal streams ≡ None → (n : ℕ) → n < 4 → AreQuiet n
-  paired_quiet accepted n less =
+  paired_quiet : refusal streams ≡ None → AreQuietBelow 4
+  paired_quiet accepted =
       let ok = paired streams accepted in
-      quiet_before 4 n (omega arith) (record {
-        prev = λ _. ok.prev;
-        rising = λ _. ok.rising;
-        once = λ _. ok.once;
-        matched = λ _. ok.matched;
-      }) less
+      let one = quiet_prev ok.prev in
+      let two = quiet_more 1 one (event_none (not_rising streams) streams ok.rising) in
+      let three = quiet_more 2 two (event_none (repeated streams) streams ok.once) in
+      quiet_more 3 three (event_none (mismatch streams) streams ok.matched)
 
-  late_quiet : refusal streams ≡ None → HoldsOfNone is_late streams → (n : ℕ) → n < 5 → AreQuiet n
-  late_quiet accepted timely n less = elim (cases_lt n 4) [
-    | inl early ↦ paired_quiet accepted n early
-    | inr last ↦ let same : 4 ≡ n = omega (arith, less, last) in subst AreQuiet same timely
-  ]
+  late_quiet : refusal streams ≡ None → HoldsOfNone is_late streams → AreQuietBelow 5
+  late_quiet accepted timely = quiet_more 4 (paired_quiet accepted) timely
 
   founded_quiet : refusal streams ≡ None → HoldsOfNone is_late streams
-      → ((q : Pid) (j : ℕ) → IsUnfounded streams q j → ⊥) → (n : ℕ) → n < 6 → AreQuiet n
-  founded_quiet accepted timely founded n less = elim (cases_lt n 5) [
-    | inl early ↦ late_quiet accepted timely n early
-    | inr last ↦
-        let same : 5 ≡ n = omega (arith, less, last) in
-        subst AreQuiet same (λ q j f at. founded q j)
-  ]
+      → ((q : Pid) (j : ℕ) → IsUnfounded streams q j → ⊥) → AreQuietBelow 6
+  founded_quiet accepted timely founded =
+      quiet_more 5 (late_quiet accepted timely) (λ q j f at. founded q j)
 
   -- where no reason of the open question holds, none is against an event
   pub none_against : HasNoOpenReason top streams → (reason : Never) (p : Pid) (i : ℕ) (e : Event)
       → event_at streams p i ≡ Some e → ¬ IsAgainst top streams p i e reason
   none_against none never.TooHigh p i e at = λ against.
-      let low = none.within p i e at in
-      omega (arith, low, against)
+      omega (arith, none.within p i e at, against)
   none_against none reason p i e at =
       not_against reason p i e at
-      (founded_quiet none.accepted none.timely none.founded (reason_rank reason) (omega arith) p i e at)
+      (founded_quiet none.accepted none.timely none.founded (reason_rank reason) (omega arith) p i e
+      at)
 
   pub reason_means : (p : Pid) (i : ℕ) (reason : Never) → IsFoundReason top streams p i reason
       → IsFirstReason top streams p i reason
@@ -596,9 +513,7 @@ module _ (top : ℕ) (streams : List Stream) (sound : IsStreams streams) where
           before = h.before;
           is = (h.receives, omega (arith, high, count));
           last = λ k f after before there no_lower.
-              let low = h.last k f after before there in
-              let reaches = no_lower.1 in
-              omega (arith, low, reaches, count);
+              omega (arith, h.last k f after before there, no_lower.1, count);
         },
       )
       (paired_quiet is.accepted)

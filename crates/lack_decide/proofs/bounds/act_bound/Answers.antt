@@ -19,9 +19,7 @@ loop-pid-preserved c =
     let k = c.loop-pid.pid-index in
     let p = get_or ps k none in
     let are = c.pids-pid-items.ensures.value in
-    let below = c.loop-pid-test.true in
-    let all = ap length are in
-    let within : k < length ps = omega (arith, below, all) in
+    let within : k < length ps = omega (arith, c.loop-pid-test.true, ap length are) in
     let taken = ap (sum_by f) (take_more ps k none within) in
     let pushed = sum_by_push f (take k ps) p in
     let same = ap (λ qs. get_or qs k none) are in
@@ -41,5 +39,4 @@ returns c =
     let all = ap length c.pids-pid-items.ensures.value in
     let taken = ap (sum_by f) (take_all c.loop-pid.pid-index (pids_of streams)
     (omega (arith, past, all))) in
-    let so_far = c.loop-pid.invariant in
-    omega (arith, taken, so_far)
+    omega (arith, taken, c.loop-pid.invariant)

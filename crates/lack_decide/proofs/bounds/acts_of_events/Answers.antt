@@ -31,6 +31,4 @@ returns c =
     let es = c.args.events.now in
     let i = c.loop-event.event-index in
     let none = ap (acts_after (take i es)) (drop_all i es c.loop-event-test.false) in
-    let counted = c.loop-event.invariant.counted in
-    let small = c.loop-event.invariant.small in
-    omega (arith, none, counted, small)
+    omega (arith, none, c.loop-event.invariant.counted, c.loop-event.invariant.small)

@@ -31,7 +31,6 @@ returns c =
     let acts = c.args.acts.now in (
       λ yes. all_from (λ a. is_reset a ≡ false) acts (λ k a at.
           let within = slice_get_within acts k a at in
-          let past = c.loop-act-test.false in
-          c.loop-act.invariant k a (omega (arith, within, past)) at),
+          c.loop-act.invariant k a (omega (arith, within, c.loop-act-test.false)) at),
       λ none. refl,
     )

@@ -23,6 +23,4 @@ pub returns-clause-apart : goal.returns-clause-apart
 returns-clause-apart c = λ _.
     let qs = c.args.unlisted.now in
     all_from (λ q. lists c.args.streams.now q ≡ false) qs (λ k q at.
-    let within = slice_get_within qs k q at in
-    let past = c.loop-pid-test.false in
-    c.loop-pid.invariant k q (omega (arith, within, past)) at)
+    c.loop-pid.invariant k q (omega (arith, slice_get_within qs k q at, c.loop-pid-test.false)) at)

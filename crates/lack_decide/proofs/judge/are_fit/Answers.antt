@@ -25,5 +25,4 @@ loop-i-preserved c =
 pub returns : goal.returns
 returns c = λ yes i e at.
     let past = c.loop-i-test.false in
-    let within = slice_get_within c.args.events.now i e at in
-    c.loop-i.invariant.fit i e (omega (arith, past, within)) at
+    c.loop-i.invariant.fit i e (omega (arith, past, slice_get_within c.args.events.now i e at)) at

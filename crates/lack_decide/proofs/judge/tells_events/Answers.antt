@@ -8,8 +8,6 @@ use Rattle.st_pair.proofs.ForCallers.{at_get_or, blank}
 use Rattle.lack_needs.specs.Completions.{marked_with}
 use Rattle.lack_needs.proofs.ForCallers.{told_end, told_more, untold_more}
 use Rattle.lack_decide.proofs.judge.tells_events.Goals as goal
-use Rattle.lack_decide.proofs.judge.tells_events.Goals.{then-is_marked+in-Some+else-not-is_same_event}
-use Rattle.lack_decide.proofs.judge.tells_events.Goals.{else-is_marked}
 
 pub loop-i-preserved : goal.loop-i-preserved
 loop-i-preserved c =
@@ -21,13 +19,13 @@ loop-i-preserved c =
     let next : suc i ≡ i + 1 = omega arith in
     let later = ap (λ n. told_events (drop n (marked_with es ms))) next in
     elim c.if-is_marked.branch [
-      | then-is_marked+in-Some+else-not-is_same_event w ↦ λ is.
+      | goal.then-is_marked+in-Some+else-not-is_same_event w ↦ λ is.
           let rest = ap (λ (r : Bor (List Event)). r.now) w.rest-is in
           let same = w.is_same_event.ensures.0 w.if-not-is_same_event.false in
           c.loop-i.invariant (told_more es ms i e at (sym c.is_marked.ensures ∙ w.if-is_marked.true)
           ∙ ap (λ xs. e ∷ xs) (later ∙ is ∙ rest) ∙ ap (λ x. x ∷ w.in-Some.others.now) (sym same)
           ∙ sym w.in-Some.ensures.cases.0)
-      | else-is_marked w ↦ λ is.
+      | goal.else-is_marked w ↦ λ is.
           let rest = ap (λ (r : Bor (List Event)). r.now) w.rest-is in
           c.loop-i.invariant (untold_more es ms i e at
           (sym c.is_marked.ensures ∙ w.if-is_marked.false)
