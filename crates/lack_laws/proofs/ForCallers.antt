@@ -1,7 +1,6 @@
 -- The lemmas that proofs of the crates above may cite.
 
 -- ---- streams, and what pairing says of them
-pub use Rattle.lack_laws.proofs.InsertedEvents.{unlisted_events}
 pub use Rattle.lack_laws.proofs.Renumbering.{streams_with}
 pub use Rattle.lack_laws.proofs.AcceptedStreams.{accepted_if, fit_together, FitTogether}
 pub use Rattle.lack_laws.proofs.AcceptedStreams.{own_at, received_to, stamper}
@@ -18,6 +17,5 @@ pub use Rattle.lack_laws.proofs.SilentSenders.{at_front, at_seam}
 pub use Rattle.lack_laws.proofs.Ranks.{AllAbove, Climbs, IsIn, above_in, counts_climb, insert_by}
 pub use Rattle.lack_laws.proofs.Ranks.{insert_has, insert_keeps}
 -- ---- streams with further processes that report nothing
-pub use Rattle.lack_laws.proofs.SilentStreams.{above_first, listed_rest, silent_events}
-pub use Rattle.lack_laws.proofs.SilentStreams.{silent_lists, silent_sound, silent_total}
+pub use Rattle.lack_laws.proofs.SilentStreams.{silent_events, silent_sound, silent_total}
 pub use Rattle.lack_laws.proofs.SilentStreams.{unlisted_with}
