@@ -1,15 +1,12 @@
 -- The links of events before the receives of sends are known, and once they are.
-use Rattle.std.proofs.Common.{◌≡◌, ℕ, ◌+◌, ◌<◌, ◌++◌, zero, suc, true, List, [], ◌∷◌, length, map}
-use Rattle.std.proofs.Common.{take, drop, get_or, set, None, Some, slice_get, option_map, refl, sym}
-use Rattle.std.proofs.Common.{◌∙◌, ap, subst, arith}
-use Rattle.std.proofs.lemmas.Option.{same_Some, none-some}
+use Rattle.std.proofs.Common.{◌≡◌, ℕ, ◌+◌, ◌++◌, zero, suc, true, List, [], ◌∷◌, map, take, drop}
+use Rattle.std.proofs.Common.{set, None, Some, slice_get, option_map, refl, sym, ◌∙◌, ap, arith}
+use Rattle.std.proofs.lemmas.Option.{none-some, same_Some}
 use Rattle.st_core.specs.declared.types.Pid.{Pid}
 use Rattle.st_core.specs.declared.types.Event.{Event}
 use Rattle.st_core.specs.declared.types.Kind.{Kind}
 use Rattle.st_core.specs.declared.types.Kind.TheVariants as kind
-use Rattle.st_core.specs.Pid.{IsRising}
-use Rattle.st_core.specs.Run.{Stream, pids_of}
-use Rattle.st_core.specs.Streams.{events_of}
+use Rattle.st_core.specs.Run.{Stream}
 use Rattle.st_pair.specs.declared.pairing.Link.{Link}
 use Rattle.st_pair.specs.declared.pairing.Link.TheVariants as link
 use Rattle.st_pair.specs.Links.{received_link}
@@ -17,7 +14,6 @@ use Rattle.st_pair.specs.Pairing.{not_rising, stamp_of}
 use Rattle.st_pair.specs.Places.{event_at, first, is_stamp}
 use Rattle.st_pair.specs.Tables.{key_in, link_back, sent_in, stamp_index}
 use Rattle.st_pair.proofs.Converse.{stamp_alone}
-use Rattle.st_pair.proofs.Firsts.{at_get_or, events_in, is_at}
 
 -- ONE MORE IS EXCHANGED
 
@@ -71,25 +67,3 @@ pub own_index : (streams : List Stream) (p : Pid) (i : ℕ) (e : Event)
     → stamp_index streams (record { from = p; this = e.serial.this }) ≡ Some i
 own_index streams p i e rising at stamps =
     ap (option_map (λ (f : ℕ × Event). f.0)) (stamp_alone streams rising p i e at stamps)
-
--- what is made of the stream at a place
-pub made_at : (streams : List Stream) (pids : List Pid) (k : ℕ) (d : Pid)
-    (es : List Event) → IsRising (pids_of streams) → pids ≡ pids_of streams → k < length pids
-    → es ≡ events_of streams (get_or pids k d)
-    → slice_get streams k ≡ Some (record { pid = get_or pids k d; events = es })
-made_at streams pids k d es rising are within events =
-    let p = get_or pids k d in
-    let at = at_get_or pids k d within in
-    let s = is_at streams k p rising (subst (λ (ps : List Pid). slice_get ps k ≡ Some p) are at) in
-    let same : s.stream.events ≡ es = sym (ap events_in s.found) ∙ sym events in
-    let who = s.pid in
-    s.at ∙ (λ i. Some (record { pid = who i; events = same i }))
-
-pub read_made : {A B : Type 0} (f : A → B) (xs : List A) (i : ℕ) (x : A) (d : B) (ys : List B)
-    → ys ≡ map f xs
-    → slice_get xs i ≡ Some x → get_or ys i d ≡ f x
-read_made {A} {B} f xs i x d ys are at = ap (λ (l : List B). get_or l i d) are ∙ read xs i at where
-  read : (xs : List A) (i : ℕ) → slice_get xs i ≡ Some x → get_or (map f xs) i d ≡ f x
-  read [] i at = absurd (none-some x at)
-  read (z ∷ xs) zero at = ap f (same_Some z x at)
-  read (z ∷ xs) (suc i) at = read xs i at

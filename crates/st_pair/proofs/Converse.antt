@@ -173,8 +173,9 @@ module _ (streams : List Stream) (rising : first (not_rising streams) streams �
     rises_at i e g at stamp before =
         let test : Bool → Bool = λ b. not b || nat_lt g.1.serial.this e.serial.this in
         let given =
-        ap (option_and_then (λ (f : ℕ × Event). if not (is_stamp e) || nat_lt f.1.serial.this e.serial.this
-        then None else Some (fault.NotRising p i f.0))) (sym before)
+        ap (option_and_then (λ (f : ℕ × Event).
+        if not (is_stamp e) || nat_lt f.1.serial.this e.serial.this then None
+        else Some (fault.NotRising p i f.0))) (sym before)
         ∙ event_none (not_rising streams) streams rising p i e at in
         let holds = cond_none (test (is_stamp e)) (fault.NotRising p i g.0) given in
         ltb-true g.1.serial.this e.serial.this (ap test (sym stamp) ∙ holds)

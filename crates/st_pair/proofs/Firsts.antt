@@ -2,7 +2,7 @@
 use Rattle.std.proofs.Common.{◌≡◌, ℕ, ◌+◌, ◌<◌, zero, suc, List, [], ◌∷◌, length, get_or, drop}
 use Rattle.std.proofs.Common.{Option, None, Some}
 use Rattle.std.proofs.Common.{slice_get, refl, sym, ◌∙◌, ap, subst, arith, add-one}
-use Rattle.std.proofs.lemmas.Option.{same_Some}
+use Rattle.std.proofs.lemmas.Option.{same_Some, slice_get-get_or}
 use Rattle.st_core.specs.declared.types.Pid.{Pid}
 use Rattle.st_core.specs.declared.types.Event.{Event}
 use Rattle.st_core.specs.Pid.{IsRising}
@@ -112,12 +112,6 @@ module _ {X : Type 0} (rule : Pid → ℕ → Event → Option X) where
       ∙ ap (λ (es : List Event).
       or_else (first_from rule p 0 es) (first rule (drop (suc k) streams))) events
 
-pub at_get_or : {A : Type 0} (xs : List A) (k : ℕ) (d : A) → k < length xs
-    → slice_get xs k ≡ Some (get_or xs k d)
-at_get_or [] k d within = absurd (omega arith)
-at_get_or (x ∷ xs) zero d within = refl
-at_get_or (x ∷ xs) (suc k) d within = at_get_or xs k d (omega arith)
-
 module _ {X : Type 0} (rule : Pid → ℕ → Event
     → Option X) (streams : List Stream) (rising : IsRising (pids_of streams)) where
   -- the same in a loop over the pids
@@ -126,7 +120,7 @@ module _ {X : Type 0} (rule : Pid → ℕ → Event
       (first_from rule (get_or pids k d) 0 (events_of streams (get_or pids k d)))
       (first rule (drop (k + 1) streams))
   first-loop pids k d are within =
-      let at = at_get_or pids k d within in
+      let at = slice_get-get_or pids k d within in
       rw add-one (first-at rule k streams (get_or pids k d) rising
       (subst (λ (ps : List Pid). slice_get ps k ≡ Some (get_or pids k d)) are at))
 

@@ -16,6 +16,7 @@ pub use Rattle.st_pair.proofs.Agreement.{IsAgreed, agreed, agrees_if}
 -- ---- what `refusal streams ≡ Some f` says of all acts, and acts that show streams of pairing
 pub use Rattle.st_pair.proofs.FinalReasons.{AreShown, IsTaken, taken, refusal_rules_out}
 pub use Rattle.st_pair.proofs.FinalReasons.{refused_never_shown}
+pub use Rattle.st_pair.proofs.Reasons.{place_of, reason_at}
 pub use Rattle.st_pair.proofs.FullyShown.{shown_accepted, listed_if, shown_events, from_listed}
 pub use Rattle.st_pair.proofs.FullyShown.{send_shown}
 -- ---- what a rule gives first, in one stream and in all
@@ -24,10 +25,12 @@ pub use Rattle.st_pair.proofs.Firsts.{first-loop}
 pub use Rattle.st_pair.proofs.Converse.{IsGiven, given_from, given_at}
 pub use Rattle.st_pair.proofs.Leasts.{first_least}
 -- ---- streams and their pids
-pub use Rattle.st_pair.proofs.Firsts.{IsAt, is_at, at_get_or, events_in}
+pub use Rattle.st_pair.proofs.Firsts.{IsAt, is_at, events_in}
+pub use Rattle.std.proofs.lemmas.Option.{slice_get-get_or as at_get_or}
 pub use Rattle.st_pair.proofs.Stamps.{blank}
 pub use Rattle.st_pair.proofs.Linkage.{take_map}
 pub use Rattle.st_pair.proofs.StreamTables.{process_passed, process_read, missing_events}
-pub use Rattle.st_pair.proofs.StreamTables.{stream_here, drop_next}
+pub use Rattle.st_pair.proofs.StreamTables.{stream_here, drop_next, one_place}
+pub use Rattle.st_pair.proofs.Marks.{set_same, set_apart}
 -- ---- the order of pids
 pub use Rattle.st_pair.proofs.PidOrder.{pid_total}

@@ -1,17 +1,16 @@
 -- The links of a pairing tell its streams.
-use Rattle.std.proofs.Common.{◌≡◌, ℕ, ◌+◌, ◌<◌, zero, suc, true, false, cond, if◌then◌else◌, List}
+use Rattle.std.proofs.Common.{◌≡◌, ℕ, ◌<◌, zero, suc, true, false, cond, if◌then◌else◌, List}
 use Rattle.std.proofs.Common.{[], ◌∷◌, ◌++◌, length, map, take, find, get_or, Option, None, Some}
-use Rattle.std.proofs.Common.{slice_get, option_map, option_and_then, refl, sym, ◌∙◌, ap, subst}
-use Rattle.std.proofs.Common.{arith}
+use Rattle.std.proofs.Common.{slice_get, option_map, option_and_then, refl, sym, ◌∙◌, ap, arith}
 use Rattle.std.specs.List.{AllByRecursion}
 use Rattle.std.proofs.lemmas.List.{get_or_default}
-use Rattle.std.proofs.lemmas.Option.{same_Some}
+use Rattle.std.proofs.lemmas.Option.{same_Some, slice_get-map}
 use Rattle.st_core.specs.declared.types.Pid.{Pid}
 use Rattle.st_core.specs.declared.types.Kind.TheVariants as kind
 use Rattle.st_core.specs.declared.types.Event.{Event}
 use Rattle.st_core.specs.Pid.{pid_eq, IsRising}
 use Rattle.st_core.specs.Run.{Stream, pids_of}
-use Rattle.st_core.specs.Streams.{events_of, stream_of}
+use Rattle.st_core.specs.Streams.{stream_of}
 use Rattle.st_core.proofs.ForCallers.{above_apart, pid_eq-true, pid_eq-same, place_within}
 use Rattle.st_pair.specs.declared.answer.Source.{Source}
 use Rattle.st_pair.specs.declared.pairing.Link.{Link}
@@ -19,7 +18,7 @@ use Rattle.st_pair.specs.Places.{event_at, is_stamp}
 use Rattle.st_pair.specs.Pairing.{receive_of, stamp_of, source_of, source_at, receiver_at, is_send}
 use Rattle.st_pair.specs.Links.{ProcessLinks, sent_link, received_link, link_of, links_in}
 use Rattle.st_pair.specs.Links.{pairing_of, IsPairing, link_rows, link_at, source_in, receiver_in}
-use Rattle.st_pair.proofs.Firsts.{is_at, at_get_or, events_in}
+use Rattle.st_pair.proofs.Firsts.{events_in}
 
 -- ROWS
 
@@ -75,34 +74,7 @@ take_map f [] k x at = absurd (cc)
 take_map f (y ∷ xs) zero x at = ap (λ z. f z ∷ []) (same_Some y x at)
 take_map f (y ∷ xs) (suc k) x at = ap (λ zs. f y ∷ zs) (take_map f xs k x at)
 
--- what is made of each stream
-pub gathered : {X : Type 0} (f : Stream → X) (streams : List Stream) (pids : List Pid) (k : ℕ)
-    (d : Pid)
-    (es : List Event) (before : List X) (x : X) → IsRising (pids_of streams)
-    → pids ≡ pids_of streams
-    → k < length pids → es ≡ events_of streams (get_or pids k d)
-    → x ≡ f (record { pid = get_or pids k d; events = es }) → before ≡ map f (take k streams)
-    → before ++ x ∷ [] ≡ map f (take (k + 1) streams)
-gathered {X} f streams pids k d es before x rising are within events is far =
-    let p = get_or pids k d in
-    let at = at_get_or pids k d within in
-    let s = is_at streams k p rising (subst (λ (ps : List Pid). slice_get ps k ≡ Some p) are at) in
-    let same : s.stream.events ≡ es = sym (ap events_in s.found) ∙ sym events in
-    let who = s.pid in
-    let here : f s.stream ≡ x = (λ i. f (record { pid = who i; events = same i })) ∙ sym is in
-    let next : suc k ≡ k + 1 = omega arith in
-    ap (λ (xs : List X). xs ++ x ∷ []) far
-    ∙ ap (λ (y : X). map f (take k streams) ++ y ∷ []) (sym here)
-    ∙ sym (take_map f streams k s.stream s.at)
-    ∙ ap (λ (n : ℕ). map f (take n streams)) next
-
 -- WHAT A LINK SAYS
-
-pub slice_get_map : {A B : Type 0} (f : A → B) (xs : List A) (i : ℕ)
-    → slice_get (map f xs) i ≡ option_map f (slice_get xs i)
-slice_get_map f [] i = refl
-slice_get_map f (x ∷ xs) zero = refl
-slice_get_map f (x ∷ xs) (suc i) = slice_get_map f xs i
 
 link_at_linked : (all streams : List Stream) (p : Pid) (i : ℕ)
     → link_at (pairing_of all streams) p i ≡ option_map (link_of all p) (event_at streams p i)
@@ -113,7 +85,7 @@ link_at_linked all (s ∷ streams) p i = elim (pid_eq s.pid p)
     (find (λ (x : ProcessLinks). pid_eq x.pid p) (pairing_of all streams)))) i
     ≡ option_map (link_of all p)
     (slice_get (events_in (cond b (Some s) (stream_of streams p))) i)) [
-      | true ↦ λ e. slice_get_map (link_of all s.pid) s.events i
+      | true ↦ λ e. slice_get-map (link_of all s.pid) s.events i
           ∙ ap (λ (q : Pid). option_map (link_of all q) (slice_get s.events i))
           (pid_eq-true s.pid p e)
       | false ↦ λ e. link_at_linked all streams p i

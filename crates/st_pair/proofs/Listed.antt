@@ -1,6 +1,6 @@
 -- Why the rows that are found are those of the definition: the rows of a process come after those
 -- of the processes before it, and what is left has the rest.
-use Rattle.std.proofs.Common.{◌≡◌, ℕ, ◌+◌, zero, suc, ◌<◌, List, [], ◌++◌, length, drop}
+use Rattle.std.proofs.Common.{◌≡◌, ℕ, ◌+◌, suc, ◌<◌, List, [], ◌++◌, length, drop}
 use Rattle.std.proofs.Common.{get_or, sym, ◌∙◌, ap, arith}
 use Rattle.std.proofs.lemmas.List.{append_assoc}
 use Rattle.st_core.specs.declared.types.Pid.{Pid}

@@ -5,6 +5,7 @@ use Rattle.std.proofs.Common.{List, [], ◌∷◌, get_or, length, map, replicat
 use Rattle.std.proofs.Common.{Some, slice_get}
 use Rattle.std.proofs.Common.{option_and_then, option_map, refl, sym, ◌∙◌, ap, subst, arith}
 use Rattle.std.specs.List.{AllByRecursion}
+use Rattle.std.proofs.lemmas.List.{get_or-set_same, length-set}
 use Rattle.std.proofs.lemmas.Option.{same_Some, none-some, get_or_from_slice_get, slice_get-get_or}
 use Rattle.std.proofs.lemmas.Option.{slice_get_within}
 use Rattle.st_core.specs.declared.types.Pid.{Pid}
@@ -28,12 +29,11 @@ Mark = Option (Pid × ℕ)
 -- WHAT IS READ AND WRITTEN
 
 module _ {X : Type 0} where
-  set_same : (xs : List X) (i : ℕ) (x : X) → i < length xs → slice_get (set xs i x) i ≡ Some x
-  set_same [] i x within = absurd (omega arith)
-  set_same (y ∷ xs) zero x within = refl
-  set_same (y ∷ xs) (suc i) x within = set_same xs i x (omega arith)
+  pub set_same : (xs : List X) (i : ℕ) (x : X) → i < length xs → slice_get (set xs i x) i ≡ Some x
+  set_same xs i x within = slice_get-get_or (set xs i x) i x (omega (arith, length-set xs i x))
+      ∙ ap (λ (y : X). Some y) (get_or-set_same xs i x x within)
 
-  set_apart : (xs : List X) (i j : ℕ) (x : X) → (i ≡ j → ⊥)
+  pub set_apart : (xs : List X) (i j : ℕ) (x : X) → (i ≡ j → ⊥)
       → slice_get (set xs i x) j ≡ slice_get xs j
   set_apart [] i j x apart = refl
   set_apart (y ∷ xs) zero zero x apart = absurd (apart refl)

@@ -1,24 +1,24 @@
 -- A refusal is what one of the four rules gives at some event, so its reason says of that event and
 -- of the one that it was compared with what the rule tests.
-use Rattle.std.proofs.Common.{◌≡◌, ℕ, ◌<◌, ◌≤◌, ◌==◌, ◌&&◌, ◌||◌, ◌⊎◌, zero, suc, nat_lt, Bool}
-use Rattle.std.proofs.Common.{true, false, not, cond, List, [], ◌∷◌, Some, None, inl, inr, refl}
-use Rattle.std.proofs.Common.{sym, subst, arith, if◌then◌else◌}
+use Rattle.std.proofs.Common.{◌≡◌, ℕ, ◌<◌, ◌≤◌, ◌==◌, ◌&&◌, ◌||◌, ◌⊎◌, zero, suc, nat_lt, true}
+use Rattle.std.proofs.Common.{false, not, cond, List, [], ◌∷◌, Some, None, inl, inr, refl, subst}
+use Rattle.std.proofs.Common.{Option, ap, arith, if◌then◌else◌}
 use Rattle.std.specs.List.{slice_get}
-use Rattle.std.proofs.lemmas.Bool.{ltb-false, false≢true}
+use Rattle.std.proofs.lemmas.Bool.{ltb-false, or_parts}
 use Rattle.std.proofs.lemmas.Option.{same_Some, none-some, option_and_then_some}
 use Rattle.st_core.specs.declared.types.Pid.{Pid}
 use Rattle.st_core.specs.declared.types.Event.{Event}
-use Rattle.st_core.specs.Pid.{pid_eq}
-use Rattle.st_core.specs.Run.{Stream}
+use Rattle.st_core.specs.Pid.{pid_eq, IsRising}
+use Rattle.st_core.specs.Run.{Stream, pids_of}
 use Rattle.st_core.specs.Streams.{events_of}
 use Rattle.st_core.proofs.ForCallers.{not_false}
 use Rattle.st_pair.specs.declared.answer.PairFault.{PairFault}
 use Rattle.st_pair.specs.declared.answer.PairFault.TheVariants as fault
-use Rattle.st_pair.specs.Places.{is_stamp, first, or_else}
+use Rattle.st_pair.specs.Places.{event_at, is_stamp, first, or_else}
 use Rattle.st_pair.specs.Pairing.{stamp_before, stamp_of, receive_of, agrees, prev_not_before}
 use Rattle.st_pair.specs.Pairing.{not_rising, repeated, mismatch, first_rule, refusal}
 use Rattle.st_pair.proofs.AcceptedEvents.{Rule}
-use Rattle.st_pair.proofs.Converse.{some_unless}
+use Rattle.st_pair.proofs.Converse.{given_at, some_unless}
 
 -- WHICH RULE DECIDED
 
@@ -62,18 +62,15 @@ reason_of streams f h =
 
 -- WHAT EACH RULE SAYS OF ITS EVENT
 
-neither : (x y : Bool) → (x || y) ≡ false → (x ≡ false) × (y ≡ false)
-neither true y h = absurd (false≢true (sym h))
-neither false y h = (refl, h)
-
 module _ (streams : List Stream) (p : Pid) (i : ℕ) (e : Event) (f : PairFault) where
   pub record SaysPrev : Type 0 where
     pub falls : e.serial.this ≤ e.serial.prev
+    pub is : fault.PrevNotBefore p i ≡ f
 
   pub prev_says : prev_not_before p i e ≡ Some f → SaysPrev
   prev_says h =
       let parts = some_unless (nat_lt e.serial.prev e.serial.this) (fault.PrevNotBefore p i) f h in
-      record { falls = ltb-false e.serial.prev e.serial.this parts.0 }
+      record { falls = ltb-false e.serial.prev e.serial.this parts.0; is = parts.1 }
 
   pub record SaysRising : Type 0 where
     pub other : ℕ × Event
@@ -89,7 +86,7 @@ module _ (streams : List Stream) (p : Pid) (i : ℕ) (e : Event) (f : PairFault)
       if test g then None else Some (fault.NotRising p i g.0))
       (stamp_before (events_of streams p) i) f h (λ g is given.
       let parts = some_unless (test g) (fault.NotRising p i g.0) f given in
-      let tests = neither (not (is_stamp e)) (nat_lt g.1.serial.this e.serial.this) parts.0 in
+      let tests = or_parts (not (is_stamp e)) (nat_lt g.1.serial.this e.serial.this) parts.0 in
       record {
         other = g;
         before = is;
@@ -112,7 +109,7 @@ module _ (streams : List Stream) (p : Pid) (i : ℕ) (e : Event) (f : PairFault)
       else Some (fault.Repeated p i at.0 at.1)) (receive_of streams e.from e.serial.this) f h
       (λ at is given.
       let parts = some_unless (is_stamp e || here at) (fault.Repeated p i at.0 at.1) f given in
-      let tests = neither (is_stamp e) (here at) parts.0 in
+      let tests = or_parts (is_stamp e) (here at) parts.0 in
       record { other = at; earlier = is; receives = tests.0; apart = tests.1; is = parts.1 })
 
   pub record SaysMismatch : Type 0 where
@@ -129,8 +126,43 @@ module _ (streams : List Stream) (p : Pid) (i : ℕ) (e : Event) (f : PairFault)
       (λ g is given.
       let parts = some_unless (is_stamp e || agrees g.1 e) (fault.Mismatch p i e.from g.0) f
       given in
-      let tests = neither (is_stamp e) (agrees g.1 e) parts.0 in
+      let tests = or_parts (is_stamp e) (agrees g.1 e) parts.0 in
       record { other = g; sent = is; receives = tests.0; differs = tests.1; is = parts.1 })
+
+-- WHERE A REASON IS
+
+-- the place that a fault names first
+abbrev pub place_of : PairFault → Option (Pid × ℕ)
+place_of fault.Memory = None
+place_of (fault.PrevNotBefore p i) = Some (p, i)
+place_of (fault.NotRising p i j) = Some (p, i)
+place_of (fault.Repeated p i q j) = Some (p, i)
+place_of (fault.Mismatch p i q j) = Some (p, i)
+
+-- a reason is against an event that is there
+pub reason_at : (streams : List Stream) (f : PairFault) → IsRising (pids_of streams)
+    → refusal streams ≡ Some f → (x : Pid × ℕ) × (e : Event)
+    × (event_at streams x.0 x.1 ≡ Some e) × (Some x ≡ place_of f)
+reason_at streams f rising h = elim (reason_of streams f h) [
+  | ByPrev found ↦
+      let x = given_at prev_not_before streams f rising found in
+      let is = (prev_says streams x.pid x.index x.event f x.gives).is in
+      ((x.pid, x.index), x.event, x.at, ap place_of is)
+  | ByRising found ↦
+      let x = given_at (not_rising streams) streams f rising found in
+      let is = (rising_says streams x.pid x.index x.event f x.gives).is in
+      ((x.pid, x.index), x.event, x.at, ap place_of is)
+  | ByRepeated found ↦
+      let x = given_at (repeated streams) streams f rising found in
+      let is = (repeated_says streams x.pid x.index x.event f x.gives).is in
+      ((x.pid, x.index), x.event, x.at, ap place_of is)
+  | ByMismatch found ↦
+      let x = given_at (mismatch streams) streams f rising found in
+      let is = (mismatch_says streams x.pid x.index x.event f x.gives).is in
+      ((x.pid, x.index), x.event, x.at, ap place_of is)
+]
+
+-- THE LAST STAMP
 
 -- the last send or print before index i is one, and is before it
 pub record IsStampBefore (es : List Event) (i : ℕ) (g : ℕ × Event) : Type 0 where

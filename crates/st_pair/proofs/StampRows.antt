@@ -1,28 +1,28 @@
 -- The sends and prints of a process as rows: the first with a count is the one that `stamp_of`
 -- finds, and since counts rise it is the only one, so that a search by halves finds it.
 use Rattle.std.proofs.Common.{◌≡◌, ℕ, ◌+◌, ◌<◌, ◌==◌, ◌&&◌, zero, suc, ltb, Bool, true, false, cond}
-use Rattle.std.proofs.Common.{List, [], ◌∷◌, length, get_or, find, drop, ◌++◌, Option, None, Some}
-use Rattle.std.proofs.Common.{option_map, option_and_then, slice_get, refl, inl, inr, sym, ◌∙◌, ap}
-use Rattle.std.proofs.Common.{arith, append_assoc}
+use Rattle.std.proofs.Common.{List, [], ◌∷◌, length, get_or, find, Option, None, Some, option_map}
+use Rattle.std.proofs.Common.{option_and_then, slice_get, refl, inl, inr, sym, ◌∙◌, ap, arith}
 use Rattle.std.specs.List.{AllByRecursion}
 use Rattle.std.specs.List.Sorted.{IsNonDecreasingBy, IsPartitionPoint}
 use Rattle.std.proofs.lemmas.Bool.{eqb-true, eq-eqb, ltb-true, ltb-false, cases_lt}
 use Rattle.std.proofs.lemmas.Bool.Decides.{nat_tests}
 use Rattle.std.proofs.lemmas.List.Elements.{All-from_recursion}
-use Rattle.std.proofs.lemmas.Option.{get_or_from_slice_get, same_Some, none-some, slice_get_within}
+use Rattle.std.proofs.lemmas.Option.{cond_some, get_or_from_slice_get, same_Some, none-some}
+use Rattle.std.proofs.lemmas.Option.{slice_get_within, slice_get-get_or, slice_get-map}
 use Rattle.st_core.specs.declared.types.Pid.{Pid}
 use Rattle.st_core.specs.declared.types.Event.{Event}
 use Rattle.st_core.specs.Pid.{pid_eq}
 use Rattle.st_core.specs.Run.{Stream, pids_of}
-use Rattle.st_core.specs.Streams.{events_of, stream_of}
+use Rattle.st_core.specs.Streams.{events_of}
 use Rattle.st_pair.specs.declared.stamp_table.StampRow.{StampRow}
 use Rattle.st_pair.specs.Pairing.{not_rising, stamp_of}
 use Rattle.st_pair.specs.Places.{is_stamp, first, first_from, or_else}
 use Rattle.st_pair.specs.Tables.{row_under, rows_in, stamp_rows, AreRising, AreStamps}
 use Rattle.st_pair.proofs.Converse.{counts_rise}
-use Rattle.st_pair.proofs.Firsts.{is_at, at_get_or, events_in}
-use Rattle.st_pair.proofs.Linkage.{slice_get_map}
+use Rattle.st_pair.proofs.Firsts.{is_at, events_in}
 use Rattle.st_pair.proofs.OwnStamps.{own_rule}
+use Rattle.st_pair.proofs.StreamTables.{missing_events}
 
 -- WHAT ROWS HAVE
 
@@ -59,58 +59,18 @@ pub place_rows : (streams : List Stream) (rows : List (List StampRow)) (place : 
     → slice_get rows place ≡ Some (stamp_rows 0 (events_of streams p))
 place_rows streams rows place p are at =
     let s = is_at streams place p are.pids at in
-    ap (λ (xs : List (List StampRow)). slice_get xs place) are.rows ∙ slice_get_map rows_in streams
-    place
+    ap (λ (xs : List (List StampRow)). slice_get xs place) are.rows
+    ∙ slice_get-map rows_in streams place
     ∙ ap (option_map rows_in) s.at ∙ ap (λ (es : List Event). Some (stamp_rows 0 es))
     (sym (ap events_in s.found))
-
-no_stream : (streams : List Stream) (p : Pid)
-    → AllByRecursion (λ q. pid_eq q p ≡ false) (pids_of streams)
-    → stream_of streams p ≡ None
-no_stream [] p all = refl
-no_stream (s ∷ streams) p all = ap (λ (b : Bool). cond b (Some s) (stream_of streams p)) all.0
-    ∙ no_stream streams p all.1
 
 -- a process that isn't listed has none
 pub no_stamp : (streams : List Stream) (p : Pid) (this : ℕ)
     → AllByRecursion (λ q. pid_eq q p ≡ false) (pids_of streams)
     → None ≡ option_map (λ f. f.0) (stamp_of streams p this)
-no_stamp streams p this all = sym (ap (λ (o : Option Stream).
-    option_map (λ (f : ℕ × Event). f.0) (first_from (own_rule this) p 0 (events_in o)))
-    (no_stream streams p all))
-
--- a row at the end, or none
-rows-at : (i k : ℕ) (es : List Event) (e : Event) → slice_get es k ≡ Some e
-    → stamp_rows i (drop k es) ≡ cond (is_stamp e) (record { count = e.serial.this; index = i }
-    ∷ stamp_rows (i + 1) (drop (suc k) es)) (stamp_rows (i + 1) (drop (suc k) es))
-rows-at i k [] e at = absurd (none-some e at)
-rows-at i zero (d ∷ es) e at =
-    ap (λ (x : Event). cond (is_stamp x) (record { count = x.serial.this; index = i }
-    ∷ stamp_rows (i + 1) es) (stamp_rows (i + 1) es)) (same_Some d e at)
-rows-at i (suc k) (d ∷ es) e at = rows-at i k es e at
-
-rows-step : (i : ℕ) (es : List Event) (e : Event) → slice_get es i ≡ Some e → (b : Bool)
-    → is_stamp e ≡ b
-    → stamp_rows i (drop i es) ≡ cond b (record { count = e.serial.this; index = i }
-    ∷ stamp_rows (i + 1) (drop (i + 1) es)) (stamp_rows (i + 1) (drop (i + 1) es))
-rows-step i es e at b is =
-    let next : suc i ≡ i + 1 = omega arith in
-    rows-at i i es e at ∙ (λ j. cond (is j) (record { count = e.serial.this; index = i }
-    ∷ stamp_rows (i + 1) (drop (next j) es)) (stamp_rows (i + 1) (drop (next j) es)))
-
-module _ (rows : List StampRow) (i : ℕ) (es : List Event) (e : Event) (at : slice_get es i ≡ Some e)
-    (all : rows ++ stamp_rows i (drop i es) ≡ stamp_rows 0 es) where
-  pub row_passed : is_stamp e ≡ false
-      → rows ++ stamp_rows (i + 1) (drop (i + 1) es) ≡ stamp_rows 0 es
-  row_passed receives = ap (λ (xs : List StampRow). rows ++ xs)
-      (sym (rows-step i es e at false receives)) ∙ all
-
-  pub row_added : is_stamp e ≡ true
-      → (rows ++ record { count = e.serial.this; index = i } ∷ [])
-      ++ stamp_rows (i + 1) (drop (i + 1) es)
-      ≡ stamp_rows 0 es
-  row_added stamps = append_assoc rows _ _
-      ∙ ap (λ (xs : List StampRow). rows ++ xs) (sym (rows-step i es e at true stamps)) ∙ all
+no_stamp streams p this all = sym (ap (λ (es : List Event).
+    option_map (λ (f : ℕ × Event). f.0) (first_from (own_rule this) p 0 es))
+    (missing_events streams p all))
 
 -- THEIR COUNTS RISE
 
@@ -198,11 +158,8 @@ none_found (x ∷ rows) this apart =
     ∙ none_found rows this (λ j d within. apart (suc j) d (omega arith))
 
 under_is : (this : ℕ) (x r : StampRow) → row_under this x ≡ Some r → (x ≡ r) × (x.count ≡ this)
-under_is this x r h = elim (x.count == this)
-    as (λ b. (x.count == this) ≡ b → cond b (Some x) None ≡ Some r → (x ≡ r) × (x.count ≡ this)) [
-      | true ↦ λ is given. (same_Some x r given, eqb-true x.count this is)
-      | false ↦ λ is given. absurd (none-some r given)
-    ] refl h
+under_is this x r h =
+    let parts = cond_some (x.count == this) x r h in (parts.1, eqb-true x.count this parts.0)
 
 -- a row with the count is the only one
 pub found_at : (rows : List StampRow) (this n : ℕ) (r : StampRow) → AreRising rows
@@ -233,7 +190,7 @@ none_at rows this n rising point h = sym (none_found rows this (λ j d within. e
       less_apart (get_or rows j d).count this less
   | inr behind ↦
       let at : n < length rows = omega arith in
-      let there = at_get_or rows n d at in
+      let there = slice_get-get_or rows n d at in
       let apart = unequal this (get_or rows n d)
       (h ∙ ap (option_and_then (row_under this)) there) in
       let low = ltb-false (get_or rows n d).count this (point.1 n d (omega arith) at) in

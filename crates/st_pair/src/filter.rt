@@ -25,7 +25,6 @@ pub struct Filter {
     pub counts: Option<Span>,
 }
 
-/// Whether the number is within the span.
 fn is_within(span: Option<Span>, number: u64) -> bool
     ensures { result ≡ is_within span number }
 {
@@ -35,7 +34,6 @@ fn is_within(span: Option<Span>, number: u64) -> bool
     }
 }
 
-/// Whether the label is the one that is asked for.
 fn is_label(wanted: Option<Label>, label: Label) -> bool
     ensures { result ≡ is_label wanted label }
 {
@@ -45,7 +43,6 @@ fn is_label(wanted: Option<Label>, label: Label) -> bool
     }
 }
 
-/// Whether the process is the one that is asked for.
 fn is_process(wanted: Option<Pid>, pid: Pid) -> bool
     ensures { result ≡ is_process wanted pid }
 {

@@ -100,7 +100,8 @@ impl Sources {
     /// Those of streams.
     pub fn of(alloc: Global, streams: &Streams, sent: &mut Stamps) -> Result<Sources, AllocError>
         requires { AreStamps streams.now sent.old }
-        ensures links { IfOk result (λ sources. sources.links.items ≡ map (links_back streams.now) streams.now) }
+        ensures links { IfOk result (λ sources.
+            sources.links.items ≡ map (links_back streams.now) streams.now) }
         ensures sent { sent.new ≡ sent.old }
     {
         let mut links = Vec::with_capacity(alloc, streams.pids().len())?;

@@ -126,7 +126,6 @@ impl Pairing {
     }
 }
 
-/// The link at an index.
 fn nth_link(links: &[Link], index: u64) -> Option<Link>
     ensures { result ≡ slice_get links.now index }
 {
@@ -262,7 +261,6 @@ fn guesses_at(alloc: Global, pids: &[Pid]) -> Result<Guesses, AllocError> {
     Ok(guesses)
 }
 
-/// The pids of streams.
 fn pids_of(alloc: Global, streams: &Streams) -> Result<Vec<Pid>, AllocError>
     ensures { IfOk result (λ pids. pids.items ≡ pids_of streams.now) }
 {

@@ -69,7 +69,8 @@ impl Marks {
     /// No receives yet of these events.
     fn none(alloc: Global, events: &[Event]) -> Result<Marks, AllocError>
         ensures len { IfOk result (λ marks. length marks ≡ length events.now) }
-        ensures none { IfOk result (λ marks. (i : ℕ) → i < length marks → slice_index_or marks i None ≡ None) }
+        ensures none { IfOk result (λ marks.
+            (i : ℕ) → i < length marks → slice_index_or marks i None ≡ None) }
     {
         let places = vec![in alloc; None; events.len()]?;
         Ok(Marks { places })
@@ -114,7 +115,8 @@ pub struct Receives {
 impl Receives {
     /// Makes tables without receives. `hidden_keys` has taken the keys of those of hidden sends.
     fn new(alloc: Global, streams: &Streams, hidden_keys: Sha256) -> Result<Receives, AllocError>
-        ensures { IfOk result (λ receives. (k : KeyValue) → place_for streams.now receives k ≡ None) }
+        ensures { IfOk result (λ receives.
+            (k : KeyValue) → place_for streams.now receives k ≡ None) }
     {
         let shown = all_marks(alloc, streams)?;
         Ok(Receives {
@@ -132,7 +134,8 @@ impl Receives {
         hidden_keys: Sha256,
     ) -> Result<Receives, PairFault>
         requires { links.now ≡ map (links_back streams.now) streams.now }
-        ensures table { IfOk result (λ receives. HasReceives streams.now (place_for streams.now receives)) }
+        ensures table { IfOk result (λ receives.
+            HasReceives streams.now (place_for streams.now receives)) }
         ensures once { OnOk result (first (repeated streams.now) streams.now ≡ None) }
         ensures fault { IfErr result (IsFirstFault (first (repeated streams.now) streams.now)) }
     {
@@ -293,7 +296,8 @@ fn note_receives(
     requires links { links.now ≡ map (link_back streams.now) events.now }
     ensures noted { OnOk result ((k : KeyValue) →
         place_for streams.now receives.new k
-        ≡ or_else (place_for streams.now receives.old k) (first_from (receive_rule k) pid 0 events.now)) }
+        ≡ or_else (place_for streams.now receives.old k)
+        (first_from (receive_rule k) pid 0 events.now)) }
     ensures once { (rest : KeyValue → Option (PidValue × ℕ)) →
         HasReceivesWith streams.now (place_for streams.now receives.old)
         (λ k. or_else (first_from (receive_rule k) pid 0 events.now) (rest k)) →

@@ -110,7 +110,6 @@ fn not_rising_at(
     }
 }
 
-/// Whether these are one place.
 fn is_place(first: Pid, place: u64, pid: Pid, index: u64) -> bool
     ensures { result ≡ (pid_eq first pid && place == index) }
 {

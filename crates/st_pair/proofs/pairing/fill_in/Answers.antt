@@ -3,7 +3,8 @@ use Rattle.std.proofs.Common.{◌∙◌, get_or, sym}
 use Rattle.st_pair.specs.Links.{link_of}
 use Rattle.st_pair.specs.Pairing.{mismatch}
 use Rattle.st_pair.specs.Tables.{link_back}
-use Rattle.st_pair.proofs.Firsts.{at_get_or, first_from-passed}
+use Rattle.std.proofs.lemmas.Option.{slice_get-get_or}
+use Rattle.st_pair.proofs.Firsts.{first_from-passed}
 use Rattle.st_pair.proofs.BackLinks.{exchanged}
 use Rattle.st_pair.proofs.Stamps.{blank}
 use Rattle.st_pair.proofs.pairing.fill_in.Goals as goal
@@ -14,7 +15,7 @@ loop-i-preserved c =
     let es = c.args.events.now in
     let i = c.loop-i.i in
     let e = get_or es i blank in
-    let at = at_get_or es i blank c.loop-i-test.true in
+    let at = slice_get-get_or es i blank c.loop-i-test.true in
     record {
       links = c.put.ensures ∙ exchanged (link_of streams c.args.pid) (link_back streams) es i e _
           c.loop-i.links at

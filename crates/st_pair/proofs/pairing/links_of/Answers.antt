@@ -6,7 +6,8 @@ use Rattle.st_pair.specs.Pairing.{mismatch}
 use Rattle.st_pair.specs.Places.{first_from}
 use Rattle.st_pair.specs.Tables.{links_back}
 use Rattle.st_pair.proofs.Firsts.{first-given, first-passed}
-use Rattle.st_pair.proofs.BackLinks.{exchanged, made_at, still}
+use Rattle.st_pair.proofs.BackLinks.{exchanged, still}
+use Rattle.st_pair.proofs.StreamTables.{stream_here}
 use Rattle.st_pair.proofs.Received.{first_fault}
 use Rattle.st_pair.proofs.pairing.links_of.Goals as goal
 
@@ -15,8 +16,8 @@ fill_in-requires-clause-links c =
     let streams = c.args.streams.now in
     let lists = c.loop-place.links.items in
     let k = c.loop-place.place in
-    let made = made_at streams c.pids-pids.result.now k _ _ c.pids-pids.ensures.streams.draft.rising
-    c.pids-pids.ensures.value c.loop-place-test.true c.events-events.ensures.value in
+    let made = stream_here streams c.pids-pids.result.now k _ _
+    c.pids-pids.ensures.streams.draft.rising c.pids-pids.ensures.value c.loop-place-test.true c.events-events.ensures.value in
     let there = still (links_in streams) (links_back streams) streams k _ lists made
     c.loop-place.invariant.links in
     c.index_mut.ensures.value ∙ get_or_from_slice_get lists k _ c.index_mut.result.now there
@@ -39,7 +40,7 @@ loop-place-preserved c =
     let are = c.pids-pids.ensures.value in
     let within = c.loop-place-test.true in
     let events = c.events-events.ensures.value in
-    let made = made_at streams c.pids-pids.result.now k _ _ rising are within events in
+    let made = stream_here streams c.pids-pids.result.now k _ _ rising are within events in
     record {
       links = exchanged (links_in streams) (links_back streams) streams k _ _ lists made
           (c.fill_in.ensures.links c.in_default.is) c.loop-place.invariant.links;

@@ -1,7 +1,7 @@
 -- Each stream adds its own marks after those of the streams before it.
 use Rattle.std.proofs.Common.{◌∙◌}
 use Rattle.st_pair.specs.Tables.{no_marks}
-use Rattle.st_pair.proofs.Linkage.{gathered}
+use Rattle.st_pair.proofs.StreamTables.{gathered}
 use Rattle.st_pair.proofs.Marks.{blank_list}
 use Rattle.st_pair.proofs.receives.all_marks.Goals as goal
 

@@ -8,8 +8,10 @@ use Rattle.st_pair.specs.declared.receives.Receives.{Receives}
 use Rattle.st_pair.specs.Tables.{here, key_in, link_back, place_for, receive_rule, sent_in}
 use Rattle.st_pair.specs.Tables.{stamp_index}
 use Rattle.std.proofs.lemmas.Grind.{common_steps}
-use Rattle.st_pair.proofs.Firsts.{at_get_or, first_from-end, first_from-given, first_from-passed}
-use Rattle.st_pair.proofs.BackLinks.{read_made, sent_back}
+use Rattle.std.proofs.lemmas.Option.{slice_get-get_or}
+use Rattle.st_pair.proofs.Firsts.{first_from-end, first_from-given, first_from-passed}
+use Rattle.st_pair.proofs.BackLinks.{sent_back}
+use Rattle.st_pair.proofs.StreamTables.{read_made}
 use Rattle.st_pair.proofs.Received.{first_fault, noted_more, own_place, repeated_at}
 use Rattle.st_pair.proofs.Received.{stamp_unrepeated, unnoted_passed}
 use Rattle.st_pair.proofs.Stamps.{blank, receive_unstamped}
@@ -23,7 +25,7 @@ note-requires-clause-sent c =
     let es = c.args.events.now in
     let i = c.loop-i.i in
     let e = get_or es i blank in
-    let at = at_get_or es i blank c.loop-i-test.true in
+    let at = slice_get-get_or es i blank c.loop-i-test.true in
     let link = read_made (link_back streams) es i e _ c.args.links.now c.requires.links at in
     ap (stamp_index streams) c.of-key.ensures ∙ sym (sent_back streams e c.in-Receive.is)
     ∙ sym (c.sent.ensures ∙ ap sent_in link)
@@ -34,7 +36,7 @@ returns-in-Some-clause-fault c = λ rest all.
     let es = c.args.events.now in
     let i = c.loop-i.i in
     let e = get_or es i blank in
-    let at = at_get_or es i blank c.loop-i-test.true in
+    let at = slice_get-get_or es i blank c.loop-i-test.true in
     let receives = receive_unstamped e c.in-Receive.is in
     let first = c.in-Ok.ensures.first
     ∙ ap (λ k. or_else (place_for streams c.loop-i.receives k) (Some (c.args.pid, i)))
@@ -53,7 +55,7 @@ loop-i-preserved c =
     let i = c.loop-i.i in
     let p = c.args.pid in
     let e = get_or es i blank in
-    let at = at_get_or es i blank c.loop-i-test.true in
+    let at = slice_get-get_or es i blank c.loop-i-test.true in
     elim c.match-event.branch [
       | in-Send w ↦
           let stamps : is_stamp e ≡ true = grind (arith, common_steps, w.in-Send.is) in

@@ -1,7 +1,7 @@
 -- Each stream adds its own rows after those of the streams before it.
 use Rattle.std.proofs.Common.{◌∙◌}
 use Rattle.st_pair.specs.Tables.{rows_in}
-use Rattle.st_pair.proofs.Linkage.{gathered}
+use Rattle.st_pair.proofs.StreamTables.{gathered}
 use Rattle.st_pair.proofs.stamp_table.all_rows.Goals as goal
 
 pub loop-pid-preserved : goal.loop-pid-preserved

@@ -1,7 +1,7 @@
 -- Each stream adds its links after those of the streams before it.
 use Rattle.std.proofs.Common.{◌∙◌}
 use Rattle.st_pair.specs.Tables.{links_back}
-use Rattle.st_pair.proofs.Linkage.{gathered}
+use Rattle.st_pair.proofs.StreamTables.{gathered}
 use Rattle.st_pair.proofs.links.Sources.of.Goals as goal
 
 pub loop-pid-preserved : goal.loop-pid-preserved

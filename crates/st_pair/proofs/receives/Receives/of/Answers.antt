@@ -6,14 +6,14 @@ use Rattle.st_pair.specs.Places.{first_from}
 use Rattle.st_pair.specs.Rules.{IsFirstFault}
 use Rattle.st_pair.specs.Tables.{links_back, place_for, receive_rule}
 use Rattle.st_pair.proofs.Firsts.{first-given, first-passed, table-passed}
-use Rattle.st_pair.proofs.BackLinks.{made_at, read_made}
+use Rattle.st_pair.proofs.StreamTables.{read_made, stream_here}
 use Rattle.st_pair.proofs.Received.{all_with, err_along}
 use Rattle.st_pair.proofs.receives.Receives.of.Goals as goal
 
 pub note_receives-requires-clause-links : goal.note_receives-requires-clause-links
 note_receives-requires-clause-links c =
     let streams = c.args.streams.now in
-    let made = made_at streams c.pids-pids.result.now c.loop-place.place _ _
+    let made = stream_here streams c.pids-pids.result.now c.loop-place.place _ _
     c.pids-pids.ensures.streams.draft.rising
     c.pids-pids.ensures.value c.loop-place-test.true c.events.ensures.value in
     c.as_slice-own.ensures ∙ c.index-links-place.is
