@@ -69,8 +69,7 @@ built top streams marks earlier (m ∷ ms) s all kept =
 -- if each move goes on, and together they tell what each process shows, the construction is a
 -- certificate
 pub construction_shows : (top : ℕ) (streams : List Stream) (marks : Marks) (shown : List Stream)
-    (m : Move)
-    (ms : List Move) → AllAlong (Serves top streams marks) [] (m ∷ ms)
+    (m : Move) (ms : List Move) → AllAlong (Serves top streams marks) [] (m ∷ ms)
     → pids_of streams ≡ pids_of shown
     → All (λ (x : Stream). told_of_moves marks x.pid (m ∷ ms) ≡ x.events) shown
     → (acts : List Act) × (construction top streams marks (m ∷ ms) ≡ Some acts)

@@ -62,14 +62,12 @@ moves_by streams x xs None = moves streams xs
 moves_by streams x xs (Some e) = move_by x e ∷ moves streams xs
 
 pub one_move : (streams : List Stream) (x : Item) (e : Event) (rest : List Item)
-    → event_of streams x ≡ Some e
-    → moves streams (x ∷ rest) ≡ move_by x e ∷ moves streams rest
+    → event_of streams x ≡ Some e → moves streams (x ∷ rest) ≡ move_by x e ∷ moves streams rest
 one_move streams x e rest at = ap (moves_by streams x rest) at
 
 -- the move of an item after those before it
 pub earlier_more : (streams : List Stream) (xs : List Item) (n : ℕ) (x : Item) (e : Event)
-    → slice_get xs n ≡ Some x
-    → event_of streams x ≡ Some e
+    → slice_get xs n ≡ Some x → event_of streams x ≡ Some e
     → earlier_of streams (take (n + 1) xs) ≡ move_by x e ∷ earlier_of streams (take n xs)
 earlier_more streams xs n x e at there =
     let next : n + 1 ≡ suc n = omega arith in
@@ -215,18 +213,15 @@ all_before streams [] n x rise at = absurd (none-some x at)
 all_before streams (y ∷ xs) zero x rise at = tt
 all_before streams (y ∷ xs) (suc n) x rise at = (
   all_at (λ z. comes_before streams y z ≡ true) xs n x rise.0 at,
-  all_before streams xs n x
-      rise.1 at,
+  all_before streams xs n x rise.1 at,
 )
 
 -- HEIGHTS
 
 -- an item of a hidden send's process with a lower key has a lower count
 pub hidden_above : (streams : List Stream) (y : Item) (d : Event) (p : Pid) (i : ℕ) (e : Event)
-    → IsAt streams y d
-    → IsKeyBelow (key_by streams y d) (key_by streams (item.Hidden p i) e)
-    → (move_by y d).who ≡ e.from
-    → d.serial.this < e.serial.this
+    → IsAt streams y d → IsKeyBelow (key_by streams y d) (key_by streams (item.Hidden p i) e)
+    → (move_by y d).who ≡ e.from → d.serial.this < e.serial.this
 hidden_above streams (item.Reported q j) d p i e at below who =
     let low = tallest_has (events_of streams q) (j + 1) j d at (omega arith) in
     let one = below.height in
@@ -256,8 +251,7 @@ abbrev pub AreBelow : Pid → ℕ → List Move → Type 0
 AreBelow q this = AllByRecursion (λ (m : Move). m.who ≡ q → m.event.serial.this < this)
 
 moves_below : (streams : List Stream) (p : Pid) (i : ℕ) (e : Event)
-    → IsAt streams (item.Hidden p i) e
-    → (ys : List Item) → AllByRecursion (IsThere streams) ys
+    → IsAt streams (item.Hidden p i) e → (ys : List Item) → AllByRecursion (IsThere streams) ys
     → AllByRecursion (λ y. comes_before streams y (item.Hidden p i) ≡ true) ys
     → AreBelow e.from e.serial.this (moves streams ys)
 moves_below streams p i e at [] there before = tt

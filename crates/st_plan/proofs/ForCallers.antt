@@ -10,7 +10,7 @@ pub use Rattle.st_plan.proofs.OrderedMoves.{item_is}
 pub use Rattle.st_plan.proofs.OwnActs.{run_append, state_append, lifted, stream_silent, Silent}
 pub use Rattle.st_plan.proofs.Receives.{pick_at}
 -- ---- what the moves say of the machine, from the first acts on
-pub use Rattle.st_plan.proofs.KeptState.{IsKept}
+pub use Rattle.st_plan.proofs.KeptState.{caused_if, IsKept}
 pub use Rattle.st_plan.proofs.Tracers.{opens, IsOpened}
 pub use Rattle.st_plan.proofs.BuiltActs.{stream_append}
 -- ---- where a test holds of a move, and what holds at each move of settled streams

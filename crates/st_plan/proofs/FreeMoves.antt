@@ -27,16 +27,14 @@ reverse_more m earlier later = ap (λ ms. ms ++ later) (reverse-append (m ∷ []
 
 -- what holds along all holds along the rest, after those that came
 pub along_from : (P : List Move → Move → Type 0) (earlier ms : List Move)
-    → AllAlong P [] (reverse earlier ++ ms)
-    → AllAlong P earlier ms
+    → AllAlong P [] (reverse earlier ++ ms) → AllAlong P earlier ms
 along_from P [] ms all = all
 along_from P (m ∷ earlier) ms all =
     (along_from P earlier (m ∷ ms) (subst (AllAlong P []) (reverse_more m earlier ms) all)).1
 
 -- at a place of the moves
 pub along_at : (P : List Move → Move → Type 0) (ms earlier later : List Move) (m : Move)
-    → AllAlong P [] ms
-    → ms ≡ reverse earlier ++ m ∷ later → P earlier m
+    → AllAlong P [] ms → ms ≡ reverse earlier ++ m ∷ later → P earlier m
 along_at P ms earlier later m all split =
     (along_from P earlier (m ∷ later) (subst (AllAlong P []) split all)).0
 
@@ -61,8 +59,7 @@ module _ (streams : List Stream) (xs : List Item) (order : IsOrder streams xs)
 
   module _ (nowhere : HoldsNowhere test streams) where
     pub holds_not : (earlier later : List Move) (m : Move)
-        → moves streams xs ≡ reverse earlier ++ m ∷ later
-        → test earlier m ≡ false
+        → moves streams xs ≡ reverse earlier ++ m ∷ later → test earlier m ≡ false
     holds_not earlier later m split =
         elim (test earlier m) as (λ b. test earlier m ≡ b → b ≡ false) [
           | false ↦ λ no. refl
@@ -110,8 +107,7 @@ free_from earlier (m ∷ ms) caused turn = (
 )
 
 pub settled_free : (top : ℕ) (streams : List Stream) → IsSettled top streams → (xs : List Item)
-    → IsOrder streams xs
-    → AllAlong IsFree [] (moves streams xs)
+    → IsOrder streams xs → AllAlong IsFree [] (moves streams xs)
 settled_free top streams settled xs order = free_from [] (moves streams xs)
     (false_along streams xs order uncaused settled.caused [] (moves streams xs) refl)
     (false_along streams xs order out_of_turn settled.in_turn [] (moves streams xs) refl)

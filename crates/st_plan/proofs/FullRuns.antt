@@ -1,11 +1,10 @@
 -- A full run has such streams: pairing accepts them, each stamp goes on from the events
 -- before it, no send is hidden, and each count is one that a clock has had.
-use Rattle.std.proofs.Common.{◌≡◌, ℕ, ◌+◌, ◌≤◌, ◌==◌, ◌&&◌, Bool, true, false, cond, List, take}
-use Rattle.std.proofs.Common.{Some, None, slice_get, option_and_then, refl, sym, ◌∙◌, ap, subst}
-use Rattle.std.proofs.Common.{arith}
+use Rattle.std.proofs.Common.{◌≡◌, ℕ, ◌≤◌, ◌==◌, ◌&&◌, Bool, true, false, cond, List, take, Some}
+use Rattle.std.proofs.Common.{None, slice_get, option_and_then, refl, sym, ◌∙◌, ap, subst, arith}
 use Rattle.std.specs.List.{All}
 use Rattle.std.proofs.lemmas.Bool.{eqb-true, false≢true, and_parts}
-use Rattle.std.proofs.lemmas.Option.{none-some, same_Some}
+use Rattle.std.proofs.lemmas.Option.{cond_some, same_Some}
 use Rattle.st_core.specs.declared.types.Pid.{Pid}
 use Rattle.st_core.specs.declared.types.Event.{Event}
 use Rattle.st_core.specs.declared.types.Act.{Act}
@@ -29,8 +28,7 @@ use Rattle.st_plan.proofs.RisingStamps.{hidden_by}
 
 -- a process that has an event is listed, and its events are its reports
 events_shown : (streams : List Stream) (acts : List Act) (os : List Outcome) (p : Pid) (i : ℕ)
-    (e : Event)
-    → AreShown streams acts os → event_at streams p i ≡ Some e
+    (e : Event) → AreShown streams acts os → event_at streams p i ≡ Some e
     → stream acts os p ≡ events_of streams p
 events_shown streams acts os p i e shown at =
     sym (shown_events streams acts os p shown (listed_if streams p i e at))
@@ -41,10 +39,6 @@ clock_within top s p all = elim (process s p) as (λ o. process s p ≡ o
       | None ↦ λ _. omega arith
       | Some r ↦ λ is. (process_holds (IsSound top) s p r is all).within
     ] refl
-
-own_send : (b : Bool) (g f : ℕ × Event) → cond b (Some g) None ≡ Some f → b ≡ true
-own_send true g f h = refl
-own_send false g f h = absurd (none-some f h)
 
 module _ (top : ℕ) (streams : List Stream) (acts : List Act) (shows : Shows top streams acts)
     (none : NoReset acts)
@@ -80,16 +74,14 @@ module _ (top : ℕ) (streams : List Stream) (acts : List Act) (shows : Shows to
       ∙ at in
       let told = event_reported acts outcomes p i e there in
       let lifts = reported_stamps_lift top (pids_of streams) acts outcomes shows.1 none p told.0 e
-      told.1.reports
-      (stamp_not_received e stamp) in
+      told.1.reports (stamp_not_received e stamp) in
       let sound = All_at (KeepsSound top) outcomes told.0 lifts.outcome lifts.at
       (run_sound top (pids_of streams) acts outcomes shows.1) in
       subst (λ n. n ≤ top) lifts.reaches (clock_within top lifts.outcome.after p sound.processes)
 
   -- a receive's count is its send's
   receive_within : (p : Pid) (i : ℕ) (e : Event) → event_at streams p i ≡ Some e
-      → is_stamp e ≡ false
-      → e.serial.this ≤ top
+      → is_stamp e ≡ false → e.serial.this ≤ top
   receive_within p i e at receive =
       let this = e.serial.this in
       let shown = ap (λ (b : Bool). cond b false (hidden_by (source_of streams e))) (sym receive)
@@ -101,7 +93,7 @@ module _ (top : ℕ) (streams : List Stream) (acts : List Act) (shows : Shows to
             let found = given_from (own_rule this) e.from 0 (events_of streams e.from) f is in
             let sent = found.1 in
             let tests = and_parts (is_stamp sent) (sent.serial.this == this)
-            (own_send (is_stamp sent && sent.serial.this == this) (0 + found.0, sent) f found.3) in
+            (cond_some (is_stamp sent && sent.serial.this == this) _ f found.3).0 in
             subst (λ n. n ≤ top) (eqb-true sent.serial.this this tests.1)
             (stamp_within e.from found.0 sent found.2 tests.0)
       ] refl shown

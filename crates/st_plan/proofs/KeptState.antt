@@ -129,19 +129,23 @@ still_there top s p r before acts l is x =
       | false ↦ λ e. ap (λ (o : Option Process). is_some o) (l.others x e)
     ] refl
 
+-- a prev that is the last count, or at least the clock
+pub caused_if : (prev last clock : ℕ) → (not (prev == last) && nat_lt prev clock) ≡ false
+    → (prev ≡ last) ⊎ (clock ≤ prev)
+caused_if prev last clock h = elim (prev == last) as (λ b. (prev == last) ≡ b
+    → (not b && nat_lt prev clock) ≡ false → (prev ≡ last) ⊎ (clock ≤ prev)) [
+      | true ↦ λ e h. inl (eqb-true prev last e)
+      | false ↦ λ e h. inr (ltb-false prev clock h)
+    ] refl h
+
 -- a stamp that isn't uncaused
 pub caused : (earlier : List Move) (m : Move) → is_taking m ≡ false → uncaused earlier m ≡ false
     → (m.event.serial.prev ≡ last m.who earlier) ⊎ (clock m.who earlier ≤ m.event.serial.prev)
 caused earlier m stamps h =
-    let late = nat_lt m.event.serial.prev (clock m.who earlier) in
-    let same = m.event.serial.prev == last m.who earlier in
-    let rest : (not same && late) ≡ false =
-    ap (λ b. not b && (not same && late)) (sym stamps) ∙ h in
-    elim same as (λ b. same ≡ b → (not b && late) ≡ false
-    → (m.event.serial.prev ≡ last m.who earlier) ⊎ (clock m.who earlier ≤ m.event.serial.prev)) [
-      | true ↦ λ e h. inl (eqb-true m.event.serial.prev (last m.who earlier) e)
-      | false ↦ λ e h. inr (ltb-false m.event.serial.prev (clock m.who earlier) h)
-    ] refl rest
+    let prev = m.event.serial.prev in
+    let late = not (prev == last m.who earlier) && nat_lt prev (clock m.who earlier) in
+    caused_if prev (last m.who earlier) (clock m.who earlier)
+    (ap (λ b. not b && late) (sym stamps) ∙ h)
 
 -- WHAT A MOVE MAKES OF THE COUNTS
 
@@ -166,18 +170,14 @@ other_last m earlier x h = rw (pid_eq-swap m.who x ∙ h) refl
 
 -- the queue of x after a move that stamps
 pub stamp_queue : (streams : List Stream) (marks : Marks) (m : Move) (earlier : List Move) (x : Pid)
-    (b : Bool)
-    → is_taking m ≡ false → sends_to x m ≡ b
-    → queue_of streams marks x (m ∷ earlier)
+    (b : Bool) → is_taking m ≡ false → sends_to x m ≡ b → queue_of streams marks x (m ∷ earlier)
     ≡ cond b (queue_of streams marks x earlier ++ message_of streams marks m ∷ [])
     (queue_of streams marks x earlier)
 stamp_queue streams marks m earlier x b stamps sends = rw (stamps, sends) refl
 
 -- and after one that takes
 pub taken_queue : (streams : List Stream) (marks : Marks) (m : Move) (earlier : List Move) (x : Pid)
-    (b : Bool)
-    → is_taking m ≡ true → pid_eq m.who x ≡ b
-    → queue_of streams marks x (m ∷ earlier)
+    (b : Bool) → is_taking m ≡ true → pid_eq m.who x ≡ b → queue_of streams marks x (m ∷ earlier)
     ≡ cond b (without m.event.from m.event.serial.this (queue_of streams marks x earlier))
     (queue_of streams marks x earlier)
 taken_queue streams marks m earlier x b takes who = rw (takes, who) refl
@@ -224,8 +224,7 @@ step_keeps streams marks earlier m s a done r there is by own others = record {
 -- ONE ACT MORE
 
 pub stream_last : (acts : List Act) (a : Act) (os : List Outcome) (o : Outcome) (p : Pid) (top : ℕ)
-    (s : State)
-    → run_from top s acts ≡ Some os → Silent os
+    (s : State) → run_from top s acts ≡ Some os → Silent os
     → stream (acts ++ a ∷ []) (os ++ o ∷ []) p ≡ (if pid_eq
     (actor a) p then option_to_list o.report else []) ++ []
 stream_last [] a os o p top s runs silent =

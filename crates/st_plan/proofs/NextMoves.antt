@@ -59,8 +59,7 @@ module _ (top : ℕ) (streams : List Stream) (marks : Marks) (earlier : List Mov
         below = below;
         free = free.caused;
       } in
-      sending top streams marks earlier s m p can h.listed
-      (λ r. rw to refl) (λ q. rw to refl) refl
+      sending top streams marks earlier s m p can h.listed (λ r. rw to refl) (λ q. rw to refl) refl
   hidden_by hidden (Sent to kd from is_to there) free below s kept =
       absurd (hidden_got streams e hidden (stamp_kind e kind.Send kd))
   hidden_by hidden (Printed kd from is_to) free below s kept =
@@ -90,14 +89,8 @@ module _ (top : ℕ) (streams : List Stream) (marks : Marks) (earlier : List Mov
         let froms = sym from in
         let tos = sym to in
         let seen : (flags_of streams marks m).print ≡ marks p i = rw kd refl in
-        let same : printed_event m ≡ e = λ k. record {
-          label = e.label;
-          kind = kinds k;
-          serial = e.serial;
-          from = froms k;
-          to = tos k;
-          value = e.value;
-        } in
+        let same : printed_event m ≡ e =
+        λ k. record e { kind = kinds k; from = froms k; to = tos k } in
         printing top streams marks earlier s m (reported (rw kd refl)) (λ r. rw kd refl)
         (λ q. rw kd refl)
         (ap (λ b. let o : Option Event = cond b (Some (printed_event m)) None in o) seen
@@ -110,14 +103,8 @@ module _ (top : ℕ) (streams : List Stream) (marks : Marks) (earlier : List Mov
         let froms = sym from in
         let tos = sym to in
         let seen : (flags_of streams marks m).send ≡ marks p i = rw kd refl in
-        let same : sent_event m q ≡ e = λ k. record {
-          label = e.label;
-          kind = kinds k;
-          serial = e.serial;
-          from = froms k;
-          to = tos k;
-          value = e.value;
-        } in
+        let same : sent_event m q ≡ e =
+        λ k. record e { kind = kinds k; from = froms k; to = tos k } in
         sending top streams marks earlier s m q (reported (rw kd refl)) listed_to
         (λ r. rw (kd, to) refl) (λ x. rw (kd, to) refl)
         (ap (λ b. let o : Option Event = cond b (Some (sent_event m q)) None in o) seen
@@ -139,8 +126,7 @@ AreWithin top streams =
     (p : Pid) (i : ℕ) (e : Event) → event_at streams p i ≡ Some e → e.serial.this ≤ top
 
 module _ (top : ℕ) (streams : List Stream) (marks : Marks) (ok : IsPaired streams)
-    (proper : AreProper streams)
-    (within : AreWithin top streams) where
+    (proper : AreProper streams) (within : AreWithin top streams) where
   here : (p : Pid) (i : ℕ) (e : Event) → event_at streams p i ≡ Some e → IsHere top streams p i e
   here p i e at = record {
     at = at;
@@ -163,8 +149,7 @@ module _ (top : ℕ) (streams : List Stream) (marks : Marks) (ok : IsPaired stre
   -- in an order each move goes on
   pub serves_along : (earlier : List Move) (xs : List Item) → AreThere streams xs
       → AllAlong IsFree earlier (moves streams xs) → AllAlong IsClockBelow earlier
-      (moves streams xs)
-      → AllAlong (Waits streams marks) earlier (moves streams xs)
+      (moves streams xs) → AllAlong (Waits streams marks) earlier (moves streams xs)
       → AllAlong (Serves top streams marks) earlier (moves streams xs)
   serves_along earlier [] there free below waits = tt
   serves_along earlier (x ∷ xs) there free below waits =

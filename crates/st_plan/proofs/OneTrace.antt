@@ -48,8 +48,7 @@ either P false xs ys one two = two
 module _ (P : Act → Type 0) (p : Pid) (restores : (t : Token) → P (act.Restore p t))
     (prints : P (act.Print p 0)) (clears : P (act.Clear p))
     (sets : (n : Label) → P (act.Set p (component.Label n))) where
-  dress_all : (token : Option Token) (n : Label) (f : Flags)
-      → AllByRecursion P (dress p token n f)
+  dress_all : (token : Option Token) (n : Label) (f : Flags) → AllByRecursion P (dress p token n f)
   dress_all token n f = either P (is_dressed n f token) []
       (act.Restore p (unstamped_token p n f) ∷ []) tt (restores (unstamped_token p n f), tt)
 
@@ -89,8 +88,7 @@ module _ (P : Act → Type 0) (p : Pid) (restores : (t : Token) → P (act.Resto
   ready_all x n s f =
       let again = renewed_start p x n s.prev in
       either P (s.prev == x.last) (raise p x n (s.this - 1) f)
-      (renew p x n s.prev ++ raise p again n (s.this - 1) f)
-      (raise_all x n (s.this - 1) f)
+      (renew p x n s.prev ++ raise p again n (s.this - 1) f) (raise_all x n (s.this - 1) f)
       (all_append P (renew p x n s.prev) (raise p again n (s.this - 1) f) (renew_all x n s.prev)
       (raise_all again n (s.this - 1) f))
 
@@ -147,8 +145,7 @@ opening_none streams [] = tt
 opening_none streams (m ∷ ms) = tracers_none None (pids_of streams)
 
 build_none : (top : ℕ) (streams : List Stream) (marks : Marks) (s : State) (ms : List Move)
-    (acts : List Act)
-    → build top streams marks s ms ≡ Some acts → NoReset acts
+    (acts : List Act) → build top streams marks s ms ≡ Some acts → NoReset acts
 build_none top streams marks s [] acts h = subst NoReset (same_Some [] acts h) tt
 build_none top streams marks s (m ∷ ms) acts h =
     let rest = λ (os : List Outcome). build top streams marks (state_after s os) ms in

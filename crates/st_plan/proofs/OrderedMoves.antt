@@ -48,8 +48,7 @@ pub record Leads (streams : List Stream) (xs : List Item) (y : Move) : Type 0 wh
   pub before : AllByRecursion (λ x. comes_before streams y.item x ≡ true) xs
 
 leads_below : (streams : List Stream) (x : Item) (xs : List Item) (e : Event) (earlier : List Move)
-    → IsAt streams x e
-    → AllByRecursion (Leads streams (x ∷ xs)) earlier
+    → IsAt streams x e → AllByRecursion (Leads streams (x ∷ xs)) earlier
     → AllByRecursion (λ y. IsKeyBelow (key_by streams y.item y.event) (key_by streams x e)) earlier
 leads_below streams x xs e [] at all = tt
 leads_below streams x xs e (y ∷ earlier) at all = (
@@ -79,10 +78,8 @@ AreInTurn earlier ms = AllAlong (λ before m. IsInTurn before m.item) earlier ms
 
 -- what the order says of each move
 pub next_along : (streams : List Stream) (earlier : List Move) (xs : List Item)
-    → AreThere streams xs
-    → AllByRecursion (Leads streams xs) earlier → KeysRise streams xs
-    → AreInTurn earlier (moves streams xs)
-    → AllAlong (IsNext streams) earlier (moves streams xs)
+    → AreThere streams xs → AllByRecursion (Leads streams xs) earlier → KeysRise streams xs
+    → AreInTurn earlier (moves streams xs) → AllAlong (IsNext streams) earlier (moves streams xs)
 next_along streams earlier [] there leads rise turns = tt
 next_along streams earlier (x ∷ xs) there leads rise turns =
     let e = there.0.0 in
@@ -154,8 +151,7 @@ Covers streams earlier xs = (z : Item) (d : Event) → IsAt streams z d
     → ((n : ℕ) × (slice_get earlier n ≡ Some (move_by z d))) ⊎ ((n : ℕ) × (slice_get xs n ≡ Some z))
 
 covers_on : (streams : List Stream) (earlier : List Move) (x : Item) (xs : List Item) (e : Event)
-    → IsAt streams x e
-    → Covers streams earlier (x ∷ xs) → Covers streams (move_by x e ∷ earlier) xs
+    → IsAt streams x e → Covers streams earlier (x ∷ xs) → Covers streams (move_by x e ∷ earlier) xs
 covers_on streams earlier x xs e at covers z d at_z = elim (covers z d at_z) [
   | inl came ↦ inl (suc came.0, came.1)
   | inr (zero, here) ↦
@@ -219,8 +215,7 @@ waits_by streams marks ok tops earlier p i e xs r leads rise covers came =
 pub waits_along : (streams : List Stream) (marks : Marks) → IsPaired streams → AreTops streams
     → (earlier : List Move)
     (xs : List Item) → AreThere streams xs → AllByRecursion (Leads streams xs) earlier
-    → KeysRise streams xs
-    → Covers streams earlier xs
+    → KeysRise streams xs → Covers streams earlier xs
     → AllAlong (Knows streams) earlier (moves streams xs)
     → AllAlong (Waits streams marks) earlier (moves streams xs)
 waits_along streams marks ok tops earlier [] there leads rise covers known = tt
@@ -260,8 +255,7 @@ pub record IsOrderly (streams : List Stream) (marks : Marks) (xs : List Item) : 
 -- what came along the moves holds of each item
 tops_from : (streams : List Stream) (earlier : List Move) (xs : List Item) → AreThere streams xs
     → AllAlong (Knows streams) earlier (moves streams xs) → (n : ℕ) (z : Item) (d : Event)
-    → slice_get xs n ≡ Some z
-    → IsAt streams z d → IsTop streams z d
+    → slice_get xs n ≡ Some z → IsAt streams z d → IsTop streams z d
 tops_from streams earlier [] there known n z d here at = absurd (none-some z here)
 tops_from streams earlier (x ∷ xs) there known zero z d here at =
     let e = there.0.0 in

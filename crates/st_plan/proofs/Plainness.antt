@@ -99,11 +99,9 @@ narrow_by false here before none nothing =
     rw (none, nothing) refl
 
 module _ (top : ℕ) (streams : List Stream) (rising : IsRising (pids_of streams))
-    (full : IsFull top streams)
-    (xs : List Item) (order : IsOrder streams xs) where
+    (full : IsFull top streams) (xs : List Item) (order : IsOrder streams xs) where
   along : (earlier : List Move) (m : Move) (later : List Move)
-      → moves streams xs ≡ reverse earlier ++ m ∷ later
-      → IsNext earlier m
+      → moves streams xs ≡ reverse earlier ++ m ∷ later → IsNext earlier m
   along earlier m later split =
       at_each streams rising full.reported (stamps_lead top streams full) xs order IsNext
       (λ p i e before after. at_move streams p i e before after (full.goes_on p)) earlier m later
@@ -119,8 +117,7 @@ module _ (top : ℕ) (streams : List Stream) (rising : IsRising (pids_of streams
       omega arith
 
   narrow : (earlier : List Move) (m : Move) (later : List Move)
-      → moves streams xs ≡ reverse earlier ++ m ∷ later
-      → too_wide earlier m ≡ false
+      → moves streams xs ≡ reverse earlier ++ m ∷ later → too_wide earlier m ≡ false
   narrow earlier m later split =
       narrow_by (is_taking m) (skip earlier m) (skips earlier) (along earlier m later split).skipped
       (no_skips earlier (m ∷ later) split)
@@ -128,8 +125,7 @@ module _ (top : ℕ) (streams : List Stream) (rising : IsRising (pids_of streams
 -- THE LAWS
 
 pub full_streams_plain : (top : ℕ) (streams : List Stream) → IsRising (pids_of streams)
-    → IsFull top streams
-    → IsPlain top streams
+    → IsFull top streams → IsPlain top streams
 full_streams_plain top streams rising full = record {
   settled = record {
     accepted = full.accepted;
@@ -147,9 +143,7 @@ full_streams_plain top streams rising full = record {
 }
 
 pub full_plain : (top : ℕ) (streams : List Stream) (acts : List Act)
-    (shows : Shows top streams acts)
-    → IsRising (pids_of streams) → NoReset acts → ReportsEverything
-    (zero_state (pids_of streams)) acts shows.0
-    → IsPlain top streams
+    (shows : Shows top streams acts) → IsRising (pids_of streams) → NoReset acts → ReportsEverything
+    (zero_state (pids_of streams)) acts shows.0 → IsPlain top streams
 full_plain top streams acts shows rising none all =
     full_streams_plain top streams rising (run_full top streams acts shows none all)

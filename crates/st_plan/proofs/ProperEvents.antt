@@ -32,8 +32,7 @@ pub record AreProper (streams : List Stream) : Type 0 where
       → lists streams p ≡ true
 
 own_at : (streams : List Stream) (p : Pid) (i : ℕ) (e : Event) → AreOwn streams
-    → event_at streams p i ≡ Some e
-    → is_own p e ≡ true
+    → event_at streams p i ≡ Some e → is_own p e ≡ true
 own_at [] p i e own at = absurd (none-some e at)
 own_at (x ∷ streams) p i e own at =
     elim (pid_eq x.pid p) as (λ b. pid_eq x.pid p ≡ b → slice_get
@@ -58,10 +57,8 @@ named streams s =
     s.listed (unlisted_is_least streams s.draft.rising)
 
 proper_by : (streams : List Stream) (p : Pid) (e : Event) (k : Kind) (to : Option Pid) → e.kind ≡ k
-    → e.to ≡ to
-    → is_of k e.from to p ≡ true → lists streams e.from ≡ true
-    → option_map_or (lists streams) to true ≡ true
-    → IsProper streams p e
+    → e.to ≡ to → is_of k e.from to p ≡ true → lists streams e.from ≡ true
+    → option_map_or (lists streams) to true ≡ true → IsProper streams p e
 proper_by streams p e kind.Send (Some q) kd is own from there =
     Sent q kd (pid_same e.from p (and_parts (pid_eq e.from p) true own).0) is there
 proper_by streams p e kind.Send None kd is own from there = absurd

@@ -39,8 +39,7 @@ is_alone p a = ⊥
 pub record IsQuiet (top : ℕ) (p : Pid) (l : LocalState) (a : Act) (m : LocalState) : Type 0 where
   pub reply : Reply
   pub alone : is_alone p a
-  pub acts : (queue : List Message)
-      → acted top (record { pid = p; local = l; queue = queue }) a
+  pub acts : (queue : List Message) → acted top (record { pid = p; local = l; queue = queue }) a
       ≡ Some (record { local = m; queue = queue; reply = reply; report = None; place = None })
 
 -- so do these acts, in a row
@@ -49,22 +48,24 @@ QuietRun top p l [] m = l ≡ m
 QuietRun top p l (a ∷ rest) m = (x : LocalState) × IsQuiet top p l a x × QuietRun top p x rest m
 
 pub quiet_append : (top : ℕ) (p : Pid) (xs ys : List Act) (l m n : LocalState)
-    → QuietRun top p l xs m
-    → QuietRun top p m ys n → QuietRun top p l (xs ++ ys) n
+    → QuietRun top p l xs m → QuietRun top p m ys n → QuietRun top p l (xs ++ ys) n
 quiet_append top p [] ys l m n one two = subst (λ x. QuietRun top p x ys n) (sym one) two
 quiet_append top p (a ∷ xs) ys l m n one two =
     (one.0, one.1, quiet_append top p xs ys one.0 m n one.2 two)
 
--- where the acts lead: clock and last, and a token of this label and these flags
-pub record Reaches (top : ℕ) (p : Pid) (l : LocalState) (acts : List Act) (clock last : ℕ)
-    (n : Label) (f : Flags)
-    : Type 0 where
-  pub end : LocalState
+-- the record has a token of this label and these flags
+pub record HasToken (l : LocalState) (n : Label) (f : Flags) : Type 0 where
   pub token : Token
-  pub runs : QuietRun top p l acts end
-  pub is : end.token ≡ Some token
+  pub is : l.token ≡ Some token
   pub label : token.label ≡ n
   pub flags : token.flags ≡ f
+
+-- where the acts lead: clock and last, and a token of this label and these flags
+pub record Reaches (top : ℕ) (p : Pid) (l : LocalState) (acts : List Act) (clock last : ℕ)
+    (n : Label) (f : Flags) : Type 0 where
+  pub end : LocalState
+  pub runs : QuietRun top p l acts end
+  pub has : HasToken end n f
   pub clocked : end.clock ≡ clock
   pub lasted : end.last ≡ last
   pub traced : end.traced ≡ l.traced
@@ -75,11 +76,8 @@ both_reach : {top : ℕ} {p : Pid} {l : LocalState} {xs ys : List Act} {c z : �
     → Reaches top p one.end ys d y n g → d ≡ d2 → y ≡ y2 → Reaches top p l (xs ++ ys) d2 y2 n g
 both_reach {top} {p} {l} {xs} {ys} one two clock last = record {
   end = two.end;
-  token = two.token;
   runs = quiet_append top p xs ys l one.end two.end one.runs two.runs;
-  is = two.is;
-  label = two.label;
-  flags = two.flags;
+  has = two.has;
   clocked = two.clocked ∙ clock;
   lasted = two.lasted ∙ last;
   traced = two.traced ∙ one.traced;
@@ -110,33 +108,31 @@ restored : (top : ℕ) (p : Pid) (l : LocalState) (n : Label) (f : Flags)
     → Reaches top p l (act.Restore p (unstamped_token p n f) ∷ []) l.clock l.last n f
 restored top p l n f = record {
   end = record l { token = Some (unstamped_token p n f) };
-  token = unstamped_token p n f;
   runs = (
     record l { token = Some (unstamped_token p n f) },
     record { reply = reply.Previous l.token; alone = refl; acts = λ queue. refl },
     refl,
   );
-  is = refl;
-  label = refl;
-  flags = refl;
+  has = record { token = unstamped_token p n f; is = refl; label = refl; flags = refl };
   clocked = refl;
   lasted = refl;
   traced = refl;
 }
 
 stays : (top : ℕ) (p : Pid) (l : LocalState) (n : Label) (f : Flags) (token : Option Token)
-    → l.token ≡ token
-    → is_dressed n f token ≡ true → Reaches top p l [] l.clock l.last n f
+    → l.token ≡ token → is_dressed n f token ≡ true → Reaches top p l [] l.clock l.last n f
 stays top p l n f None e h = absurd (false≢true h)
 stays top p l n f (Some t) e h =
     let parts = and_parts (t.label.0 == n.0) (flags_eq t.flags f) h in
     record {
       end = l;
-      token = t;
       runs = refl;
-      is = e;
-      label = same_label t.label n parts.0;
-      flags = same_flags t.flags f parts.1;
+      has = record {
+        token = t;
+        is = e;
+        label = same_label t.label n parts.0;
+        flags = same_flags t.flags f parts.1;
+      };
       clocked = refl;
       lasted = refl;
       traced = refl;
@@ -165,44 +161,39 @@ printed top p l t is flag below =
     let unseen : (l.traced && t.flags.print) ≡ false = and_false l.traced t.flags.print flag in
     record { reply = reply.Done; alone = refl; acts = λ queue. rw (is, now, unseen) refl }
 
-silent_reaches : (top : ℕ) (p : Pid) (k : ℕ) (l : LocalState) (t : Token) (n : Label)
-    → l.token ≡ Some t → t.label ≡ n
-    → t.flags ≡ quiet → l.clock + k ≤ top → Reaches top p l (silent_prints p k)
-    (l.clock + k) l.last n quiet
-silent_reaches top p zero l t n is label flags within = record {
+silent_reaches : (top : ℕ) (p : Pid) (k : ℕ) (l : LocalState) (n : Label) → HasToken l n quiet
+    → l.clock + k ≤ top → Reaches top p l (silent_prints p k) (l.clock + k) l.last n quiet
+silent_reaches top p zero l n has within = record {
   end = l;
-  token = t;
   runs = refl;
-  is = is;
-  label = label;
-  flags = flags;
+  has = has;
   clocked = omega arith;
   lasted = refl;
   traced = refl;
 }
-silent_reaches top p (suc k) l t n is label flags within =
-    let m : LocalState = record l { token = Some (stamped_token p l t); clock = l.clock + 1 } in
-    let rest = silent_reaches top p k m (stamped_token p l t) n refl label flags (omega arith) in
+silent_reaches top p (suc k) l n has within =
+    let t = stamped_token p l has.token in
+    let m : LocalState = record l { token = Some t; clock = l.clock + 1 } in
+    let next : HasToken m n quiet =
+    record { token = t; is = refl; label = has.label; flags = has.flags } in
+    let rest = silent_reaches top p k m n next (omega arith) in
+    let prints = ap (λ (f : Flags). f.print) has.flags in
     record {
       end = rest.end;
-      token = rest.token;
-      runs = (m, printed top p l t is (ap (λ (f : Flags). f.print) flags) (omega arith), rest.runs);
-      is = rest.is;
-      label = rest.label;
-      flags = rest.flags;
+      runs = (m, printed top p l has.token has.is prints (omega arith), rest.runs);
+      has = rest.has;
       clocked = let clocked = rest.clocked in omega arith;
       lasted = rest.lasted;
       traced = rest.traced;
     }
 
 -- a token stands for each other of its label and flags
-alike : (t : Token) (n : Label) (g : Flags) (p : Pid) (l : LocalState) → l.token ≡ Some t
-    → t.label ≡ n → t.flags ≡ g
-    → (m : Label) (f : Flags) → is_dressed m f (Some (unstamped_token p n g))
-    ≡ is_dressed m f l.token
-alike t n g p l is label flags m f = ap (λ (x : Label). x.0 == m.0 && flags_eq g f) (sym label)
-    ∙ ap (λ (x : Flags). t.label.0 == m.0 && flags_eq x f) (sym flags)
-    ∙ ap (is_dressed m f) (sym is)
+alike : (n : Label) (g : Flags) (p : Pid) (l : LocalState) → HasToken l n g
+    → (m : Label) (f : Flags)
+    → is_dressed m f (Some (unstamped_token p n g)) ≡ is_dressed m f l.token
+alike n g p l has m f = ap (λ (x : Label). x.0 == m.0 && flags_eq g f) (sym has.label)
+    ∙ ap (λ (x : Flags). has.token.label.0 == m.0 && flags_eq x f) (sym has.flags)
+    ∙ ap (is_dressed m f) (sym has.is)
 
 -- THE PARTS
 
@@ -219,12 +210,10 @@ raised top p l x n count f same now least within =
           let less = ltb-true x.clock count e in
           let one = dressed top p l x.token n quiet (same n quiet) in
           let here = one.clocked in
-          let two = silent_reaches top p (count - x.clock) one.end one.token n one.is one.label
-          one.flags
-          (omega arith) in
+          let two = silent_reaches top p (count - x.clock) one.end n one.has (omega arith) in
           let there = two.clocked in
           let three = dressed top p two.end (Some (unstamped_token p n quiet)) n f
-          (alike two.token n quiet p two.end two.is two.label two.flags n f) in
+          (alike n quiet p two.end two.has n f) in
           let clock : two.end.clock ≡ count = omega arith in
           both_reach one (both_reach two three clock (two.lasted ∙ one.lasted)) refl refl
       | false ↦ λ e.
@@ -252,15 +241,12 @@ brought top p l n prev least within =
           let less = ltb-true l.clock prev e in
           let one = dressed top p l l.token n quiet refl in
           let here = one.clocked in
-          let two = silent_reaches top p (prev - l.clock) one.end one.token n one.is one.label
-          one.flags
-          (omega arith) in
+          let two = silent_reaches top p (prev - l.clock) one.end n one.has (omega arith) in
           let there = two.clocked in
           record {
             end = two.end;
-            runs = quiet_append top p (dress p l.token n quiet)
-                (silent_prints p (prev - l.clock)) l one.end two.end
-                one.runs two.runs;
+            runs = quiet_append top p (dress p l.token n quiet) (silent_prints p (prev - l.clock))
+                l one.end two.end one.runs two.runs;
             clocked = omega arith;
             traced = two.traced ∙ one.traced;
           }
@@ -270,8 +256,7 @@ brought top p l n prev least within =
     ] refl
 
 renew_reaches : (top : ℕ) (p : Pid) (l : LocalState) (n : Label) (prev : ℕ) → l.clock ≤ prev
-    → prev ≤ top
-    → Reaches top p l (renew p (start_of l) n prev) prev prev n quiet
+    → prev ≤ top → Reaches top p l (renew p (start_of l) n prev) prev prev n quiet
 renew_reaches top p l n prev least within =
     let up = brought top p l n prev least within in
     let none : LocalState = record up.end { token = None } in
@@ -284,12 +269,9 @@ renew_reaches top p l n prev least within =
     ) in
     record {
       end = end;
-      token = made;
-      runs = quiet_append top p _ (act.Clear p ∷ act.Set p (component.Label n)
-          ∷ []) l up.end end up.runs begins;
-      is = refl;
-      label = refl;
-      flags = refl;
+      runs = quiet_append top p _ (act.Clear p ∷ act.Set p (component.Label n) ∷ []) l up.end end
+          up.runs begins;
+      has = record { token = made; is = refl; label = refl; flags = refl };
       clocked = up.clocked;
       lasted = up.clocked;
       traced = up.traced;
@@ -298,8 +280,7 @@ renew_reaches top p l n prev least within =
 -- p is ready: its clock is one below the count, its last count is prev, and its token has the label
 -- and the flags
 pub is_ready : (top : ℕ) (p : Pid) (l : LocalState) (n : Label) (s : Serial) (f : Flags)
-    → s.prev < s.this
-    → s.this ≤ top → l.clock < s.this → (s.prev ≡ l.last) ⊎ (l.clock ≤ s.prev)
+    → s.prev < s.this → s.this ≤ top → l.clock < s.this → (s.prev ≡ l.last) ⊎ (l.clock ≤ s.prev)
     → Reaches top p l (ready p (start_of l) n s f) (s.this - 1) s.prev n f
 is_ready top p l n s f rises within below caused =
     let again = renewed_start p (start_of l) n s.prev in
@@ -319,7 +300,6 @@ is_ready top p l n s f rises within below caused =
           let one = renew_reaches top p l n s.prev least (omega arith) in
           let here = one.clocked in
           let two = raised top p one.end again n (s.this - 1) f
-          (λ m g. alike one.token n quiet p one.end one.is one.label one.flags m g)
-          (omega arith) (omega arith) (omega arith) in
+          (alike n quiet p one.end one.has) (omega arith) (omega arith) (omega arith) in
           both_reach one two refl one.lasted
     ] refl

@@ -60,8 +60,7 @@ pub record IsWaiting (streams : List Stream) (marks : Marks) (earlier : List Mov
   pub message : Message
   pub token : Token
   pub is : position (λ x. bears_stamp m.event.from m.event.serial.this x.token)
-      (queue_of streams marks m.who earlier)
-      ≡ Some place
+      (queue_of streams marks m.who earlier) ≡ Some place
   pub at : slice_get (queue_of streams marks m.who earlier) place ≡ Some message
   pub has : message.token ≡ Some token
   pub seen : token.flags.receive ≡ is_told marks m
@@ -74,8 +73,7 @@ taken_by r m = option_map (λ k. act.Receive m.who (want.Place k))
 
 -- the message at its place is what the receive takes
 taken_message : (top : ℕ) (streams : List Stream) (marks : Marks) (earlier : List Move)
-    (r : Process)
-    (m : Move)
+    (r : Process) (m : Move)
     → IsSo streams marks earlier m.who r → (w : IsWaiting streams marks earlier m)
     → acted top r (act.Receive m.who (want.Place w.place))
     ≡ Some (receives r (Some (w.place, w.message)))
@@ -86,8 +84,7 @@ taken_message top streams marks earlier r m so w =
 
 -- what its process reports of it is the move's event, if that is told
 taken_event : (streams : List Stream) (marks : Marks) (earlier : List Move) (r : Process) (m : Move)
-    → IsSo streams marks earlier m.who r → r.pid ≡ m.who
-    → (w : IsWaiting streams marks earlier m)
+    → IsSo streams marks earlier m.who r → r.pid ≡ m.who → (w : IsWaiting streams marks earlier m)
     → report r.local.traced kind.Receive w.message.token (Some r.pid) w.message.value
     ≡ told_event marks m
 taken_event streams marks earlier r m so who w =
@@ -126,8 +123,7 @@ so_taken streams marks earlier r m so takes w =
 
 -- any other process is as the moves say without it
 so_beside : (streams : List Stream) (marks : Marks) (earlier : List Move) (m : Move) (x : Pid)
-    (z : Process)
-    → is_taking m ≡ true → pid_eq x m.who ≡ false → IsSo streams marks earlier x z
+    (z : Process) → is_taking m ≡ true → pid_eq x m.who ≡ false → IsSo streams marks earlier x z
     → IsSo streams marks (m ∷ earlier) x z
 so_beside streams marks earlier m x z takes apart so = record {
   clocked = so.clocked ∙ sym (other_clock m earlier x apart);
@@ -138,11 +134,9 @@ so_beside streams marks earlier m x z takes apart so = record {
 }
 
 pub taking : (top : ℕ) (streams : List Stream) (marks : Marks) (earlier : List Move) (s : State)
-    (m : Move)
-    → IsKept streams marks earlier s → lists streams m.who ≡ true → is_taking m ≡ true
+    (m : Move) → IsKept streams marks earlier s → lists streams m.who ≡ true → is_taking m ≡ true
     → ((r : Process) → act_of r m ≡ taken_by r m) → move_by m.item m.event ≡ m
-    → IsWaiting streams marks earlier m
-    → Continues top streams marks earlier s m
+    → IsWaiting streams marks earlier m → Continues top streams marks earlier s m
 taking top streams marks earlier s m kept listed takes is_act is w =
     let at = found (process s m.who) (kept.there m.who listed) in
     let r = at.0 in

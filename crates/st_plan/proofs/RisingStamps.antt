@@ -88,8 +88,7 @@ hidden_apart streams d e i hidden at stamps same =
 pub this_below : (streams : List Stream) (y x : Item) (d e : Event) → IsAt streams y d
     → IsAt streams x e → Stamps x e
     → IsTop streams x e → IsKeyBelow (key_by streams y d) (key_by streams x e)
-    → (move_by y d).who ≡ (move_by x e).who
-    → d.serial.this < e.serial.this
+    → (move_by y d).who ≡ (move_by x e).who → d.serial.this < e.serial.this
 this_below streams (item.Reported q j) (item.Reported p i) d e at_d at_e stamps tops below who =
     let top = tops stamps in
     let here : height streams p i ≡ max e.serial.this (height_of streams p i) =

@@ -66,14 +66,12 @@ module _ (top : ℕ) (streams : List Stream) (marks : Marks) (sound : IsStreams 
 
   known : IsOrderly streams marks xs
   known = orderly streams marks (paired streams settled.accepted) xs there
-      (order_whole streams xs is_order)
-      is_order.rises (turns_of [] (moves streams xs) free)
+      (order_whole streams xs is_order) is_order.rises (turns_of [] (moves streams xs) free)
 
   -- each move goes on
   pub each_serves : AllAlong (Serves top streams marks) [] (moves streams xs)
   each_serves = serves_along top streams marks (paired streams settled.accepted)
-      (are_proper streams sound)
-      settled.within [] xs there free known.clocks known.waits
+      (are_proper streams sound) settled.within [] xs there free known.clocks known.waits
 
   -- the moves tell the told events
   pub tells_told_events : (p : Pid) → told_of_moves marks p (moves streams xs)
@@ -120,14 +118,12 @@ told_pids marks (x ∷ streams) = ap (λ ps. x.pid ∷ ps) (told_pids marks stre
 -- what the moves tell is what some of all streams tell
 told_some : (marks : Marks) (all some : List Stream) (ms : List Move)
     → ((p : Pid) → told_of_moves marks p ms ≡ told_events_from (marks p) 0 (events_of all p))
-    → AreFound all some
-    → AllByRecursion (λ (x : Stream). told_of_moves marks x.pid ms ≡ x.events)
+    → AreFound all some → AllByRecursion (λ (x : Stream). told_of_moves marks x.pid ms ≡ x.events)
     (told_parts marks some)
 told_some marks all [] ms told found = tt
 told_some marks all (x ∷ some) ms told found = (
   told x.pid ∙ ap (told_events_from (marks x.pid) 0) found.0,
-  told_some marks all some ms told
-      found.1,
+  told_some marks all some ms told found.1,
 )
 
 pub tells_only : (streams : List Stream) (marks : Marks) (ms : List Move) → IsStreams streams
@@ -137,8 +133,7 @@ tells_only streams marks ms sound told k d within =
     let shown = told_parts marks streams in
     let found = told_some marks streams streams ms told (all_found streams sound.draft.rising) in
     all_at (λ (x : Stream). told_of_moves marks x.pid ms ≡ x.events) shown k
-    (get_or shown k d) found
-    (slice_get-get_or shown k d within)
+    (get_or shown k d) found (slice_get-get_or shown k d within)
 
 abbrev IsShown : ℕ → List Stream → Marks → List Stream → List Move → Type 0
 IsShown top streams marks shown ms =
@@ -165,6 +160,5 @@ settled_is_shown top streams marks sound settled =
     let told = tells_told_events top streams marks sound settled (order streams) is_order in
     let serve = each_serves top streams marks sound settled (order streams) is_order in
     let shown = shown_by top streams marks (told_parts marks streams) ms serve
-    (told_pids marks streams)
-    (tells_only streams marks ms sound told) in
+    (told_pids marks streams) (tells_only streams marks ms sound told) in
     (shown.0, shown.1, shown.2, no_reset top streams marks ms shown.0 shown.1)

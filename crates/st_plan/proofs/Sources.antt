@@ -2,8 +2,7 @@
 -- has a lower key: it is a send, and at most as high. And each send that came with its sender and
 -- count gives its event.
 use Rattle.std.proofs.Common.{◌≡◌, ℕ, suc, ◌+◌, ◌==◌, ◌&&◌, max, Bool, true, false, not, List}
-use Rattle.std.proofs.Common.{Option, Some, None}
-use Rattle.std.proofs.Common.{refl, sym, ◌∙◌, ap, subst, arith, if◌then◌else◌}
+use Rattle.std.proofs.Common.{Option, Some, None, refl, sym, ◌∙◌, ap, subst, arith, if◌then◌else◌}
 use Rattle.std.specs.List.{slice_get, AllByRecursion}
 use Rattle.std.specs.Option.{option_map_or}
 use Rattle.std.proofs.lemmas.Bool.{eqb-true, false≢true, not-false, and_parts}
@@ -28,8 +27,7 @@ use Rattle.st_plan.specs.Marks.{Marks}
 use Rattle.st_plan.specs.Moves.{Move, move_by}
 use Rattle.st_plan.proofs.Receives.{IsWaiting}
 use Rattle.st_plan.proofs.EarlierMoves.{IsAt, IsKeyBelow}
-use Rattle.st_plan.proofs.RisingStamps.{height_is, height_more, height_of, rank_of}
-use Rattle.st_plan.proofs.RisingStamps.{IsTop}
+use Rattle.st_plan.proofs.RisingStamps.{height_is, height_more, height_of, rank_of, IsTop}
 use Rattle.st_plan.proofs.Clocks.{HasCome, IsBelow}
 use Rattle.st_plan.proofs.WaitingMessages.{is_waiting, Fits, IsSendTo}
 use Rattle.st_plan.proofs.MatchedSends.{matched_send, same_place, untaken}
@@ -94,8 +92,7 @@ not_after streams p i e x d at receive high low below =
     omega arith
 
 hidden_is : (streams : List Stream) (e : Event) → is_stamp e ≡ false
-    → stamp_of streams e.from e.serial.this ≡ None
-    → is_hidden streams e ≡ true
+    → stamp_of streams e.from e.serial.this ≡ None → is_hidden streams e ≡ true
 hidden_is streams e receive none =
     rw (receive, none) refl
 
@@ -107,8 +104,7 @@ abbrev pub AreTops : List Stream → Type 0
 AreTops streams = (x : Item) (d : Event) → IsAt streams x d → IsTop streams x d
 
 pub source_item : (streams : List Stream) → IsPaired streams → AreTops streams
-    → (p : Pid) (i : ℕ) (e : Event)
-    → IsReceive streams p i e → HasSource streams p i e
+    → (p : Pid) (i : ℕ) (e : Event) → IsReceive streams p i e → HasSource streams p i e
 source_item streams ok tops p i e r =
     let receive = receive_unstamped e r.kind in
     let sought = stamp_of streams e.from e.serial.this in
@@ -167,14 +163,7 @@ fits_by streams marks ok p i e r (item.Hidden a b) d at sent =
     let kinds = sym r.kind in
     let tos = sym r.to in (
       ap (λ q. marks q b) same.0 ∙ ap (marks p) same.1,
-      λ k. record {
-        label = (event k).label;
-        kind = kinds k;
-        serial = (event k).serial;
-        from = (event k).from;
-        to = tos k;
-        value = (event k).value;
-      },
+      λ k. record (event k) { kind = kinds k; to = tos k },
     )
 fits_by streams marks ok p i e r (item.Reported q j) d at sent =
     let who = sent.who in
@@ -185,8 +174,7 @@ fits_by streams marks ok p i e r (item.Reported q j) d at sent =
     let kind_is = is_sending p d.to d.kind sent.sends in
     let first : receive_of streams q d.serial.this ≡ Some (p, i) =
     rw (who, count) (once_place streams ok p i e r.at receive) in
-    let receiver : receiver_at streams q j ≡ Some (p, i) =
-    rw (at, agreed.sends) first in
+    let receiver : receiver_at streams q j ≡ Some (p, i) = rw (at, agreed.sends) first in
     let kinds = sym r.kind in
     let tos = sym r.to in
     let prevs = agreed.prev in
@@ -222,7 +210,6 @@ pub receive_waits : (streams : List Stream) (marks : Marks) → IsPaired streams
 receive_waits streams marks ok earlier p i e r came below source n at =
     let free = untaken streams ok p i e earlier r.at (receive_unstamped e r.kind) came below p in
     is_waiting streams marks earlier (move_by (item.Reported p i) e) n
-    (move_by source.thing source.event) free at
-    source.sent
+    (move_by source.thing source.event) free at source.sent
     (λ k y among sent. fits streams marks ok p i e r y
     (all_at (HasCome streams) earlier k y came among) sent)

@@ -37,8 +37,7 @@ use Rattle.st_plan.proofs.OwnActs.{run_append, state_append, Lifted, lifted, cha
 
 -- what a stamp's acts need
 pub record CanStamp (top : ℕ) (streams : List Stream) (marks : Marks) (earlier : List Move)
-    (s : State) (m : Move)
-    : Type 0 where
+    (s : State) (m : Move) : Type 0 where
   pub kept : IsKept streams marks earlier s
   pub listed : lists streams m.who ≡ true
   pub is : move_by m.item m.event ≡ m
@@ -50,8 +49,7 @@ pub record CanStamp (top : ℕ) (streams : List Stream) (marks : Marks) (earlier
 
 -- the record that is ready for the stamp of a move, and what it took
 pub record StandsReady (top : ℕ) (streams : List Stream) (marks : Marks) (earlier : List Move)
-    (s : State) (m : Move)
-    : Type 0 where
+    (s : State) (m : Move) : Type 0 where
   pub before : Process
   pub is_before : process s m.who ≡ Some before
   pub end : LocalState
@@ -85,9 +83,9 @@ stands_ready top streams marks earlier s m can =
     let f = flags_of streams marks m in
     let ready_at = is_ready top m.who r.local m.event.label m.event.serial f can.rises can.within
     (omega arith) why in
-    let lift = lifted top m.who (ready m.who (start_of r.local) m.event.label m.event.serial f) s r
-    r.local ready_at.end
-    at.1 refl ready_at.runs in
+    let acts = ready m.who (start_of r.local) m.event.label m.event.serial f in
+    let lift = lifted top m.who acts s r r.local ready_at.end at.1 refl ready_at.runs in
+    let has = ready_at.has in
     let at_clock = ready_at.clocked in
     let now : ready_at.end.clock + 1 ≡ m.event.serial.this = omega arith in
     let prev = ready_at.lasted in
@@ -95,12 +93,12 @@ stands_ready top streams marks earlier s m can =
       before = r;
       is_before = at.1;
       end = ready_at.end;
-      token = ready_at.token;
+      token = has.token;
       lift = lift;
-      is = ready_at.is;
+      is = has.is;
       stamped = λ i. record {
-        label = ready_at.label i;
-        flags = ready_at.flags i;
+        label = has.label i;
+        flags = has.flags i;
         serial = record { prev = prev i; this = now i };
         from = m.who;
       };
@@ -108,10 +106,7 @@ stands_ready top streams marks earlier s m can =
       lasted = prev;
       traced = ready_at.traced ∙ so.traced;
       queued = so.queued;
-      there = λ x h. still_there top s m.who (record r {
-        local =
-            ready_at.end;
-      }) r (ready m.who (start_of r.local) m.event.label m.event.serial f) lift at.1 x
+      there = λ x h. still_there top s m.who (record r { local = ready_at.end }) r acts lift at.1 x
           ∙ kept.there x h;
     }
 
@@ -129,10 +124,8 @@ stamps_as k to v r l =
 -- the record with the move's message, if it is for its process
 abbrev with_message : List Stream → Marks → Move → Process → Process
 with_message streams marks m z =
-    record z {
-      queue = if sends_to z.pid m then z.queue ++ message_of streams marks m
-          ∷ [] else z.queue;
-    }
+    let sent = z.queue ++ message_of streams marks m ∷ [] in
+    record z { queue = if sends_to z.pid m then sent else z.queue }
 
 -- the act is the stamp of the move
 record IsStampOf (streams : List Stream) (marks : Marks) (m : Move) (a : Act) : Type 0 where
@@ -250,33 +243,22 @@ module _ (top : ℕ) (streams : List Stream) (marks : Marks) (earlier : List Mov
 -- A SEND AND A PRINT
 
 sent : (p to : Pid) (v : ℕ) (t : Token) (z : Process) (b : Bool) → b ≡ pid_eq z.pid to
-    → reached (act.Send p to v) (Some t) z
-    ≡ record z {
-      queue = if b then z.queue ++ record { from = p; value = v; token = Some t }
-          ∷ [] else z.queue;
-    }
+    → reached (act.Send p to v) (Some t) z ≡ (let m : Message =
+    record { from = p; value = v; token = Some t } in
+    record z { queue = if b then z.queue ++ m ∷ [] else z.queue })
 sent p to v t z true is = rw (← is) refl
 sent p to v t z false is = rw (← is) refl
 
 -- what a send of the move reports
 abbrev pub sent_event : Move → Pid → Event
-sent_event m to = record {
-  label = m.event.label;
-  kind = kind.Send;
-  serial = m.event.serial;
-  from = m.who;
-  to = Some to;
-  value = m.event.value;
-}
+sent_event m to = record m.event { kind = kind.Send; from = m.who; to = Some to }
 
 pub sending : (top : ℕ) (streams : List Stream) (marks : Marks) (earlier : List Move) (s : State)
-    (m : Move) (to : Pid)
-    → CanStamp top streams marks earlier s m → lists streams to ≡ true
+    (m : Move) (to : Pid) → CanStamp top streams marks earlier s m → lists streams to ≡ true
     → ((r : Process) → act_of r m ≡ Some (act.Send m.who to m.event.value))
     → ((q : Pid) → sends_to q m ≡ pid_eq q to)
     → (if (flags_of streams marks m).send then Some (sent_event m to) else None)
-    ≡ told_event marks m
-    → Continues top streams marks earlier s m
+    ≡ told_event marks m → Continues top streams marks earlier s m
 sending top streams marks earlier s m to can listed is is_to reports =
     stamping top streams marks earlier s m (act.Send m.who to m.event.value) can (record {
       kind = kind.Send;
@@ -292,14 +274,7 @@ sending top streams marks earlier s m to can listed is is_to reports =
 
 -- what a print of the move reports
 abbrev pub printed_event : Move → Event
-printed_event m = record {
-  label = m.event.label;
-  kind = kind.Print;
-  serial = m.event.serial;
-  from = m.who;
-  to = None;
-  value = m.event.value;
-}
+printed_event m = record m.event { kind = kind.Print; from = m.who; to = None }
 
 pub printing : (top : ℕ) (streams : List Stream) (marks : Marks) (earlier : List Move) (s : State)
     (m : Move)
@@ -307,8 +282,7 @@ pub printing : (top : ℕ) (streams : List Stream) (marks : Marks) (earlier : Li
     → act_of r m ≡ Some (act.Print m.who m.event.value))
     → ((q : Pid) → sends_to q m ≡ false)
     → (if (flags_of streams marks m).print then Some (printed_event m) else None)
-    ≡ told_event marks m
-    → Continues top streams marks earlier s m
+    ≡ told_event marks m → Continues top streams marks earlier s m
 printing top streams marks earlier s m can is is_to reports =
     stamping top streams marks earlier s m (act.Print m.who m.event.value) can (record {
       kind = kind.Print;

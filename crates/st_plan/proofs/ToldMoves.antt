@@ -6,7 +6,7 @@ use Rattle.std.proofs.Common.{ap, subst, arith, if◌then◌else◌}
 use Rattle.std.specs.List.{slice_get}
 use Rattle.std.proofs.lemmas.Bool.{cases_lt}
 use Rattle.std.proofs.lemmas.List.{append-nil, take_all}
-use Rattle.std.proofs.lemmas.Option.{same_Some, none-some}
+use Rattle.std.proofs.lemmas.Option.{same_Some, none-some, slice_get-get_or}
 use Rattle.st_core.specs.declared.types.Pid.{Pid}
 use Rattle.st_core.specs.declared.types.Event.{Event}
 use Rattle.st_core.specs.Pid.{pid_eq}
@@ -14,6 +14,7 @@ use Rattle.st_core.specs.Run.{Stream}
 use Rattle.st_core.specs.Streams.{events_of}
 use Rattle.st_core.proofs.ForCallers.{pid_same, pid_eq-refl}
 use Rattle.st_pair.specs.Places.{event_at}
+use Rattle.st_pair.proofs.ForCallers.{blank}
 use Rattle.st_order.specs.declared.item.Item.{Item}
 use Rattle.st_order.specs.declared.item.Item.TheVariants as item
 use Rattle.st_plan.specs.Marks.{told_events_from, Marks}
@@ -25,8 +26,7 @@ use Rattle.st_plan.proofs.Clocks.{one_by, IsNext}
 
 -- the told ones of one event more
 told_more : (told : ℕ → Bool) (i : ℕ) (es : List Event) (n : ℕ) (e : Event)
-    → slice_get es n ≡ Some e
-    → told_events_from told i (take (suc n) es)
+    → slice_get es n ≡ Some e → told_events_from told i (take (suc n) es)
     ≡ told_events_from told i (take n es) ++ (if told (i + n) then e ∷ [] else [])
 told_more told i [] n e at = absurd (none-some e at)
 told_more told i (d ∷ es) zero e at =
@@ -51,8 +51,7 @@ abbrev told_first : List Stream → Marks → Pid → ℕ → List Event
 told_first streams marks p n = told_events_from (marks p) 0 (take n (events_of streams p))
 
 tell_by : (streams : List Stream) (marks : Marks) (earlier : List Move) (p : Pid) (x : Item)
-    (e : Event)
-    → IsAt streams x e → IsInTurn earlier x → told_first streams marks p
+    (e : Event) → IsAt streams x e → IsInTurn earlier x → told_first streams marks p
     (event_count p earlier + one_by p x)
     ≡ told_first streams marks p (event_count p earlier) ++ told_of_move marks p (move_by x e)
 tell_by streams marks earlier p (item.Hidden q i) e at turn =
@@ -127,29 +126,22 @@ index_low streams p i earlier (y ∷ ms) all (suc n) m at is =
     let total : event_count p (y ∷ ms) ≡ event_count p ms + one_by p y.item = refl in
     omega arith
 
-at_index : (es : List Event) (k : ℕ) → k < length es → (e : Event) × (slice_get es k ≡ Some e)
-at_index [] k less = absurd (omega arith)
-at_index (e ∷ es) zero less = (e, refl)
-at_index (e ∷ es) (suc k) less = at_index es k (omega arith)
-
 -- each event of p is that of one of these moves
 abbrev pub AreMoved : List Stream → Pid → List Move → Type 0
 AreMoved streams p ms = (i : ℕ) (e : Event) → event_at streams p i ≡ Some e
     → (n : ℕ) × (m : Move) × (slice_get ms n ≡ Some m) × (m.item ≡ item.Reported p i)
 
 no_more : (streams : List Stream) (p : Pid) (ms : List Move) → AllAlong (IsNext streams) [] ms
-    → AreMoved streams p ms
-    → event_count p ms < length (events_of streams p) → ⊥
+    → AreMoved streams p ms → event_count p ms < length (events_of streams p) → ⊥
 no_more streams p ms all whole less =
-    let next = at_index (events_of streams p) (event_count p ms) less in
-    let place = whole (event_count p ms) next.0 next.1 in
+    let at = slice_get-get_or (events_of streams p) (event_count p ms) blank less in
+    let place = whole (event_count p ms) _ at in
     let low = index_low streams p (event_count p ms) [] ms all place.0 place.1 place.2 place.3 in
     omega arith
 
 -- if each event of p is among the moves, they tell all the told ones
 pub tells_all : (streams : List Stream) (marks : Marks) (p : Pid) (ms : List Move)
-    → AllAlong (IsNext streams) [] ms
-    → AreMoved streams p ms → told_of_moves marks p ms
+    → AllAlong (IsNext streams) [] ms → AreMoved streams p ms → told_of_moves marks p ms
     ≡ told_events_from (marks p) 0 (events_of streams p)
 tells_all streams marks p ms all whole =
     let es = events_of streams p in

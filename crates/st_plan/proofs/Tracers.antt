@@ -6,6 +6,7 @@ use Rattle.std.proofs.Common.{is_some, option_map, option_and_then, refl, sym, �
 use Rattle.std.specs.List.{slice_get}
 use Rattle.std.specs.Option.{option_map_or}
 use Rattle.std.proofs.lemmas.Bool.{false≢true, eq-eqb}
+use Rattle.std.proofs.lemmas.List.Elements.{All-map}
 use Rattle.std.proofs.lemmas.Option.{same_Some, none-some}
 use Rattle.st_core.specs.declared.types.Pid.{Pid}
 use Rattle.st_core.specs.declared.types.Reply.TheVariants as reply
@@ -17,7 +18,7 @@ use Rattle.st_core.specs.Step.{Acted, Outcome, answers, changed, outcome_of, ste
 use Rattle.st_core.specs.Run.{Stream, pids_of, run_from}
 use Rattle.st_core.specs.Streams.{lists, stream_of}
 use Rattle.st_core.proofs.ForCallers.{pid_same, pid_eq-refl, process_pid, mapped, eqb-swap}
-use Rattle.st_core.proofs.ForCallers.{step_done}
+use Rattle.st_core.proofs.ForCallers.{process_holds, step_done}
 use Rattle.st_plan.specs.Marks.{Marks}
 use Rattle.st_plan.specs.Build.{state_after, tracers_after}
 use Rattle.st_plan.proofs.OwnActs.{process_then, Silent}
@@ -205,17 +206,8 @@ zero_there (p ∷ pids) (suc k) x h =
     ]
 
 zero_zero : (pids : List Pid) → AreZero (zero_state pids)
-zero_zero [] x r h = absurd (none-some r h)
-zero_zero (p ∷ pids) x r h =
-    elim (pid_eq p x) as (λ b. cond b (Some (zeroes p)) (process (zero_state pids) x) ≡ Some r
-    → IsZero r) [
-      | true ↦ λ h. subst IsZero (same_Some _ r h) (record {
-        clocked = refl;
-        lasted = refl;
-        queued = refl;
-      })
-      | false ↦ λ h. zero_zero pids x r h
-    ] h
+zero_zero pids x r h = process_holds IsZero (zero_state pids) x r h (All-map IsZero zeroes pids
+    (λ k d within. record { clocked = refl; lasted = refl; queued = refl }))
 
 listed_there : (streams : List Stream) (x : Pid) → lists streams x ≡ true
     → is_some (process (zero_state (pids_of streams)) x) ≡ true

@@ -89,8 +89,7 @@ IsOpen streams = (p : Pid) (i : ℕ) (e : Event) → event_at streams p i ≡ So
     → is_hidden streams e ≡ false
 
 event_moves : (streams : List Stream) → IsOpen streams → (xs : List Item)
-    → AllByRecursion (IsThere streams) xs
-    → AllByRecursion IsEventMove (moves streams xs)
+    → AllByRecursion (IsThere streams) xs → AllByRecursion IsEventMove (moves streams xs)
 event_moves streams shown [] there = tt
 event_moves streams shown (item.Reported p i ∷ xs) there =
     subst (AllByRecursion IsEventMove) (sym (one_move streams

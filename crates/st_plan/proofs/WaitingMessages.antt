@@ -1,13 +1,16 @@
 -- If the send of a receive came before it and nothing took its message, the message waits in the
 -- queue; and what the receive takes, which is the first of its from and count, is of a send that
 -- came.
-use Rattle.std.proofs.Common.{◌≡◌, ℕ, zero, suc, ◌+◌, ◌≤◌, ◌==◌, ◌&&◌, ◌⊎◌, Bool, true, false, not}
-use Rattle.std.proofs.Common.{cond, List, [], ◌∷◌, ◌++◌, length, get_or, Option, Some, None, inl}
-use Rattle.std.proofs.Common.{inr, refl, sym, ◌∙◌, ap, subst, arith, if◌then◌else◌}
+use Rattle.std.proofs.Common.{◌≡◌, ℕ, zero, suc, ◌≤◌, ◌==◌, ◌&&◌, ◌⊎◌, Bool, true, false, cond}
+use Rattle.std.proofs.Common.{List, [], ◌∷◌, ◌++◌, length, get_or, Option, Some, None, inl, inr}
+use Rattle.std.proofs.Common.{refl, sym, ◌∙◌, ap, subst, arith, if◌then◌else◌}
 use Rattle.std.specs.List.{slice_get, AllByRecursion, remove, position, position_or_len}
-use Rattle.std.proofs.lemmas.Bool.{eqb-true, eq-eqb, false≢true, and_parts, and_from, lt-ltb}
+use Rattle.std.proofs.lemmas.Bool.{eqb-true, eq-eqb, false≢true, and_parts, and_from, cases_lt}
+use Rattle.std.proofs.lemmas.Bool.{lt-ltb}
 use Rattle.std.proofs.lemmas.List.Quantifiers.{position-Some}
+use Rattle.std.proofs.lemmas.List.Sums.{fails_before_first}
 use Rattle.std.proofs.lemmas.Option.{same_Some, none-some, slice_get_within, slice_get-get_or}
+use Rattle.std.proofs.lemmas.Option.{get_or_from_slice_get}
 use Rattle.st_core.specs.declared.types.Pid.{Pid}
 use Rattle.st_core.specs.declared.types.Token.{Token}
 use Rattle.st_core.specs.declared.types.Message.{Message}
@@ -85,8 +88,7 @@ pub record IsFirst (test : Message → Bool) (xs : List Message) : Type 0 where
   pub passes : test message ≡ true
 
 found_at : (test : Message → Bool) (xs : List Message) (k : ℕ) (d : Message)
-    → position test xs ≡ Some k
-    → IsFirst test xs
+    → position test xs ≡ Some k → IsFirst test xs
 found_at test xs k d h =
     let at = position-Some test xs k d h in
     record {
@@ -97,28 +99,15 @@ found_at test xs k d h =
       passes = at.1;
     }
 
-low_place : (test : Message → Bool) (xs : List Message) (k : ℕ) (x : Message)
-    → slice_get xs k ≡ Some x → test x ≡ true
-    → position_or_len test xs ≤ k
-low_place test [] k x at pass = absurd (none-some x at)
-low_place test (y ∷ xs) zero x at pass =
-    let none : position_or_len test (y ∷ xs) ≡ 0 =
-    ap (λ b. cond (not b) (1 + position_or_len test xs) 0)
-    (ap test (same_Some y x at) ∙ pass) in
-    omega arith
-low_place test (y ∷ xs) (suc k) x at pass =
-    let rest = low_place test xs k x at pass in
-    elim (test y) as (λ b. cond (not b) (1 + position_or_len test xs) 0 ≤ suc k) [
-      | true ↦ omega arith
-      | false ↦ omega arith
-    ]
-
 missing : (test : Message → Bool) (xs : List Message) (k : ℕ) (x : Message)
-    → position test xs ≡ None
-    → slice_get xs k ≡ Some x → test x ≡ true → ⊥
+    → position test xs ≡ None → slice_get xs k ≡ Some x → test x ≡ true → ⊥
 missing test xs k x none at pass =
-    let low = low_place test xs k x at pass in
     let within = slice_get_within xs k x at in
+    let low : position_or_len test xs ≤ k = elim (cases_lt k (position_or_len test xs)) [
+      | inl before ↦ absurd (false≢true (sym (fails_before_first test xs k x before)
+          ∙ ap test (get_or_from_slice_get xs k x x at) ∙ pass))
+      | inr least ↦ least
+    ] in
     none-some (position_or_len test xs) (sym none ∙ ap
     (λ b. cond b (Some (position_or_len test xs)) None)
     (lt-ltb (position_or_len test xs) (length xs) (omega arith)))
@@ -243,8 +232,7 @@ pub record IsOf (streams : List Stream) (marks : Marks) (p : Pid) (earlier : Lis
   pub is : message_of streams marks move ≡ x
 
 of_later : (streams : List Stream) (marks : Marks) (p : Pid) (y : Move) (earlier : List Move)
-    (x : Message)
-    → IsOf streams marks p earlier x → IsOf streams marks p (y ∷ earlier) x
+    (x : Message) → IsOf streams marks p earlier x → IsOf streams marks p (y ∷ earlier) x
 of_later streams marks p y earlier x o = record {
   number = suc o.number;
   move = o.move;
@@ -263,8 +251,7 @@ removed_at (y ∷ xs) (suc j) zero x at = (0, at)
 removed_at (y ∷ xs) (suc j) (suc k) x at = let rest = removed_at xs j k x at in (suc rest.0, rest.1)
 
 pushed_at : (xs : List Message) (y : Message) (k : ℕ) (x : Message)
-    → slice_get (xs ++ y ∷ []) k ≡ Some x
-    → (slice_get xs k ≡ Some x) ⊎ (y ≡ x)
+    → slice_get (xs ++ y ∷ []) k ≡ Some x → (slice_get xs k ≡ Some x) ⊎ (y ≡ x)
 pushed_at [] y zero x at = inr (same_Some y x at)
 pushed_at [] y (suc k) x at = absurd (none-some x at)
 pushed_at (z ∷ xs) y zero x at = inl at

@@ -39,14 +39,12 @@ fn unstamped_token(pid: Pid, label: Label, flags: Flags) -> Token
     }
 }
 
-/// Whether these are the same flags.
 fn are_same(flags: Flags, others: Flags) -> bool
     ensures { result ≡ flags_eq flags others }
 {
     flags.send == others.send && (flags.receive == others.receive && flags.print == others.print)
 }
 
-/// Whether the token has this label and these flags.
 fn is_dressed(token: Option<Token>, label: Label, flags: Flags) -> bool
     ensures { result ≡ is_dressed label flags token }
 {
