@@ -52,8 +52,7 @@ hidden_by_label : IsByLabel hidden_sends hidden_order ((record { 0 = 17 }, hidde
 hidden_by_label = record {
   rises = (tt, tt);
   labels = λ label. six_times (17 == label.0);
-  lists =
-      (refl, tt);
+  lists = (refl, tt);
 }
 
 -- a receive of a low count is at the height of its process

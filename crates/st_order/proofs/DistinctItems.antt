@@ -81,8 +81,7 @@ below_other p q below same =
     absurd (cc)
 
 apart_from : (streams : List Stream) (x y : Item) → IsKeyed streams x → IsKeyed streams y
-    → (x ≡ y → ⊥)
-    → same_key streams x y ≡ false
+    → (x ≡ y → ⊥) → same_key streams x y ≡ false
 apart_from streams x y a b differ =
     elim (same_key streams x y) as (λ t. same_key streams x y ≡ t → t ≡ false) [
       | true ↦ λ is. absurd (differ (one_item streams x y a b is))
@@ -114,8 +113,7 @@ module _ (streams : List Stream) where
       ] all
 
   from_apart : (p : Pid) (i : ℕ) (es : List Event)
-      → AllByRecursion Keyed (items_from streams p i es)
-      → Distinct (items_from streams p i es)
+      → AllByRecursion Keyed (items_from streams p i es) → Distinct (items_from streams p i es)
   unfolding IsDistinct
   from_apart p i [] all = tt
   from_apart p i (e ∷ es) all =
@@ -133,8 +131,7 @@ module _ (streams : List Stream) where
       (all_both Keyed (IsFrom p (i + 1)) ys rest (from_from streams p (i + 1) es)))
 
   among_apart : (some : List Stream) → IsRising (pids_of some)
-      → AllByRecursion Keyed (items_among streams some)
-      → Distinct (items_among streams some)
+      → AllByRecursion Keyed (items_among streams some) → Distinct (items_among streams some)
   unfolding IsDistinct
   among_apart [] rising all = tt
   among_apart (s ∷ some) rising all =

@@ -74,8 +74,7 @@ apart_above : (m n : ℕ) → (n == m) ≡ false → m ≤ n → m < n
 apart_above m n apart low = grind (arith, nat_tests)
 
 put_rises : (x : LabelledItem) (gs : List Group) → AllByRecursion (λ g. number_of x ≤ g.0.0) gs
-    → LabelsRise gs
-    → LabelsRise (put_before x gs)
+    → LabelsRise gs → LabelsRise (put_before x gs)
 put_rises x [] low up = (tt, tt)
 put_rises x (g ∷ gs) low up = elim (g.0.0 == x.label.0) as (λ b. (g.0.0 == x.label.0) ≡ b
     → LabelsRise (cond b ((g.0, x.item ∷ g.1) ∷ gs) ((x.label, x.item ∷ []) ∷ g ∷ gs))) [
@@ -133,8 +132,7 @@ none_passes p (x ∷ xs) none = elim (p x) as
     ] none
 
 above_all : (n : ℕ) (gs : List Group) (label : Label) → label.0 ≡ n
-    → AllByRecursion (λ h. n < h.0.0) gs
-    → list_any (is_of label) gs ≡ false
+    → AllByRecursion (λ h. n < h.0.0) gs → list_any (is_of label) gs ≡ false
 above_all n [] label same above = refl
 above_all n (g ∷ gs) label same above =
     let head : is_of label g ≡ false =
@@ -203,11 +201,8 @@ ties_are x y = grind (arith, nat_tests)
 kept_filter : (xs ys : List LabelledItem) (label : Label) → IsStableByKey number_of nat_cmp xs ys
     → filter (is_with label) ys ≡ filter (is_with label) xs
 kept_filter xs ys label stable =
-    let x : LabelledItem = record {
-      label = label;
-      item =
-          item.Reported (record { node = 0; number = 0 }) 0;
-    } in
+    let any = item.Reported (record { node = 0; number = 0 }) 0 in
+    let x : LabelledItem = record { label = label; item = any } in
     let test : ties (λ a b. is_lt (nat_cmp (number_of a) (number_of b))) x ≡ is_with label =
     λ i y. ties_are x y i in
     ap (λ (p : LabelledItem → Bool). filter p ys) (sym test) ∙ stable x
@@ -252,8 +247,7 @@ module _ (streams : List Stream) (label : Label) where
   any_by x None rest = refl
   any_by x (Some l) rest = refl
 
-  mapped_by : (x : Item) (xs : List Item)
-      → filter_map (with_label streams) (x ∷ xs)
+  mapped_by : (x : Item) (xs : List Item) → filter_map (with_label streams) (x ∷ xs)
       ≡ with_label_by x (label_of streams x) (filter_map (with_label streams) xs)
   mapped_by x xs = elim (label_of streams x) as
       (λ o. cons_option (option_map (λ l. record { label = l; item = x }) o)
@@ -274,8 +268,7 @@ module _ (streams : List Stream) (label : Label) where
         labelled_filter xs,
       ) refl
 
-  labelled_any : (xs : List Item)
-      → list_any (is_with label) (filter_map (with_label streams) xs)
+  labelled_any : (xs : List Item) → list_any (is_with label) (filter_map (with_label streams) xs)
       ≡ list_any (item_has_label streams label) xs
   labelled_any [] = refl
   labelled_any (x ∷ xs) =

@@ -67,8 +67,7 @@ key_same k l h =
 abbrev pub item_at : List Stream → Key → Option Item
 item_at streams k =
     if k.place == 0 then option_map (λ at. item.Hidden at.0 at.1)
-    (receive_of streams k.pid k.height)
-    else Some (item.Reported k.pid (k.place - 1))
+    (receive_of streams k.pid k.height) else Some (item.Reported k.pid (k.place - 1))
 
 -- the item has a key, which finds it
 pub record IsKeyed (streams : List Stream) (x : Item) : Type 0 where
@@ -92,14 +91,12 @@ test_of test a b = elim a [
 ]
 
 pub comes_before_is : (streams : List Stream) (x y : Item) (k l : Key) → key streams x ≡ Some k
-    → key streams y ≡ Some l
-    → comes_before streams x y ≡ is_lt (key_cmp k l)
+    → key streams y ≡ Some l → comes_before streams x y ≡ is_lt (key_cmp k l)
 comes_before_is streams x y k l a b =
     ap (λ o. test_of is_lt o (key streams y)) a ∙ ap (λ o. test_of is_lt (Some k) o) b
 
 same_key_is : (streams : List Stream) (x y : Item) (k l : Key) → key streams x ≡ Some k
-    → key streams y ≡ Some l
-    → same_key streams x y ≡ is_eq (key_cmp k l)
+    → key streams y ≡ Some l → same_key streams x y ≡ is_eq (key_cmp k l)
 same_key_is streams x y k l a b =
     ap (λ o. test_of is_eq o (key streams y)) a ∙ ap (λ o. test_of is_eq (Some k) o) b
 
@@ -155,11 +152,7 @@ module _ (streams : List Stream) (once : first (repeated streams) streams ≡ No
     reported_keyed =
         let minus : i + 1 - 1 ≡ i = omega arith in
         let k = key_by streams (item.Reported p i) e in
-        record {
-          its = k;
-          given = rw at refl;
-          found = rw (above_zero i, minus) refl;
-        }
+        record { its = k; given = rw at refl; found = rw (above_zero i, minus) refl }
 
     at_keyed : AllByRecursion (IsKeyed streams) (items_at streams p i e)
     at_keyed = elim (is_hidden streams e) as (λ b. is_hidden streams e ≡ b
@@ -212,6 +205,5 @@ pub one_way : (streams : List Stream) (x y : Item) → comes_before streams x y 
 one_way streams x y h g = one_way_of (key streams x) (key streams y) h g
 
 pub chain : (streams : List Stream) (x y z : Item) → comes_before streams x y ≡ true
-    → comes_before streams y z ≡ true
-    → comes_before streams x z ≡ true
+    → comes_before streams y z ≡ true → comes_before streams x z ≡ true
 chain streams x y z h g = chain_of (key streams x) (key streams y) (key streams z) h g

@@ -27,8 +27,7 @@ found_later x streams [] above found = tt
 found_later x streams (s ∷ rest) above found = (
   ap (λ (b : Bool). elim (cond b (Some x) (stream_of streams s.pid)) [
     | None ↦ []
-    | Some y ↦
-        y.events
+    | Some y ↦ y.events
   ])
       (IsBelow-apart x.pid s.pid above.0) ∙ found.0,
   found_later x streams rest above.1 found.1,
@@ -39,8 +38,7 @@ all_found [] rising = tt
 all_found (x ∷ streams) rising = (
   ap (λ (b : Bool). elim (cond b (Some x) (stream_of streams x.pid)) [
     | None ↦ []
-    | Some y ↦
-        y.events
+    | Some y ↦ y.events
   ])
       (pid_eq-same x.pid),
   found_later x streams streams rising.0 (all_found streams rising.1),

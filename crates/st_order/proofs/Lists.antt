@@ -46,8 +46,7 @@ all_crossed P Q R (x ∷ xs) ys f a b =
     (all_mapped Q (R x) ys (λ y q. f x y a.0 q) b, all_crossed P Q R xs ys f a.1 b)
 
 pub distinct_append : {A : Type 0} (same : A → A → Bool) (xs ys : List A) → IsDistinct same xs
-    → IsDistinct same ys
-    → AllByRecursion (λ x. AllByRecursion (λ y. same x y ≡ false) ys) xs
+    → IsDistinct same ys → AllByRecursion (λ x. AllByRecursion (λ y. same x y ≡ false) ys) xs
     → IsDistinct same (xs ++ ys)
 unfolding IsDistinct
 distinct_append same [] ys a b c = b

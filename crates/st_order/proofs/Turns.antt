@@ -11,7 +11,7 @@ use Rattle.std.proofs.lemmas.Bool.{cases_order}
 use Rattle.std.proofs.lemmas.List.{append-nil}
 use Rattle.std.proofs.lemmas.List.Elements.{filter-append}
 use Rattle.std.proofs.lemmas.List.Sorted.{IsPermutation-sym}
-use Rattle.std.proofs.lemmas.Option.{none-some, same_Some}
+use Rattle.std.proofs.lemmas.Option.{none-some, same_Some, slice_get-get_or}
 use Rattle.st_core.specs.declared.types.Pid.{Pid}
 use Rattle.st_core.specs.declared.types.Event.{Event}
 use Rattle.st_core.specs.Pid.{pid_eq, pid_cmp, IsBelow, IsRising}
@@ -20,7 +20,7 @@ use Rattle.st_core.specs.Streams.{stream_of, events_of}
 use Rattle.st_core.proofs.ForCallers.{pid_eq-true, pid_eq-swap, pid_cmp-same, IsBelow-apart}
 use Rattle.st_core.proofs.ForCallers.{nat_cmp-same, nat_cmp-below}
 use Rattle.st_pair.specs.Places.{event_at, is_stamp}
-use Rattle.st_pair.proofs.ForCallers.{events_in}
+use Rattle.st_pair.proofs.ForCallers.{blank, events_in}
 use Rattle.st_order.specs.declared.item.Item.{Item}
 use Rattle.st_order.specs.declared.item.Item.TheVariants as item
 use Rattle.st_order.specs.Items.{greatest, height, is_hidden, items, items_among, items_at}
@@ -105,8 +105,7 @@ module _ (streams : List Stream) (p : Pid) (lead : StampsLead streams p) where
 
   -- a stamp is higher than each event before it
   stamp_higher : (i j : ℕ) (d e : Event) → i < j → event_at streams p i ≡ Some d
-      → event_at streams p j ≡ Some e
-      → is_stamp e ≡ true → height streams p i < height streams p j
+      → event_at streams p j ≡ Some e → is_stamp e ≡ true → height streams p i < height streams p j
   stamp_higher i j d e less at_d at_e stamp =
       let above = lead i j d e less at_d at_e stamp in
       let own = tallest_has events (j + 1) j e at_e (omega arith) in
@@ -136,22 +135,16 @@ module _ (streams : List Stream) (p : Pid) (lead : StampsLead streams p) where
       let x = item.Reported p i in
       let y = item.Reported p j in
       comes_before_is streams x y (key_by streams x d) (key_by streams y e)
-      (ap (option_map (key_by streams x)) at_d)
-      (ap (option_map (key_by streams y)) at_e)
+      (ap (option_map (key_by streams x)) at_d) (ap (option_map (key_by streams y)) at_e)
       ∙ under_less (key_by streams x d) (key_by streams y e) (event_under i j d e less at_d at_e)
-
-  there : (es : List Event) (i : ℕ) → i < length es → (e : Event) × (slice_get es i ≡ Some e)
-  there [] i less = absurd (omega arith)
-  there (e ∷ es) zero less = (e, refl)
-  there (e ∷ es) (suc i) less = there es i (omega arith)
 
   before_all : (i j n : ℕ) → i < j → j + n ≤ length events
       → AllByRecursion (λ y. comes_before streams (item.Reported p i) y ≡ true) (in_turn p j n)
   before_all i j zero less within = tt
   before_all i j (suc n) less within =
-      let d = there events i (omega arith) in
-      let e = there events j (omega arith) in
-      (event_before i j d.0 e.0 less d.1 e.1, before_all i (j + 1) n (omega arith) (omega arith))
+      let at_i = slice_get-get_or events i blank (omega arith) in
+      let at_j = slice_get-get_or events j blank (omega arith) in
+      (event_before i j _ _ less at_i at_j, before_all i (j + 1) n (omega arith) (omega arith))
 
   turn_rises : (i n : ℕ) → i + n ≤ length events → KeysRise streams (in_turn p i n)
   turn_rises i zero within = tt
@@ -259,8 +252,7 @@ among_kept test (x ∷ xs) z passes (inl same) =
 among_kept test (x ∷ xs) z passes (inr m) =
     let rest = among_kept test xs z passes m in
     elim (test x) as (λ b. Among z (cond b (x ∷ filter test xs) (filter test xs))) [
-      | true ↦
-          inr rest
+      | true ↦ inr rest
       | false ↦ rest
     ]
 
@@ -286,7 +278,6 @@ keeps_turn streams xs p rising order lead =
     let sorted = subst (KeysRise streams) (sym turn)
     (turn_rises streams p lead 0 n (omega arith)) in
     same_rising streams (filter test xs) (filter test all) (kept_rises streams test xs order.rises)
-    sorted
-    (each_kept test all xs (members all xs order.same))
+    sorted (each_kept test all xs (members all xs order.same))
     (each_kept test xs all (members xs all (IsPermutation-sym all xs order.same)))
     ∙ turn

@@ -11,12 +11,10 @@ use st_core::{Label, Sequence, Streams};
 use std::alloc::{AllocError, Global};
 use std::thread::Threads;
 
-/// An item with its label.
 #[derive(Clone, Copy, Debug, PartialEq, Eq)]
 pub struct LabelledItem {
     /// The label of the event that the item is about.
     pub label: Label,
-    /// The item.
     pub item: Item,
 }
 
@@ -60,7 +58,6 @@ fn leading_with(labelled: &[LabelledItem], label: Label) -> usize
     labelled.len()
 }
 
-/// The items alone.
 fn items_of(alloc: Global, labelled: &[LabelledItem]) -> Result<Sequence<Item>, AllocError>
     ensures { IfOk result (λ items. items ≡ map (λ x. x.item) labelled.now) }
 {

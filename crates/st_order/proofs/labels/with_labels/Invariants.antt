@@ -6,5 +6,4 @@ use Rattle.st_order.proofs.labels.with_labels.Given as goal
 
 abbrev pub invariant-loop-item : goal.invariant-loop-item
 invariant-loop-item l = l.labelled.items ++ filter_map (with_label l.streams)
-    (drop l.item-index l.items)
-    ≡ filter_map (with_label l.streams) l.items
+    (drop l.item-index l.items) ≡ filter_map (with_label l.streams) l.items

@@ -6,5 +6,4 @@ pub loop-pid-preserved : goal.loop-pid-preserved
 loop-pid-preserved c =
     rows_passed c.args.streams.now _ _ _ _ _ _ c.pids-pid-items.ensures.streams.draft.rising
     c.pids-pid-items.ensures.value c.loop-pid-test.true c.events.ensures.value
-    c.in_ok-put_rows.ensures
-    c.loop-pid.invariant
+    c.in_ok-put_rows.ensures c.loop-pid.invariant
