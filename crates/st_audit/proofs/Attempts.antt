@@ -157,8 +157,7 @@ none_performed c = record {
   outcomes = [];
   runs = refl;
   after = refl;
-  put =
-      sym (append-nil c.acts);
+  put = sym (append-nil c.acts);
 }
 
 module _ {top : ℕ} {T : Type 0} (says : T → List Outcome → Type 0) where
@@ -351,7 +350,6 @@ from_same says t mid old (Err halt.Stopped) new world acts meets =
     record {
       acts = meets.acts;
       stopped = meets.stopped;
-      put =
-          meets.put ∙ ap (λ zs. zs ++ meets.acts) acts;
+      put = meets.put ∙ ap (λ zs. zs ++ meets.acts) acts;
     }
 from_same says t mid old r new world acts meets = meets

@@ -1,10 +1,10 @@
 -- Acts move clocks and last counts so: an act other than a reset moves those of its actor alone,
 -- and none that comes before a stamp lets the clock fall.
-use Rattle.std.proofs.Common.{◌≡◌, ℕ, ◌+◌, ◌-◌, ◌≤◌, ◌&&◌, nat_lt, Bool, true}
+use Rattle.std.proofs.Common.{◌≡◌, ℕ, ◌+◌, ◌≤◌, ◌&&◌, nat_lt, Bool, true}
 use Rattle.std.proofs.Common.{false, cond, List, [], ◌∷◌, ◌++◌, Option, Some, None, refl, sym, ◌∙◌}
 use Rattle.std.proofs.Common.{ap, subst, arith, if◌then◌else◌}
 use Rattle.std.specs.List.{AllByRecursion}
-use Rattle.std.proofs.lemmas.Option.{same_Some, none-some}
+use Rattle.std.proofs.lemmas.Option.{cond_some, same_Some, none-some}
 use Rattle.st_core.specs.declared.types.Pid.{Pid}
 use Rattle.st_core.specs.declared.types.Token.{Token}
 use Rattle.st_core.specs.declared.types.Event.{Event}
@@ -124,25 +124,14 @@ module _ (top : ℕ) (s : State) (a : Act) (o : Outcome) (step : step top s a �
 
 -- A STAMP
 
-stamped_by : (top : ℕ) (p : Pid) (l m : LocalState) (t : Token)
-    → cond (nat_lt l.clock top)
-    (Some (record l { token = Some (stamped_token p l t); clock = l.clock + 1 })) None
-    ≡ Some m → (m ≡ record l { token = Some (stamped_token p l t); clock = l.clock + 1 })
-stamped_by top p l m t h =
-    let made : LocalState = record l { token = Some (stamped_token p l t); clock = l.clock + 1 } in
-    elim (nat_lt l.clock top) as (λ b. cond b (Some made) None ≡ Some m → m ≡ made) [
-      | true ↦ λ h. sym (same_Some made m h)
-      | false ↦ λ h. absurd (none-some m h)
-    ] h
-
 -- what a stamp of a process with a token makes of it
 pub stamp_some : (top : ℕ) (p : Pid) (l m : LocalState) (t : Token) → l.token ≡ Some t
     → stamp_any top p l ≡ Some m
     → m ≡ record l { token = Some (stamped_token p l t); clock = l.clock + 1 }
-stamp_some top p l m t is h = stamped_by top p l m t (sym (let e : stamp_any top p l
-    ≡ cond (nat_lt l.clock top)
-    (Some (record l { token = Some (stamped_token p l t); clock = l.clock + 1 })) None
-    = rw is refl in e) ∙ h)
+stamp_some top p l m t is h =
+    let made : LocalState = record l { token = Some (stamped_token p l t); clock = l.clock + 1 } in
+    let e : stamp_any top p l ≡ cond (nat_lt l.clock top) (Some made) None = rw is refl in
+    sym (cond_some (nat_lt l.clock top) made m (sym e ∙ h)).1
 
 -- and of one without
 stamp_none : (top : ℕ) (p : Pid) (l m : LocalState) → l.token ≡ None → stamp_any top p l ≡ Some m
@@ -158,12 +147,8 @@ pub record IsTold (l m : LocalState) (e : Event) : Type 0 where
 
 pub told_serial : (b : Bool) (k : Kind) (t : Token) (to : Option Pid) (v : ℕ) (e : Event)
     → report b k (Some t) to v ≡ Some e → e.serial ≡ t.serial
-told_serial b k t to v e h =
-    let made = token_event k t to v in
-    elim (b && flag_of k t.flags) as (λ c. cond c (Some made) None ≡ Some e → e.serial ≡ t.serial) [
-      | true ↦ λ h. ap (λ (x : Event). x.serial) (sym (same_Some made e h))
-      | false ↦ λ h. absurd (none-some e h)
-    ] h
+told_serial b k t to v e h = ap (λ (x : Event). x.serial)
+    (sym (cond_some (b && flag_of k t.flags) (token_event k t to v) e h).1)
 
 pub stamp_told : (top : ℕ) (p : Pid) (l m : LocalState) (b : Bool) (k : Kind) (to : Option Pid)
     (v : ℕ) (e : Event)
@@ -195,11 +180,8 @@ started_by p l None = record l { token = Some (default_token p); last = l.clock 
 started_by p l (Some t) = l
 
 started_clock : (p : Pid) (l : LocalState) → (started p l).clock ≡ l.clock
-started_clock p l = elim l.token as (λ t. (started_by p l t).clock ≡ l.clock) [
-  | None ↦
-      refl
-  | Some t ↦ refl
-]
+started_clock p l = elim l.token as
+    (λ t. (started_by p l t).clock ≡ l.clock) [ None ↦ refl | Some t ↦ refl ]
 
 alone_rises : (top : ℕ) (p : Pid) (a : Act) (r : Process) (done : Acted) → is_alone p a
     → acted top r a ≡ Some done

@@ -40,8 +40,7 @@ module _ (top wide : ℕ) (wider : top ≤ wide) where
   any_wider p l m h = elim (is_some l.token) as (λ b. cond b (stamp top p l) (Some l) ≡ Some m
       → cond b (stamp wide p l) (Some l) ≡ Some m) [
         | true ↦ λ h. stamp_wider p l m h
-        | false ↦
-            λ h. h
+        | false ↦ λ h. h
       ] h
 
   mapped_wider : (f : LocalState → Acted) (one two : Option LocalState) (done : Acted)

@@ -1,10 +1,10 @@
 -- An item's acts change counts so: those of its own process become what its move makes of them, and
 -- no others move. For a stamp that is told its report says so, for another the clock before it, for
 -- a receive its message.
-use Rattle.std.proofs.Common.{◌≡◌, ℕ, ◌+◌, ◌<◌, ◌≤◌, ◌⊎◌, inl, inr, max, true, false, not, ◌&&◌}
-use Rattle.std.proofs.Common.{◌==◌, List, Option, Some, None, nat_lt, refl, sym, ◌∙◌, ap, subst}
-use Rattle.std.proofs.Common.{arith, get_or, option_and_then, position}
-use Rattle.std.proofs.lemmas.Bool.{and_parts, eqb-true, false≢true, ltb-false}
+use Rattle.std.proofs.Common.{◌≡◌, ℕ, ◌+◌, ◌<◌, ◌≤◌, ◌⊎◌, max, true, false, ◌==◌, List, Option}
+use Rattle.std.proofs.Common.{Some, None, refl, sym, ◌∙◌, ap, subst, arith, get_or, option_and_then}
+use Rattle.std.proofs.Common.{position}
+use Rattle.std.proofs.lemmas.Bool.{and_parts, eqb-true, false≢true}
 use Rattle.std.proofs.lemmas.List.Quantifiers.{position-Some}
 use Rattle.std.proofs.lemmas.Option.{same_Some, slice_get-get_or}
 use Rattle.st_core.specs.declared.types.Pid.{Pid}
@@ -33,7 +33,7 @@ use Rattle.st_plan.specs.Build.{ready, start_of, state_after}
 use Rattle.st_audit.specs.Progress.{is_uncaused}
 use Rattle.st_audit.proofs.Counts.{IsNoReset, IsTold, WasActor, WasSame, actor_same, all_risen}
 use Rattle.st_audit.proofs.Counts.{others_same, stamp_some, stamp_told, was_same}
-use Rattle.st_plan.proofs.ForCallers.{is_alone, is_ready, lifted, pick_at, ready_all}
+use Rattle.st_plan.proofs.ForCallers.{caused_if, is_alone, is_ready, lifted, pick_at, ready_all}
 use Rattle.st_audit.proofs.GreaterClocks.{run_wider}
 
 -- between these states q's counts became those of this serial, and no others moved
@@ -168,13 +168,7 @@ reported_moves top old p e end x report =
 
 pub caused_by : (l : LocalState) (s : Serial) → is_uncaused (start_of l) s ≡ false
     → (s.prev ≡ l.last) ⊎ (l.clock ≤ s.prev)
-caused_by l s h =
-    elim (s.prev == l.last) as (λ b. (s.prev == l.last) ≡ b
-    → (not b && nat_lt s.prev l.clock) ≡ false
-    → (s.prev ≡ l.last) ⊎ (l.clock ≤ s.prev)) [
-      | true ↦ λ e h. inl (eqb-true s.prev l.last e)
-      | false ↦ λ e h. inr (ltb-false s.prev l.clock h)
-    ] refl h
+caused_by l s h = caused_if s.prev l.last l.clock h
 
 pub hidden_moves : (top : ℕ) (old : State) (p : Pid) (e : Event) (end : Outcome)
     (x : Stamps top old p e end)
@@ -202,8 +196,8 @@ hidden_moves top old p e end x rises below =
     (sym here ∙ ap (process between) (sym by.0) ∙ (was r h).is_before) in
     let stamped : (r : Process) (h : process end.after p ≡ Some r)
     → HasStamped at.end (was r h).done.local = λ r h.
-    acted_some top p x.stamp r1 (was r h).done at.token x.stamps
-    (ap (λ y. acted top y x.stamp) (is_r1 r h) ∙ (was r h).is_done) at.is in
+    acted_some top p x.stamp r1 (was r h).done at.has.token x.stamps
+    (ap (λ y. acted top y x.stamp) (is_r1 r h) ∙ (was r h).is_done) at.has.is in
     record {
       others = λ y r apart h.
           let late = others_same top between x.stamp end x.steps by.1 y r

@@ -1,45 +1,32 @@
 -- The counts of what each process told: a reported item adds one to its process's, at the place of
 -- its pid alone.
-use Rattle.std.proofs.Common.{◌≡◌, ◌≢◌, ℕ, ◌+◌, ◌^◌, ◌<◌, min, zero, suc, true, false, cond, List}
-use Rattle.std.proofs.Common.{[], ◌∷◌, inl, inr, length, replicate, None, Option, Some, slice_get}
-use Rattle.std.proofs.Common.{get_or, refl, sym, ◌∙◌, ap, subst, arith}
+use Rattle.std.proofs.Common.{◌≡◌, ◌≢◌, ℕ, ◌+◌, ◌^◌, ◌<◌, min, true, false, cond, List, [], ◌∷◌}
+use Rattle.std.proofs.Common.{length, replicate, Some, slice_get, get_or, refl, sym, ◌∙◌, ap, subst}
+use Rattle.std.proofs.Common.{arith}
 use Rattle.std.specs.List.{AllByRecursion, slice_set}
 use Rattle.std.proofs.Math.ListN.{length-map}
-use Rattle.std.proofs.lemmas.Bool.{cases_order, false≢true}
+use Rattle.std.proofs.lemmas.Bool.{false≢true}
 use Rattle.std.proofs.lemmas.Bool.Decides.{nat_tests}
 use Rattle.std.proofs.lemmas.List.{get_or-replicate, length-replicate}
-use Rattle.std.proofs.lemmas.Option.{same_Some, none-some, get_or_from_slice_get, slice_get-get_or}
-use Rattle.std.proofs.lemmas.Option.{slice_get_within}
+use Rattle.std.proofs.lemmas.Option.{same_Some, none-some, slice_get-get_or, slice_get_within}
 use Rattle.st_core.specs.declared.types.Pid.{Pid}
 use Rattle.st_core.specs.declared.types.Event.{Event}
-use Rattle.st_core.specs.Pid.{pid_eq, IsBelow, IsRising}
+use Rattle.st_core.specs.Pid.{pid_eq, IsRising}
 use Rattle.st_core.specs.Run.{Stream, pids_of}
-use Rattle.st_core.specs.Streams.{stream_of}
-use Rattle.st_core.proofs.ForCallers.{pid_eq-refl, pid_same, rising_at, IsBelow-apart}
+use Rattle.st_core.proofs.ForCallers.{pid_eq-refl, pid_same}
 use Rattle.st_pair.specs.Places.{event_at}
+use Rattle.st_pair.proofs.ForCallers.{missing_events, one_place, set_apart, set_same}
 use Rattle.st_order.specs.declared.item.Item.TheVariants as item
 use Rattle.st_plan.specs.Moves.{Move, move_by}
 use Rattle.st_plan.specs.Plain.{event_count}
 use Rattle.st_audit.specs.Progress.{AreTold, TellsOne}
 
-none_of : (streams : List Stream) (p : Pid)
-    → AllByRecursion (λ q. pid_eq q p ≡ false) (pids_of streams)
-    → stream_of streams p ≡ None
-none_of [] p h = refl
-none_of (x ∷ streams) p h = ap (λ b. cond b (Some x) (stream_of streams p)) h.0
-    ∙ none_of streams p h.1
-
-abbrev events_by : Option Stream → List Event
-events_by None = []
-events_by (Some x) = x.events
-
 -- a process that isn't listed has no events
 pub not_missing : (streams : List Stream) (p : Pid) (i : ℕ) (e : Event)
     → AllByRecursion (λ q. pid_eq q p ≡ false) (pids_of streams) → event_at streams p i ≡ Some e → ⊥
 not_missing streams p i e missing at =
-    let none : event_at streams p i ≡ None =
-    ap (λ o. slice_get (events_by o) i) (none_of streams p missing) in
-    none-some e (sym none ∙ at)
+    let none = missing_events streams p missing in
+    none-some e (sym (ap (λ (es : List Event). slice_get es i) none) ∙ at)
 
 pub place_below : (streams : List Stream) (place : ℕ) (p : Pid)
     → slice_get (pids_of streams) place ≡ Some p
@@ -48,17 +35,6 @@ place_below streams place p at =
     let within = slice_get_within (pids_of streams) place p at in
     let all = length-map streams (λ (x : Stream). x.pid) in
     omega arith
-
-set_other : (xs : List ℕ) (i k : ℕ) (x : ℕ) → k ≢ i
-    → slice_get (slice_set xs i x) k ≡ slice_get xs k
-set_other (y ∷ xs) zero zero x apart = absurd (apart refl)
-set_other (y ∷ xs) (suc i) (suc k) x apart = set_other xs i k x (λ same. apart (ap suc same))
-set_other xs i k x apart = refl
-
-set_same : (xs : List ℕ) (i : ℕ) (x : ℕ) → i < length xs → slice_get (slice_set xs i x) i ≡ Some x
-set_same [] i x within = absurd (omega arith)
-set_same (y ∷ xs) zero x within = refl
-set_same (y ∷ xs) (suc i) x within = set_same xs i x (omega arith)
 
 -- the count at the process's place is put one up
 pub tells_one : (streams : List Stream) (p : Pid) (i place count : ℕ) (old : List ℕ)
@@ -74,27 +50,8 @@ tells_one streams p i place count old is_place was put =
       now = λ fits.
           let next : count ≡ i + 1 = grind (arith, nat_tests) in
           set_same old place count within ∙ ap (λ (n : ℕ). Some n) next;
-      others = λ k apart. set_other old place k count apart;
+      others = λ k apart. set_apart old place k count (λ same. apart (sym same));
     }
-
--- a pid is at one place
-one_place : (ps : List Pid) (j k : ℕ) (p : Pid) → IsRising ps → slice_get ps j ≡ Some p
-    → slice_get ps k ≡ Some p
-    → j ≡ k
-one_place ps j k p rising one two =
-    let here = slice_get_within ps j p one in
-    let there = slice_get_within ps k p two in
-    let is_one = get_or_from_slice_get ps j p p one in
-    let is_two = get_or_from_slice_get ps k p p two in
-    let apart : IsBelow p p → ⊥ =
-    λ below. false≢true (sym (IsBelow-apart p p below) ∙ pid_eq-refl p) in
-    elim (cases_order j k) [
-      | inl same ↦ same
-      | inr (inl less) ↦ absurd (apart (subst (λ q. IsBelow p q) is_two
-          (subst (λ q. IsBelow q (get_or ps k p)) is_one (rising_at ps j k p rising less there))))
-      | inr (inr more) ↦ absurd (apart (subst (λ q. IsBelow p q) is_one
-          (subst (λ q. IsBelow q (get_or ps j p)) is_two (rising_at ps k j p rising more here))))
-    ]
 
 -- a reported item more
 pub told_next : (streams : List Stream) (earlier : List Move) (old new : List ℕ) (p : Pid) (i : ℕ)

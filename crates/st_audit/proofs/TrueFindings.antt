@@ -1,6 +1,6 @@
 -- The finding that the streams determine holds of them: it names the place of an item, at which an
--- event is, and the
--- construction stops for a reason of its own only if this holds of the item's move.
+-- event is, and the construction stops for a reason of its own only if this holds of the item's
+-- move.
 use Rattle.std.proofs.Common.{◌≡◌, ℕ, ◌++◌, Bool, true, false, cond, List, [], ◌∷◌, length, reverse}
 use Rattle.std.proofs.Common.{get_or, Option, Some, None, IsSome, option_map, refl}
 use Rattle.std.proofs.Common.{sym, ◌∙◌, ap, subst, arith}

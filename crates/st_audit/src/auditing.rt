@@ -58,7 +58,6 @@ fn finding_by(acts: Sequence<Act>, verdict: Verdict, place: (Pid, u64)) -> Findi
     }
 }
 
-/// Lets the checker judge these acts.
 fn judge<const TOP: u64>(
     alloc: Global,
     streams: &Streams,
@@ -151,7 +150,6 @@ fn finding_in_order<const TOP: u64>(
     finding_at_end::<TOP>(alloc, streams, acts, comparison, end.place())
 }
 
-/// Makes the finding of streams.
 fn finding_of<const TOP: u64>(
     rt: &(impl Threads + Sync),
     alloc: Global,

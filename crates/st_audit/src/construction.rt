@@ -211,7 +211,6 @@ impl<const TOP: u64> Construction<TOP> {
         Construction::new(alloc, streams, Some(comparison))
     }
 
-    /// The acts.
     pub(crate) fn into_acts(self) -> Sequence<Act>
         ensures { result ≡ self.entry.acts }
     {
@@ -277,7 +276,6 @@ impl<const TOP: u64> Construction<TOP> {
         Ok(outcome)
     }
 
-    /// Performs acts in a row.
     fn perform_all(&mut self, streams: &Streams, plan: &[Act]) -> Result<(), Halt>
         requires { IsMatched streams.now self.old }
         ensures exact { Meets SaysNothing (acts_turn TOP self.old.world plan.now)
@@ -390,7 +388,6 @@ impl<const TOP: u64> Construction<TOP> {
         Ok(())
     }
 
-    /// The act of this event.
     fn act<M: Tells>(
         &mut self,
         streams: &Streams,
