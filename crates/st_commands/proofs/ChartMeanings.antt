@@ -1,7 +1,7 @@
 -- Status 0 belongs to a chart alone. Status 1 belongs to a label that no item has, or to a reason
 -- of pairing, which rules out all acts without a reset.
 use Rattle.std.proofs.Common.{◌≡◌, ℕ, List, Option, Some, refl, sym, ap, subst, arith}
-use Rattle.std.specs.Prelude.{IsSome}
+use Rattle.std.specs.Prelude.{IsSome, MatchOption}
 use Rattle.std.proofs.lemmas.Option.{same_Some}
 use Rattle.st_core.specs.declared.types.Pid.{Pid}
 use Rattle.st_core.specs.declared.types.Label.{Label}
@@ -54,33 +54,28 @@ module _ (limits : Limits) (bytes : List ℕ) (streams : List Stream) (given : O
     text = refl;
   }
 
+  by_reason : (f : PairFault) → refusal streams ≡ Some f → MatchOption (unfit_by f) (Unit {0})
+      (λ found. MeansUnpaired limits bytes (report_output streams found))
+  by_reason pairing.Memory is = tt
+  by_reason (pairing.PrevNotBefore p i) is =
+      holds_at (pairing.PrevNotBefore p i) is p i reason.PrevNotBefore refl is
+  by_reason (pairing.NotRising p i j) is =
+      holds_at (pairing.NotRising p i j) is p i (reason.NotRising j) refl is
+  by_reason (pairing.Repeated p i q j) is =
+      holds_at (pairing.Repeated p i q j) is p i (reason.Repeated q j) refl is
+  by_reason (pairing.Mismatch p i q j) is =
+      holds_at (pairing.Mismatch p i q j) is p i (reason.Mismatch q j) refl is
+
   pub unpaired_means : (f : PairFault) (found : Finding) → refusal streams ≡ Some f
-      → unfit_by f ≡ Some found
-      → MeansUnpaired limits bytes (report_output streams found)
-  unpaired_means pairing.Memory found is by = absurd (cc)
-  unpaired_means (pairing.PrevNotBefore p i) found is by =
-      subst (λ (x : Finding). MeansUnpaired limits bytes (report_output streams x))
-      (same_Some _ found by)
-      (holds_at (pairing.PrevNotBefore p i) is p i reason.PrevNotBefore refl is)
-  unpaired_means (pairing.NotRising p i j) found is by =
-      subst (λ (x : Finding). MeansUnpaired limits bytes (report_output streams x))
-      (same_Some _ found by)
-      (holds_at (pairing.NotRising p i j) is p i (reason.NotRising j) refl is)
-  unpaired_means (pairing.Repeated p i q j) found is by =
-      subst (λ (x : Finding). MeansUnpaired limits bytes (report_output streams x))
-      (same_Some _ found by)
-      (holds_at (pairing.Repeated p i q j) is p i (reason.Repeated q j) refl is)
-  unpaired_means (pairing.Mismatch p i q j) found is by =
-      subst (λ (x : Finding). MeansUnpaired limits bytes (report_output streams x))
-      (same_Some _ found by)
-      (holds_at (pairing.Mismatch p i q j) is p i (reason.Mismatch q j) refl is)
+      → unfit_by f ≡ Some found → MeansUnpaired limits bytes (report_output streams found)
+  unpaired_means f found is by = subst (λ (o : Option Finding). MatchOption o (Unit {0})
+      (λ found. MeansUnpaired limits bytes (report_output streams found))) by (by_reason f is)
 
 -- ---- what a status means
 
 module _ (limits : Limits) (label : Label) where
   pub charted_means : (bytes : List ℕ) (out : Output) → IsCharted limits label bytes out
-      → out.status ≡ 0
-      → MeansCharted limits label bytes out
+      → out.status ≡ 0 → MeansCharted limits label bytes out
   charted_means bytes out (charted.Drawn b streams items h some) e =
       record {
         streams = streams;
@@ -99,8 +94,7 @@ module _ (limits : Limits) (label : Label) where
       let high = fault_status_high f in absurd (omega arith)
 
   pub no_chart_means : (bytes : List ℕ) (out : Output) → IsCharted limits label bytes out
-      → out.status ≡ 1
-      → MeansNoChart limits label bytes out
+      → out.status ≡ 1 → MeansNoChart limits label bytes out
   no_chart_means bytes out (charted.Drawn b streams items h some) e = absurd (omega (arith, e))
   no_chart_means bytes out (charted.Unlabelled b streams items h none) e =
       Unlabelled (record {

@@ -1,23 +1,16 @@
 -- Bytes have exactly one output of each label's chart: they are the text of one bundle, or have one
 -- fault; its streams have one reason against them, or else one order.
-use Rattle.std.proofs.Common.{◌≡◌, ℕ, Bool, true, false, List, [], ◌∷◌, Option, Some, None, refl}
-use Rattle.std.proofs.Common.{sym, ap, subst, ◌∙◌, ◌+◌, nat_lt, not, ◌==◌, ◌&&◌, ◌||◌}
-use Rattle.std.specs.Prelude.{if◌then◌else◌}
+use Rattle.std.proofs.Common.{◌≡◌, ℕ, Bool, true, false, List, Option, Some, None, refl, sym, ap}
+use Rattle.std.proofs.Common.{subst, ◌∙◌}
 use Rattle.std.specs.List.{list_any}
-use Rattle.std.proofs.lemmas.Option.{same_Some, none-some, option_and_then_some}
-use Rattle.st_core.specs.declared.types.Pid.{Pid}
-use Rattle.st_core.specs.declared.types.Event.{Event}
+use Rattle.std.proofs.lemmas.Option.{same_Some, none-some}
 use Rattle.st_core.specs.declared.types.Label.{Label}
 use Rattle.st_core.specs.declared.types.Act.{Act}
-use Rattle.st_core.specs.Pid.{pid_eq}
 use Rattle.st_core.specs.Run.{Stream}
-use Rattle.st_core.specs.Streams.{events_of}
 use Rattle.st_pair.specs.declared.answer.PairFault.{PairFault}
 use Rattle.st_pair.specs.declared.answer.PairFault.TheVariants as pairing
-use Rattle.st_pair.specs.Places.{is_stamp, first_from, first, or_else}
-use Rattle.st_pair.specs.Pairing.{stamp_before, stamp_of, receive_of, agrees, prev_not_before}
-use Rattle.st_pair.specs.Pairing.{not_rising, repeated, mismatch, first_rule, refusal}
-use Rattle.st_pair.proofs.ForCallers.{paired}
+use Rattle.st_pair.specs.Pairing.{refusal}
+use Rattle.st_pair.proofs.ForCallers.{paired, reason_at}
 use Rattle.st_order.specs.declared.item.Item.{Item}
 use Rattle.st_order.specs.Order.{IsOrder, order}
 use Rattle.st_order.specs.Labels.{item_has_label}
@@ -39,96 +32,10 @@ use Rattle.st_commands.specs.Charted as charted
 use Rattle.st_commands.specs.Laws.{HasOutput, HasOneOutput}
 use Rattle.st_commands.proofs.Outputs.{whole, fault_apart, one_fault}
 
--- ---- a reason against streams is never that memory ran out
-
-abbrev RuleOf : Type 0
-RuleOf = Pid → ℕ → Event → Option PairFault
-
-abbrev NeverMemory : Option PairFault → Type 0
-NeverMemory given = given ≡ Some pairing.Memory → ⊥
-
-unless_given : (b : Bool) (f : PairFault) → (f ≡ pairing.Memory → ⊥)
-    → NeverMemory (if b then None else Some f)
-unless_given true f other h = none-some pairing.Memory h
-unless_given false f other h = other (same_Some f pairing.Memory h)
-
-module _ (rule : RuleOf) (never : (p : Pid) (i : ℕ) (e : Event) → NeverMemory (rule p i e)) where
-  never_from : (p : Pid) (i : ℕ) (es : List Event) → NeverMemory (first_from rule p i es)
-  never_from p i [] h = none-some pairing.Memory h
-  never_from p i (e ∷ es) h = elim (rule p i e)
-      as (λ given. rule p i e ≡ given → NeverMemory (or_else given
-      (first_from rule p (i + 1) es))) [
-        | None ↦ λ is h. never_from p (i + 1) es h
-        | Some f ↦ λ is h. never p i e (is ∙ h)
-      ] refl h
-
-  never_first : (streams : List Stream) → NeverMemory (first rule streams)
-  never_first [] h = none-some pairing.Memory h
-  never_first (s ∷ rest) h = elim (first_from rule s.pid 0 s.events)
-      as (λ given. first_from rule s.pid 0 s.events ≡ given
-      → NeverMemory (or_else given (first rule rest))) [
-        | None ↦ λ is h. never_first rest h
-        | Some f ↦ λ is h. never_from s.pid 0 s.events (is ∙ h)
-      ] refl h
-
-never_rule : (streams : List Stream) (rule : RuleOf) (rules : List RuleOf)
-    → NeverMemory (first rule streams)
-    → NeverMemory (first_rule streams rules) → NeverMemory (first_rule streams (rule ∷ rules))
-never_rule streams rule rules one others h = elim (first rule streams)
-    as (λ given. first rule streams ≡ given → NeverMemory
-    (or_else given (first_rule streams rules))) [
-      | None ↦ λ is h. others h
-      | Some f ↦ λ is h. one (is ∙ h)
-    ] refl h
-
-never_prev : (p : Pid) (i : ℕ) (e : Event) → NeverMemory (prev_not_before p i e)
-never_prev p i e = unless_given (nat_lt e.serial.prev e.serial.this) (pairing.PrevNotBefore p i)
-    (λ is. absurd (cc))
-
-module _ (streams : List Stream) (p : Pid) (i : ℕ) (e : Event) where
-  never_rising : NeverMemory (not_rising streams p i e)
-  never_rising h =
-      let test = λ (g : ℕ × Event). not (is_stamp e) || nat_lt g.1.serial.this e.serial.this in
-      option_and_then_some (λ (g : ℕ × Event). if test g then None else Some
-      (pairing.NotRising p i g.0))
-      (stamp_before (events_of streams p) i) pairing.Memory h (λ g is given.
-      unless_given (test g) (pairing.NotRising p i g.0) (λ is. absurd (cc)) given)
-
-  never_repeated : NeverMemory (repeated streams p i e)
-  never_repeated h =
-      let test = λ (at : Pid × ℕ). is_stamp e || (pid_eq at.0 p && at.1 == i) in
-      option_and_then_some (λ (at : Pid × ℕ). if test at then None else Some
-      (pairing.Repeated p i at.0 at.1))
-      (receive_of streams e.from e.serial.this) pairing.Memory h (λ at is given.
-      unless_given (test at) (pairing.Repeated p i at.0 at.1) (λ is. absurd (cc)) given)
-
-  never_mismatch : NeverMemory (mismatch streams p i e)
-  never_mismatch h =
-      let test = λ (g : ℕ × Event). is_stamp e || agrees g.1 e in
-      option_and_then_some (λ (g : ℕ × Event). if test g then None else Some
-      (pairing.Mismatch p i e.from g.0))
-      (stamp_of streams e.from e.serial.this) pairing.Memory h (λ g is given.
-      unless_given (test g) (pairing.Mismatch p i e.from g.0) (λ is. absurd (cc)) given)
-
-never_refusal : (streams : List Stream) → NeverMemory (refusal streams)
-never_refusal streams =
-    let fourth = mismatch streams ∷ [] in
-    let third = repeated streams ∷ fourth in
-    let second = not_rising streams ∷ third in
-    never_rule streams prev_not_before second (never_first prev_not_before never_prev streams)
-    (never_rule streams (not_rising streams) third
-    (never_first (not_rising streams) (never_rising streams) streams)
-    (never_rule streams (repeated streams) fourth
-    (never_first (repeated streams) (never_repeated streams) streams)
-    (never_rule streams (mismatch streams) [] (never_first (mismatch streams)
-    (never_mismatch streams) streams)
-    (λ h. none-some pairing.Memory h))))
-
 -- ---- an output
 
 module _ (limits : Limits) (label : Label) (bytes : List ℕ) (streams : List Stream)
-    (given : Option (List Act))
-    (spelled : Spells limits bytes streams given) where
+    (given : Option (List Act)) (spelled : Spells limits bytes streams given) where
   abbrev An : Type 0
   An = (out : Output) × IsCharted limits label bytes out
 
@@ -159,7 +66,10 @@ module _ (limits : Limits) (label : Label) (bytes : List ℕ) (streams : List St
   )
 
   of_refused : (f : PairFault) → refusal streams ≡ Some f → An
-  of_refused pairing.Memory is = absurd (never_refusal streams is)
+  of_refused pairing.Memory is =
+      let rising = spelled.text.bundle.streams.draft.rising in
+      let x = reason_at streams pairing.Memory rising is in
+      absurd (none-some x.0 (sym x.3))
   of_refused (pairing.PrevNotBefore p i) is =
       by_reason _ (finding.Unfit p i reason.PrevNotBefore) is refl
   of_refused (pairing.NotRising p i j) is =
@@ -182,8 +92,7 @@ a_chart limits label bytes = by (fault_within limits bytes) refl
     by None none =
         let read = readable limits bytes none in
         of_streams limits label bytes read.0.streams read.0.acts
-        (record { text = read.1.text; within = read.1.within })
-        (refusal read.0.streams) refl
+        (record { text = read.1.text; within = read.1.within }) (refusal read.0.streams) refl
 
 -- ---- one at most
 
@@ -208,8 +117,7 @@ module _ (limits : Limits) (label : Label) (bytes : List ℕ) where
       one_drawn = ap (λ s. drawn s xs label) listed ∙ ap (λ z. drawn ts z label) ordered
 
       label_apart : list_any (item_has_label ss label) xs ≡ true
-          → list_any (item_has_label ts label) ys ≡ false
-          → (X : Type 0) → X
+          → list_any (item_has_label ts label) ys ≡ false → (X : Type 0) → X
       label_apart some none X =
           let moved : list_any (item_has_label ss label) xs
           ≡ list_any (item_has_label ts label) ys =
@@ -218,16 +126,14 @@ module _ (limits : Limits) (label : Label) (bytes : List ℕ) where
           absurd (cc)
 
   reason_apart : (ss ts : List Stream) (xs : List Item) (found : Finding)
-      → HasOrder limits bytes ss xs
-      → HasPairFault limits bytes ts found → (X : Type 0) → X
+      → HasOrder limits bytes ss xs → HasPairFault limits bytes ts found → (X : Type 0) → X
   reason_apart ss ts xs found h k X =
       let moved : refusal ss ≡ refusal ts =
       ap refusal (same_streams limits bytes ss ts h.given k.given h.spelled k.spelled) in
       absurd (none-some k.fault (sym h.accepted ∙ moved ∙ k.refused))
 
   one_reason : (ss ts : List Stream) (one other : Finding) → HasPairFault limits bytes ss one
-      → HasPairFault limits bytes ts other
-      → report_output ss one ≡ report_output ts other
+      → HasPairFault limits bytes ts other → report_output ss one ≡ report_output ts other
   one_reason ss ts one other h k =
       let listed : ss ≡ ts = same_streams limits bytes ss ts h.given k.given h.spelled k.spelled in
       let faults : h.fault ≡ k.fault =

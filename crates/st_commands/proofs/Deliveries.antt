@@ -43,8 +43,7 @@ use Rattle.st_commands.specs.Meaning.{Says, Performs, PerformsBy}
 
 pub delivers : {W T E : Type 0} (writer : WriterCall W) (out : Output) (r : Result T E) (status : ℕ)
     → WritesText writer.device.puts writer.device.failed out.text writer.old writer.new r
-    → MatchResult r (λ _. status ≡ out.status) (λ _. status ≡ 4)
-    → Delivers writer out status
+    → MatchResult r (λ _. status ≡ out.status) (λ _. status ≡ 4) → Delivers writer out status
 delivers writer out (Ok v) status w e = subst (Delivers writer out) (sym e) (Whole w)
 delivers writer out (Err x) status w e = subst (Delivers writer out) (sym e) (Part w)
 
@@ -57,8 +56,7 @@ module _ {W : Type 0} (writer : WriterCall W) (status : ℕ) where
 
   -- what is told of a bundle's acts is told of the bundle
   pub tells_of_acts : (OfActs : List Stream → List Act → Output → Type 0) (c : Contents)
-      (acts : List Act)
-      → c.acts ≡ Some acts → Tells writer (OfActs c.streams acts) status
+      (acts : List Act) → c.acts ≡ Some acts → Tells writer (OfActs c.streams acts) status
       → Tells writer (OfBundle OfActs c) status
   tells_of_acts OfActs c acts e told = tells_as (λ out is. OfSome acts out e is) told
 
@@ -82,10 +80,8 @@ module _ (limits : Limits) {R : Type 0} (reader : ReaderCall R) where
     where
       -- a fault of the bytes that were read
       of_fault : (bytes : List ℕ) (f : ReadFault) → InARow reader.device.gives reader.old bytes
-          reader.new
-          → reader.device.ended reader.new → reader.device.failed reader.new ≡ false
-          → fault_within limits bytes ≡ Some f
-          → Owes limits reader IsOutput (refused f)
+          reader.new → reader.device.ended reader.new → reader.device.failed reader.new ≡ false
+          → fault_within limits bytes ≡ Some f → Owes limits reader IsOutput (refused f)
       of_fault bytes f given end sound is =
           OfBytes bytes (refused f) (up_to_end bytes given end sound) (faulty bytes f is)
 
@@ -135,8 +131,7 @@ module _ (limits : Limits) {R : Type 0} (reader : ReaderCall R) where
 
   -- what a command makes of a bundle's acts, it owes
   module _ (IsOutput : List ℕ → Output → Type 0) (OfActs : List Stream → List Act → Output → Type 0)
-      (c : Contents)
-      (h : WasRead c) where
+      (c : Contents) (h : WasRead c) where
     pub owes_bundle : ((acts : List Act) (out : Output)
         → Spells limits h.bytes c.streams (Some acts)
         → OfActs c.streams acts out → Owes limits reader IsOutput out)
@@ -160,8 +155,7 @@ module _ (limits : Limits) {R : Type 0} (reader : ReaderCall R) where
           acts = acts;
           spelled = spelled;
           verdict = is;
-          follows =
-              follows;
+          follows = follows;
           paired = paired;
         }))
     owes_judged acts out spelled parts.NoRoomToCheck = ForMemory h.bytes h.all h.small
@@ -216,8 +210,7 @@ module _ (limits : Limits) {R : Type 0} (reader : ReaderCall R) where
     -- ---- replay
 
     owes_run : (acts : List Act) (out : Output) → Spells limits h.bytes c.streams (Some acts)
-        → ReplaysTo c.streams acts out
-        → Owes limits reader (IsReplayed limits) out
+        → ReplaysTo c.streams acts out → Owes limits reader (IsReplayed limits) out
     owes_run acts out spelled (parts.Runs os is) =
         OfBytes h.bytes (replays.replayed (pids_of c.streams) acts os) h.all
         (replays.Ran h.bytes (pids_of c.streams) acts os
@@ -245,8 +238,7 @@ module _ {limits : Limits} {R W : Type 0} {reader : ReaderCall R} {writer : Writ
     (meant : (bytes : List ℕ) (out : Output) → IsOutput bytes out → out.status ≡ n
     → Means bytes out) where
   says_owed : (out : Output) (status : ℕ) → Owes limits reader IsOutput out
-      → Delivers writer out status
-      → status ≡ n → Says limits reader writer Means
+      → Delivers writer out status → status ≡ n → Says limits reader writer Means
   says_owed out status (OfBytes bytes o all is) (Whole w) e =
       record { bytes = bytes; output = o; reads = all; writes = w; means = meant bytes o is e }
   says_owed out status (OfBytes bytes o all is) (Part w) e = absurd (other (sym e))
@@ -278,8 +270,7 @@ performs if_yes if_no told = record {
 
 -- what a command comes to is that the output that it owes was delivered, and what that means
 pub performs_tells : (limits : Limits) {R W : Type 0} (reader : ReaderCall R)
-    (writer : WriterCall W) (t : Task)
-    (status : ℕ)
+    (writer : WriterCall W) (t : Task) (status : ℕ)
     → PerformsBy limits reader writer t status → Tells writer (OwesBy limits reader t) status
 performs_tells limits reader writer task.Check status done = done.told
 performs_tells limits reader writer task.Audit status done = done.told

@@ -77,8 +77,7 @@ few_acts limits bytes streams acts small s =
       arith,
       small.processes,
       s.within.processes,
-      length-map streams
-          (λ (x : Stream). x.pid),
+      length-map streams (λ (x : Stream). x.pid),
     ) in
     let given : length acts ≤ 4294967295 = omega (arith, small.acts, s.within.acts) in
     let most = product (length (pids_of streams)) (length acts) 4294967295 4294967295 pids given in
@@ -92,8 +91,7 @@ zipped : (ps : List Pid) (xs : List Act)
 zipped [] xs = All-nil (λ (x : Pid × List Act). x.1 ≡ acts_by x.0 xs)
 zipped (p ∷ ps) xs =
     All-cons (λ (x : Pid × List Act). x.1 ≡ acts_by x.0 xs) (p, acts_by p xs)
-    (zip ps (scripts_of ps xs)) refl
-    (zipped ps xs)
+    (zip ps (scripts_of ps xs)) refl (zipped ps xs)
 
 script_is : (ps : List Pid) (xs : List Act) (p : Pid) (script : List Act) (k : ℕ)
     → slice_get (zip ps (scripts_of ps xs)) k ≡ Some (p, script) → script ≡ acts_by p xs
@@ -110,16 +108,14 @@ own_act xs p n a at =
     (filter_passes (λ x. pid_eq (actor x) p) xs))
 
 known_act : (ps : List Pid) (xs : List Act) (p : Pid) (n : ℕ) (a : Act)
-    → list_all (is_listed ps) xs ≡ true
-    → slice_get (acts_by p xs) n ≡ Some a → knows ps a ≡ true
+    → list_all (is_listed ps) xs ≡ true → slice_get (acts_by p xs) n ≡ Some a → knows ps a ≡ true
 known_act ps xs p n a listed at =
     All_at (λ x. is_listed ps x ≡ true) (acts_by p xs) n a at
     (All-filter (λ x. pid_eq (actor x) p) (λ x. is_listed ps x ≡ true) xs
     (AllPass-from_list_all (is_listed ps) xs listed))
 
 module _ (limits : Limits) (small : AreSmall limits) (bytes : List ℕ) (streams : List Stream)
-    (acts : List Act)
-    (s : Spells limits bytes streams (Some acts)) (p : Pid) (n : ℕ) where
+    (acts : List Act) (s : Spells limits bytes streams (Some acts)) (p : Pid) (n : ℕ) where
   abbrev scripts : List (List Act)
   scripts = scripts_of (pids_of streams) acts
 
@@ -201,8 +197,7 @@ stray_of limits bytes p n h = record {
 }
 
 pub stray_means : (limits : Limits) (bytes : List ℕ) (out : Output) → IsRecorded limits bytes out
-    → out.status ≡ 1
-    → MeansStray limits bytes out
+    → out.status ≡ 1 → MeansStray limits bytes out
 stray_means limits bytes out (records.Recorded b r h) e = absurd (omega (arith, e))
 stray_means limits bytes out (records.Strayed b p n h) e = stray_of limits b p n h
 stray_means limits bytes out (records.Unstarted b h) e = absurd (omega (arith, e))
@@ -218,8 +213,7 @@ recorded_is_yes limits others bytes r h spelled out is =
 -- ---- what is owed
 
 module _ (limits : Limits) (small : AreSmall limits) {R : Type 0} (reader : ReaderCall R)
-    (c : Contents)
-    (h : WasRead limits reader c) where
+    (c : Contents) (h : WasRead limits reader c) where
   owes_refused : (acts : List Act) → Spells limits h.bytes c.streams (Some acts) → (f : DriveFault)
       → IsDriveFault top ranks (pids_of c.streams) (scripts_of (pids_of c.streams) acts) f
       → Owes limits reader (IsRecorded limits) (drive_refused f)

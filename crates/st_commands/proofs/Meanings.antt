@@ -41,8 +41,7 @@ fault_status_high faults.Truncated = omega arith
 -- ---- a yes
 
 yes_verdict : (limits : Limits) (bytes : List ℕ) (v : Verdict) → IsJudged limits bytes v
-    → (judged v).status ≡ 0
-    → MeansYes limits bytes (judged v)
+    → (judged v).status ≡ 0 → MeansYes limits bytes (judged v)
 yes_verdict limits bytes (Stuck n) j e = absurd (omega arith)
 yes_verdict limits bytes (Differs n) j e = absurd (omega arith)
 yes_verdict limits bytes (Left p) j e = absurd (omega arith)
@@ -90,8 +89,7 @@ no_verdict limits bytes v j never = record {
 }
 
 judged_no : (limits : Limits) (bytes : List ℕ) (v : Verdict) → IsJudged limits bytes v
-    → (judged v).status ≡ 1
-    → MeansNo limits bytes (judged v)
+    → (judged v).status ≡ 1 → MeansNo limits bytes (judged v)
 judged_no limits bytes (Stuck n) j e = no_verdict limits bytes (Stuck n) j (λ ps same. cc)
 judged_no limits bytes (Differs n) j e = no_verdict limits bytes (Differs n) j (λ ps same. cc)
 judged_no limits bytes (Left p) j e = no_verdict limits bytes (Left p) j (λ ps same. cc)
@@ -114,8 +112,7 @@ shown_is_yes limits bytes streams acts out spelled shown is =
 -- ---- no act is stuck
 
 has_step : (streams : List Stream) (acts : List Act) (n : ℕ)
-    → IsSome (run top (pids_of streams) acts)
-    → run top (pids_of streams) (take n acts) ≢ None
+    → IsSome (run top (pids_of streams) acts) → run top (pids_of streams) (take n acts) ≢ None
 has_step streams acts n some none = by (run top (pids_of streams) acts) refl some
   where
     by : (o : Option (List Outcome)) → run top (pids_of streams) acts ≡ o → IsSome o → ⊥
@@ -167,8 +164,7 @@ run_means limits bytes pids acts os h =
     }
 
 pub replayed_means : (limits : Limits) (bytes : List ℕ) (out : Output) → IsReplayed limits bytes out
-    → out.status ≡ 0
-    → MeansReplayed limits bytes out
+    → out.status ≡ 0 → MeansReplayed limits bytes out
 replayed_means limits bytes out (replays.Ran b pids acts os h) e = run_means limits b pids acts os h
 replayed_means limits bytes out (replays.Stuck b n h) e = absurd (omega (arith, e))
 replayed_means limits bytes out (replays.Lacking b n) e = absurd (omega (arith, e))

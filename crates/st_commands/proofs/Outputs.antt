@@ -36,8 +36,7 @@ record Same (ss ts : List Stream) (xs ys : List Act) : Type 0 where
   acts : xs ≡ ys
 
 same_acts : (limits : Limits) (bytes : List ℕ) (ss ts : List Stream) (xs ys : List Act)
-    → Spells limits bytes ss (Some xs)
-    → Spells limits bytes ts (Some ys) → Same ss ts xs ys
+    → Spells limits bytes ss (Some xs) → Spells limits bytes ts (Some ys) → Same ss ts xs ys
 same_acts limits bytes ss ts xs ys s t =
     let same : whole ss (Some xs) ≡ whole ts (Some ys) =
     text_one bytes (whole ss (Some xs)) (whole ts (Some ys)) s.text t.text in
@@ -45,8 +44,7 @@ same_acts limits bytes ss ts xs ys s t =
     record { streams = ap (λ (c : Contents). c.streams) same; acts = cc given }
 
 acts_apart : (limits : Limits) (bytes : List ℕ) (ss ts : List Stream) (acts : List Act)
-    → Spells limits bytes ss (Some acts)
-    → Spells limits bytes ts None → (X : Type 0) → X
+    → Spells limits bytes ss (Some acts) → Spells limits bytes ts None → (X : Type 0) → X
 acts_apart limits bytes ss ts acts s t X =
     let same = ap (λ (c : Contents). c.acts) (text_one bytes (whole ss (Some acts))
     (whole ts None) s.text t.text) in
@@ -61,15 +59,13 @@ fault_apart limits bytes streams acts f s is X =
     absurd (cc)
 
 pub one_fault : (limits : Limits) (bytes : List ℕ) (f g : ReadFault)
-    → fault_within limits bytes ≡ Some f
-    → fault_within limits bytes ≡ Some g → f ≡ g
+    → fault_within limits bytes ≡ Some f → fault_within limits bytes ≡ Some g → f ≡ g
 one_fault limits bytes f g p q = cc
 
 -- ---- check
 
 one_judgement : (limits : Limits) (bytes : List ℕ) (v w : Verdict) → IsJudged limits bytes v
-    → IsJudged limits bytes w
-    → v ≡ w
+    → IsJudged limits bytes w → v ≡ w
 one_judgement limits bytes v w j k =
     let same = same_acts limits bytes j.streams k.streams j.acts k.acts j.spelled k.spelled in
     let other : IsVerdict top k.streams j.acts w =
@@ -100,15 +96,13 @@ one_check limits bytes one other (checked.Faulty x f is) (checked.Faulty y g als
 
 -- a run has each step
 runs_on : (ps : List Pid) (xs : List Act) (os : List Outcome) (n : ℕ) → run top ps xs ≡ Some os
-    → SticksAt top ps xs n
-    → (X : Type 0) → X
+    → SticksAt top ps xs n → (X : Type 0) → X
 runs_on ps xs os n is s X =
     let some = run_from-take top (n + 1) (zero_state ps) xs os is in
     let none = s.none in absurd (cc)
 
 sticks_before : (ps : List Pid) (xs : List Act) (m n : ℕ) → SticksAt top ps xs m
-    → SticksAt top ps xs n → m < n
-    → (X : Type 0) → X
+    → SticksAt top ps xs n → m < n → (X : Type 0) → X
 sticks_before ps xs m n s t lt X = by (run top ps (take n xs)) refl t.before
   where
     by : (o : Option (List Outcome)) → run top ps (take n xs) ≡ o → IsSome o → X
@@ -136,8 +130,7 @@ one_outcome ps xs os us p q = cc
 
 -- a run over pids that bytes list, over those of their streams
 run_on : (limits : Limits) (bytes : List ℕ) (streams : List Stream) (xs : List Act) (ps : List Pid)
-    (ys : List Act)
-    (os : List Outcome)
+    (ys : List Act) (os : List Outcome)
     → Spells limits bytes streams (Some xs) → HasRun limits bytes ps ys os
     → run top (pids_of streams) xs ≡ Some os
 run_on limits bytes streams xs ps ys os s h =
@@ -147,16 +140,13 @@ run_on limits bytes streams xs ps ys os s h =
     ∙ ap (λ (z : List Pid). run top z ys) (sym h.listed) ∙ h.runs
 
 run_apart : (limits : Limits) (bytes : List ℕ) (ps : List Pid) (xs : List Act) (os : List Outcome)
-    (n : ℕ)
-    → HasRun limits bytes ps xs os
-    → HasStuck limits bytes n → (X : Type 0) → X
+    (n : ℕ) → HasRun limits bytes ps xs os → HasStuck limits bytes n → (X : Type 0) → X
 run_apart limits bytes ps xs os n h k X =
     runs_on (pids_of k.streams) k.acts os n
     (run_on limits bytes k.streams k.acts ps xs os k.spelled h) k.sticks X
 
 one_run : (limits : Limits) (bytes : List ℕ) (ps qs : List Pid) (xs ys : List Act)
-    (os us : List Outcome)
-    → HasRun limits bytes ps xs os
+    (os us : List Outcome) → HasRun limits bytes ps xs os
     → HasRun limits bytes qs ys us → replayed ps xs os ≡ replayed qs ys us
 one_run limits bytes ps qs xs ys os us h k =
     let same = same_acts limits bytes h.streams k.streams xs ys h.spelled k.spelled in

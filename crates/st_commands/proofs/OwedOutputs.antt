@@ -20,8 +20,7 @@ use Rattle.st_commands.specs.Laws.{HasOutput}
 
 -- a verdict of what bytes spell
 pub judgement : (limits : Limits) (bytes : List ℕ) (streams : List Stream) (acts : List Act)
-    (v : Verdict)
-    → Spells limits bytes streams (Some acts) → IsVerdict top streams acts v
+    (v : Verdict) → Spells limits bytes streams (Some acts) → IsVerdict top streams acts v
     → IsJudged limits bytes v
 judgement limits bytes streams acts v spelled is = record {
   streams = streams;
@@ -35,8 +34,7 @@ judgement limits bytes streams acts v spelled is = record {
 -- acts that a text spells have a run
 pub spelled_run : (limits : Limits) → limits.acts ≤ top
     → (bytes : List ℕ) (streams : List Stream) (acts : List Act)
-    → Spells limits bytes streams (Some acts)
-    → IsSome (run top (pids_of streams) acts)
+    → Spells limits bytes streams (Some acts) → IsSome (run top (pids_of streams) acts)
 spelled_run limits few bytes streams acts s =
     few_acts_run top (pids_of streams) acts (let within = s.within.acts in omega
     (arith, few)) s.text.bundle.listed

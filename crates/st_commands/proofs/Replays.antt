@@ -12,8 +12,7 @@ use Rattle.st_commands.specs.Parts.{ReplaysTo, Runs, Sticks, reports_output}
 use Rattle.st_commands.specs.Output.{bundled}
 
 replays_on : (streams : List Stream) (acts : List Act) (r : Reports)
-    → AreReports top (pids_of streams) acts r
-    → ReplaysTo streams acts (reports_output r acts)
+    → AreReports top (pids_of streams) acts r → ReplaysTo streams acts (reports_output r acts)
 replays_on streams acts (reports.Ran ran) h =
     subst (ReplaysTo streams acts) (ap (λ (s : List Stream). bundled s acts) (sym h.are_streams))
     (Runs h.outcomes h.runs)

@@ -46,8 +46,7 @@ abbrev longer : List (List Act) → ℕ → Act → List (List Act)
 longer scripts i a = set scripts i (get_or scripts i [] ++ a ∷ [])
 
 pub scripted : (ps : List Pid) (xs : List Act) (a : Act) (i : ℕ) → IsRising ps
-    → slice_get ps i ≡ Some (actor a)
-    → longer (scripts_of ps xs) i a ≡ scripts_of ps (xs ++ a ∷ [])
+    → slice_get ps i ≡ Some (actor a) → longer (scripts_of ps xs) i a ≡ scripts_of ps (xs ++ a ∷ [])
 scripted [] xs a i rising at = absurd (cc)
 scripted (p ∷ ps) xs a zero rising at =
     let same = same_Some p (actor a) at in
@@ -66,8 +65,7 @@ scripted (p ∷ ps) xs a (suc i) rising at =
 -- ---- the acts up to place k, and the one there
 
 pub next_unscripted : (ps : List Pid) (acts : List Act) (k : ℕ) (d : Act)
-    (scripts : List (List Act))
-    → scripts ≡ scripts_of ps (take k acts) → k < length acts
+    (scripts : List (List Act)) → scripts ≡ scripts_of ps (take k acts) → k < length acts
     → AllByRecursion (λ p. pid_eq p (actor (get_or acts k d)) ≡ false) ps
     → scripts ≡ scripts_of ps (take (k + 1) acts)
 next_unscripted ps acts k d scripts is within others =
@@ -76,8 +74,7 @@ next_unscripted ps acts k d scripts is within others =
     ∙ ap (scripts_of ps) (sym (take_more acts k d within))
 
 pub next_scripted : (ps : List Pid) (acts : List Act) (k : ℕ) (d : Act) (scripts : List (List Act))
-    (i : ℕ)
-    → scripts ≡ scripts_of ps (take k acts) → k < length acts → IsRising ps
+    (i : ℕ) → scripts ≡ scripts_of ps (take k acts) → k < length acts → IsRising ps
     → slice_get ps i ≡ Some (actor (get_or acts k d))
     → longer scripts i (get_or acts k d) ≡ scripts_of ps (take (k + 1) acts)
 next_scripted ps acts k d scripts i is within rising at =

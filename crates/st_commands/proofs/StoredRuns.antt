@@ -21,9 +21,8 @@ use Rattle.st_core.specs.Pid.{pid_on}
 use Rattle.st_core.specs.Step.{Outcome}
 use Rattle.st_core.specs.Run.{Stream, pids_of, run, stream}
 use Rattle.st_core.specs.Verdict.{Yes, IsVerdict}
-use Rattle.st_text.specs.Range.{FitsPid, FitsEvent, FitsToken}
 use Rattle.st_text.specs.Limits.{standard}
-use Rattle.st_text.specs.Text.{spelling}
+use Rattle.st_text.specs.Text.{Contents, spelling}
 use Rattle.st_commands.specs.Checked.{top, Spells, IsChecked, Judged}
 use Rattle.st_commands.proofs.OwedOutputs.{judgement}
 
@@ -39,8 +38,7 @@ event_of k prev this from to v =
       kind = k;
       serial = record { prev = prev; this = this };
       from = from;
-      to =
-          to;
+      to = to;
       value = v;
     }
 
@@ -49,12 +47,6 @@ a = pid_on 0 30
 
 abbrev b : Pid
 b = pid_on 0 31
-
-a_fits : FitsPid a
-a_fits = record { node = omega arith; number = omega arith }
-
-b_fits : FitsPid b
-b_fits = record { node = omega arith; number = omega arith }
 
 -- the outcomes of a run that there is
 abbrev outcomes_of : Option (List Outcome) → List Outcome
@@ -77,19 +69,7 @@ print_streams = print_stream ∷ []
 abbrev print_acts : List Act
 print_acts =
     act.Tracer a true ∷ act.Set a (component.Label (label_of 17)) ∷ act.Set a (component.Print true)
-    ∷ act.Print a 7
-    ∷ []
-
-printed_fits : FitsEvent (event_of kind.Print 0 1 a None 7)
-printed_fits =
-    record {
-      label = omega arith;
-      serial = record { prev = omega arith; this = omega arith };
-      from = a_fits;
-      to =
-          tt;
-      value = omega arith;
-    }
+    ∷ act.Print a 7 ∷ []
 
 print_spelled : Spells standard print_bytes print_streams (Some print_acts)
 unfolding digits
@@ -101,32 +81,14 @@ print_spelled = record {
         listed = refl;
       };
       listed = refl;
-      fits = (
-        a_fits,
-        (
-          printed_fits,
-          (
-            tt,
-            (
-              a_fits,
-              ((a_fits, omega arith), ((a_fits, tt), ((a_fits, omega arith), tt))),
-            ),
-          ),
-        ),
-      );
+      fits = omega arith;
     };
     spelled = refl;
   };
-  within = record {
-    bytes = let size : length (spelling (record {
-      streams = print_streams;
-      acts = Some print_acts;
-    })) ≡ 160 = refl in
-        omega arith;
-    processes = omega arith;
-    events = omega arith;
-    acts = omega arith;
-  };
+  within =
+      let all : Contents = record { streams = print_streams; acts = Some print_acts } in
+      let size : length (spelling all) ≡ 160 = refl in
+      omega arith;
 }
 
 abbrev print_outcomes : List Outcome
@@ -153,33 +115,29 @@ hidden_bytes =
     ++ codes "{seq_trace,17,{print,{2,3},<0.31.0>,[],8}}\nacts\ntracer <0.30.0> true\n"
     ++ codes "restore <0.30.0> 17 false false true 0 0 <0.30.0>\nprint <0.30.0> 7\n"
     ++ codes "restore <0.30.0> 17 false true false 0 0 <0.30.0>\nsend <0.30.0> <0.31.0> 5\n"
-    ++ codes
-    "receive <0.31.0> place 0\nrestore <0.31.0> 17 false false true 0 0 <0.31.0>\nprint <0.31.0> 8\n"
-    ++ codes "restore <0.31.0> 17 false true false 0 0 <0.31.0>\nsend <0.31.0> <0.30.0> 6\n"
-    ++ codes "receive <0.30.0> place 0\n"
+    ++ codes "receive <0.31.0> place 0\nrestore <0.31.0> 17 false false true 0 0 <0.31.0>\n"
+    ++ codes "print <0.31.0> 8\nrestore <0.31.0> 17 false true false 0 0 <0.31.0>\n"
+    ++ codes "send <0.31.0> <0.30.0> 6\n" ++ codes "receive <0.30.0> place 0\n"
 
 abbrev token_of : Bool → Bool → Pid → Token
 token_of r p from =
     record {
       label = label_of 17;
       flags = record { send = false; receive = r; print = p };
-      serial =
-          record { prev = 0; this = 0 };
+      serial = record { prev = 0; this = 0 };
       from = from;
     }
 
 abbrev a_stream : Stream
 a_stream = record {
   pid = a;
-  events = event_of kind.Print 0 1 a None 7
-      ∷ event_of kind.Receive 2 4 b (Some a) 6 ∷ [];
+  events = event_of kind.Print 0 1 a None 7 ∷ event_of kind.Receive 2 4 b (Some a) 6 ∷ [];
 }
 
 abbrev b_stream : Stream
 b_stream = record {
   pid = b;
-  events = event_of kind.Receive 0 2 a (Some b) 5
-      ∷ event_of kind.Print 2 3 b None 8 ∷ [];
+  events = event_of kind.Receive 0 2 a (Some b) 5 ∷ event_of kind.Print 2 3 b None 8 ∷ [];
 }
 
 abbrev hidden_streams : List Stream
@@ -188,60 +146,9 @@ hidden_streams = a_stream ∷ b_stream ∷ []
 abbrev hidden_acts : List Act
 hidden_acts =
     act.Tracer a true ∷ act.Restore a (token_of false true a) ∷ act.Print a 7
-    ∷ act.Restore a (token_of true false a)
-    ∷ act.Send a b 5
+    ∷ act.Restore a (token_of true false a) ∷ act.Send a b 5
     ∷ act.Receive b (want.Place 0) ∷ act.Restore b (token_of false true b) ∷ act.Print b 8
-    ∷ act.Restore b (token_of true false b) ∷ act.Send b a 6
-    ∷ act.Receive a (want.Place 0) ∷ []
-
-a_token_fits : (r p : Bool) → FitsToken (token_of r p a)
-a_token_fits r p =
-    record {
-      label = omega arith;
-      serial = record { prev = omega arith; this = omega arith };
-      from = a_fits;
-    }
-
-b_token_fits : (r p : Bool) → FitsToken (token_of r p b)
-b_token_fits r p =
-    record {
-      label = omega arith;
-      serial = record { prev = omega arith; this = omega arith };
-      from = b_fits;
-    }
-
-got_6_fits : FitsEvent (event_of kind.Receive 2 4 b (Some a) 6)
-got_6_fits =
-    record {
-      label = omega arith;
-      serial = record { prev = omega arith; this = omega arith };
-      from = b_fits;
-      to =
-          a_fits;
-      value = omega arith;
-    }
-
-got_5_fits : FitsEvent (event_of kind.Receive 0 2 a (Some b) 5)
-got_5_fits =
-    record {
-      label = omega arith;
-      serial = record { prev = omega arith; this = omega arith };
-      from = a_fits;
-      to =
-          b_fits;
-      value = omega arith;
-    }
-
-printed_8_fits : FitsEvent (event_of kind.Print 2 3 b None 8)
-printed_8_fits =
-    record {
-      label = omega arith;
-      serial = record { prev = omega arith; this = omega arith };
-      from = b_fits;
-      to =
-          tt;
-      value = omega arith;
-    }
+    ∷ act.Restore b (token_of true false b) ∷ act.Send b a 6 ∷ act.Receive a (want.Place 0) ∷ []
 
 hidden_spelled : Spells standard hidden_bytes hidden_streams (Some hidden_acts)
 unfolding digits
@@ -251,74 +158,19 @@ hidden_spelled = record {
       streams = record {
         draft = record {
           rising = ((refl, tt), (tt, tt));
-          own =
-              ((refl, (refl, tt)), ((refl, (refl, tt)), tt));
+          own = ((refl, (refl, tt)), ((refl, (refl, tt)), tt));
         };
         listed = refl;
       };
       listed = refl;
-      fits = (
-        a_fits,
-        (
-          printed_fits,
-          (
-            got_6_fits,
-            (
-              b_fits,
-              (
-                got_5_fits,
-                (
-                  printed_8_fits,
-                  (
-                    tt,
-                    (
-                      a_fits,
-                      (
-                        (a_fits, a_token_fits false true),
-                        (
-                          (a_fits, omega arith),
-                          (
-                            (a_fits, a_token_fits true false),
-                            (
-                              (a_fits, b_fits, omega arith),
-                              (
-                                (b_fits, omega arith),
-                                (
-                                  (b_fits, b_token_fits false true),
-                                  (
-                                    (b_fits, omega arith),
-                                    (
-                                      (b_fits, b_token_fits true false),
-                                      ((b_fits, a_fits, omega arith), ((a_fits, omega arith), tt)),
-                                    ),
-                                  ),
-                                ),
-                              ),
-                            ),
-                          ),
-                        ),
-                      ),
-                    ),
-                  ),
-                ),
-              ),
-            ),
-          ),
-        ),
-      );
+      fits = omega arith;
     };
     spelled = refl;
   };
-  within = record {
-    bytes = let size : length (spelling (record {
-      streams = hidden_streams;
-      acts = Some hidden_acts;
-    })) ≡ 597 =
-        refl in omega arith;
-    processes = omega arith;
-    events = omega arith;
-    acts = omega arith;
-  };
+  within =
+      let all : Contents = record { streams = hidden_streams; acts = Some hidden_acts } in
+      let size : length (spelling all) ≡ 597 = refl in
+      omega arith;
 }
 
 abbrev hidden_outcomes : List Outcome

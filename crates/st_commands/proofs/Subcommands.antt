@@ -58,8 +58,7 @@ module _ (words : List Text) where
       some
 
   pub ok_task : (o : Option Task) (e : Refusal) (r : Result Task Refusal) → r ≡ ok_or o e
-      → task_asked words ≡ o
-      → IfOk r (λ t. task_asked words ≡ Some t)
+      → task_asked words ≡ o → IfOk r (λ t. task_asked words ≡ Some t)
   ok_task None e r is known =
       subst (λ (x : Result Task Refusal). IfOk x (λ t. task_asked words ≡ Some t)) (sym is) tt
   ok_task (Some t) e r is known =
@@ -70,8 +69,7 @@ module _ (words : List Text) (app : App) (same : app ≡ command_line) where
   free = ap is_simple_and_free same ∙ line_free
 
   refused_by : (e : Error) (r : Refusal) → IsRefusalOf (kind_of e) r
-      → HasKind (fault_of command_line words) e
-      → IsRefusal words r
+      → HasKind (fault_of command_line words) e → IsRefusal words r
   refused_by e refused.Memory is has = tt
   refused_by e refused.Usage is (inl memory) = absurd (is memory)
   refused_by e refused.Usage is (inr among) =
@@ -79,8 +77,7 @@ module _ (words : List Text) (app : App) (same : app ≡ command_line) where
 
   -- an error of `clap`'s, unless memory ran out, says that the words ask for nothing
   pub refusal_by : (e : Error) (r : Refusal) → IsRefusalOf (kind_of e) r
-      → HasKind (fault_of app words) e
-      → IsRefusal words r
+      → HasKind (fault_of app words) e → IsRefusal words r
   refusal_by e r is has =
       refused_by e r is (subst (λ (a : App). HasKind (fault_of a words) e) same has)
 

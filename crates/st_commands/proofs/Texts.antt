@@ -16,6 +16,5 @@ verdict_some (Yes ps) =
     omega (
       arith,
       line_some (codes "yes"),
-      length-append (ended_line (codes "yes"))
-          (flat_map pair_line ps),
+      length-append (ended_line (codes "yes")) (flat_map pair_line ps),
     )

@@ -26,7 +26,6 @@ pub fn status_of(sent: Result<(), Device>, status: u8) -> u8
     }
 }
 
-/// The status of a verdict.
 fn verdict_status(verdict: &Verdict) -> u8
     ensures { result ≡ verdict_status (verdict_of verdict.now) }
 {
@@ -36,7 +35,6 @@ fn verdict_status(verdict: &Verdict) -> u8
     }
 }
 
-/// The status of a finding.
 fn finding_status(finding: &Finding) -> u8
     ensures { result ≡ finding_status finding.now }
 {
@@ -46,7 +44,6 @@ fn finding_status(finding: &Finding) -> u8
     }
 }
 
-/// The status of a fault.
 fn fault_status(fault: ReadFault) -> u8
     ensures { result ≡ fault_status fault }
 {

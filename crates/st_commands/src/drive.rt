@@ -24,7 +24,6 @@ use std::thread::Threads;
 /// The greatest rank that an entry of a log of the program can have.
 const RANKS: u64 = u64::MAX;
 
-/// Makes this many empty scripts.
 fn empty_scripts(alloc: Global, count: usize) -> Result<Vec<Sequence<Act>>, AllocError>
     ensures { IfOk result (λ scripts. scripts.items ≡ replicate count []) }
 {

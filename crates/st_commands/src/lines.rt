@@ -55,7 +55,6 @@ fn put_pair(buffer: &mut Buffer, receive: u64, send: u64)
     put_numbered(buffer, b" ", send);
 }
 
-/// Appends the words of a fault.
 fn put_fault(buffer: &mut Buffer, fault: ReadFault)
     requires { HasRoom output_room buffer.old }
     ensures { Puts output_room (fault_words fault) buffer.old buffer.new }
@@ -73,7 +72,6 @@ fn put_fault(buffer: &mut Buffer, fault: ReadFault)
     }
 }
 
-/// Appends the words of an act that was refused.
 fn put_act_fault(buffer: &mut Buffer, pid: Pid, n: u64)
     requires { HasRoom output_room buffer.old }
     ensures { Puts output_room (act_fault_words pid n) buffer.old buffer.new }
@@ -110,7 +108,6 @@ impl TextLine for OutputLine {
     }
 }
 
-/// Writes a line for each pair.
 fn write_pairs<W: ByteSink>(
     writer: &mut W,
     buffer: &mut Buffer,
@@ -125,7 +122,6 @@ fn write_pairs<W: ByteSink>(
     Ok(())
 }
 
-/// Writes a yes and its pairs.
 fn write_yes<W: ByteSink>(
     writer: &mut W,
     buffer: &mut Buffer,
@@ -138,7 +134,6 @@ fn write_yes<W: ByteSink>(
     write_pairs(writer, buffer, pairs)
 }
 
-/// Writes a verdict into the buffer.
 fn write_verdict<W: ByteSink>(
     writer: &mut W,
     buffer: &mut Buffer,

@@ -19,7 +19,6 @@ use std::convert::AsStr;
 use std::sync::Wait;
 use std::thread::Threads;
 
-/// Does what this command does.
 fn run_task<H: AllocGlobal + Threads + Wait + Sync, R: ByteSource, W: ByteSink>(
     rt: &H,
     task: Task,

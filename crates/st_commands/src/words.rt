@@ -101,7 +101,6 @@ fn task_of(name: &str, found: &ArgMatches) -> Option<Task>
     None
 }
 
-/// Why `clap` gave no matches.
 fn why_refused(error: &clap::Error) -> Refusal
     ensures { IsRefusalOf (kind_of error.now) result }
 {

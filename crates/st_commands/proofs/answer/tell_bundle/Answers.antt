@@ -7,5 +7,4 @@ use Rattle.st_commands.proofs.answer.tell_bundle.Goals as goal
 pub returns : goal.returns
 returns g c =
     delivers (call g.W.ByteSink _ _) (bundled c.args.streams.now c.args.acts.now)
-    c.write_parts-sent.result _
-    c.write_parts-sent.ensures c.status_of.ensures
+    c.write_parts-sent.result _ c.write_parts-sent.ensures c.status_of.ensures

@@ -29,12 +29,10 @@ loop-act-preserved c =
           (w.push_at.auto.scripts ∙ w.deref_mut.ensures.len)
           ∙ new
           ∙ next_scripted (pids_of c.args.streams.now) c.args.acts c.loop-act.act-index _
-          c.loop-act.scripts.items
-          w.in-Some.place c.loop-act.invariant within rising at
+          c.loop-act.scripts.items w.in-Some.place c.loop-act.invariant within rising at
       | in_default w ↦
           let others = rw (c.actor.ensures, all) at w.in_default.ensures.missing in
           ap (λ v. v.items) w.scripts-is
           ∙ next_unscripted (pids_of c.args.streams.now) c.args.acts c.loop-act.act-index _
-          c.loop-act.scripts.items
-          c.loop-act.invariant within others
+          c.loop-act.scripts.items c.loop-act.invariant within others
     ]

@@ -10,8 +10,7 @@ loop-pair-init g c = goes_still g.W.ByteSink.puts g.W.ByteSink.failed
 pub loop-pair-preserved : goal.loop-pair-preserved
 loop-pair-preserved g c =
     one_more g.W.ByteSink.puts g.W.ByteSink.failed pair_line c.args.pairs.now c.loop-pair.pair-index
-    _
-    c.loop-pair-test.true c.loop-pair.invariant c.in_ok-write_line.ensures
+    _ c.loop-pair-test.true c.loop-pair.invariant c.in_ok-write_line.ensures
 
 pub returns-in_err-write_line : goal.returns-in_err-write_line
 returns-in_err-write_line g c =
@@ -23,5 +22,4 @@ returns-in_err-write_line g c =
 pub returns : goal.returns
 returns g c =
     all_done g.W.ByteSink.puts g.W.ByteSink.failed pair_line c.args.pairs.now c.loop-pair.pair-index
-    refl
-    c.loop-pair-test.false c.loop-pair.invariant
+    refl c.loop-pair-test.false c.loop-pair.invariant

@@ -22,8 +22,7 @@ returns-in-Err-clause-told g c =
       output = refusal_output c.in-Err.refusal;
       owed =
           owes_refusal standard g.R.ByteSource c.args.reader.now
-          (map g.S.AsStr.text c.args.words.now) c.in-Err.refusal
-          c.in-Err.ensures.refusal;
+          (map g.S.AsStr.text c.args.words.now) c.in-Err.refusal c.in-Err.ensures.refusal;
       delivered = c.tell_refusal.ensures;
     }
 

@@ -19,8 +19,7 @@ returns-in-Ok g c =
       output = reports_output c.in-Ok.reports c.args.acts.now;
       owed =
           replays_to c.args.streams.now c.pids.result.now c.args.acts.now c.in-Ok.reports
-          c.pids.ensures.value
-          c.in-Ok.ensures.reports;
+          c.pids.ensures.value c.in-Ok.ensures.reports;
       delivered = c.tell_reports.ensures;
     }
 

@@ -14,8 +14,7 @@ returns-in-Some c =
     ∙ charts _ (λ t r. ParsesUnsigned 32 10 t r × ExplainsUnsignedError 10 t r
     × HasUnsignedDigitsIfOk t r)
     (λ t r h. h.0) (found_of c.args.found.now) (codes "label") c.get_one.result
-    c.get_one.ensures.none
-    c.get_one.ensures.value
+    c.get_one.ensures.none c.get_one.ensures.value
 
 pub returns-in-None : goal.returns-in-None
 returns-in-None c =
@@ -23,5 +22,4 @@ returns-in-None c =
     ∙ charts _ (λ t r. ParsesUnsigned 32 10 t r × ExplainsUnsignedError 10 t r
     × HasUnsignedDigitsIfOk t r)
     (λ t r h. h.0) (found_of c.args.found.now) (codes "label") c.get_one.result
-    c.get_one.ensures.none
-    c.get_one.ensures.value
+    c.get_one.ensures.none c.get_one.ensures.value
