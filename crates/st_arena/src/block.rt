@@ -8,7 +8,6 @@ ghost use Rattle.st_arena.specs.Blocks.{AreMarks};
 /// search waits for memory once there, and the tree above is small.
 pub(crate) const BLOCK: usize = 64;
 
-/// How many slots are live by these marks.
 pub(crate) fn count(marks: &[u8]) -> u64
     requires { AreMarks marks.now }
     ensures { result ≡ sum marks.now }

@@ -5,7 +5,6 @@ ghost use Rattle.std.specs.Prelude.{◌≡◌, ◌+◌, ◌<◌, ◌≤◌, ◌^
 ghost use Rattle.std.specs.Prelude.{false};
 ghost use Rattle.st_arena.specs.Tree.{count_at, sums, wide, IsTree, CountsLess, CountsMore};
 
-/// How many slots are live.
 pub(crate) fn count_live(counts: &[u64], height: usize) -> u64
     requires tree { IsTree counts.now height }
     ensures { result ≡ count_at counts.now 1 }

@@ -104,7 +104,6 @@ impl Comparison {
         true
     }
 
-    /// The first process with events left.
     fn first_left(&self, streams: &Streams) -> Option<Pid>
         requires { length self.now.counts.items ≡ length (pids_of streams.now) }
         ensures found { IfSome result (IsLeft streams.now self.now.counts.items) }
@@ -143,7 +142,6 @@ impl Comparison {
     }
 }
 
-/// Whether this is the event at an index.
 fn is_at(events: &[Event], index: u64, event: &Event) -> bool
     ensures { IsTrue result ↔ (slice_get events.now index ≡ Some event.now) }
 {
@@ -153,7 +151,6 @@ fn is_at(events: &[Event], index: u64, event: &Event) -> bool
     }
 }
 
-/// Whether two events are the same.
 fn is_same(one: &Event, other: &Event) -> bool
     ensures { IsTrue result ↔ (one.now ≡ other.now) }
 {

@@ -15,9 +15,7 @@ use std::alloc::{AllocError, Global};
 /// The state of a check while acts pass.
 #[derive(Drop)]
 pub(crate) struct Progress<const TOP: u64> {
-    /// The state that the acts lead to.
     world: World<TOP>,
-    /// How the acts compare with the streams.
     comparison: Comparison,
 }
 
@@ -31,7 +29,6 @@ pub(crate) enum Stop {
     Differs,
 }
 
-/// Why an act has no step.
 fn stop_of(fault: StepFault) -> Stop
     ensures { result ≡ stop_of fault }
 {
@@ -85,7 +82,6 @@ impl<const TOP: u64> Progress<TOP> {
         Ok(())
     }
 
-    /// The verdict of the acts so far.
     pub(crate) fn into_verdict(self, streams: &Streams) -> Verdict
         requires { IsEven streams.now self.comparison }
         ensures { (acts : List ActValue) →

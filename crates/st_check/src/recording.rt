@@ -18,7 +18,6 @@ use std::alloc::{AllocError, Global};
 /// The record of acts as long as they have a run.
 #[derive(Drop)]
 struct Recording<const TOP: u64> {
-    /// The state that the acts lead to.
     world: World<TOP>,
     /// The streams that the processes reported.
     streams: Draft,
@@ -146,7 +145,6 @@ impl<const TOP: u64> Recording<TOP> {
     }
 }
 
-/// Adds an act's reply, if replies are kept.
 fn keep(replies: &mut Sequence<Reply>, reply: Reply, keeps_replies: bool) -> Result<(), AllocError>
     ensures { OnOk result (replies.new ≡ replies.old ++ (if keeps_replies then reply ∷ [] else [])) }
 {

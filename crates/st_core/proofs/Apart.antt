@@ -206,7 +206,6 @@ apart_from top s (a ∷ acts) os h none once apart =
     (apart_from top t.first.after acts t.others t.is_rest none.1
     (step_once top s a t.first t.is_first none.0 once) next))
 
--- in every run without a reset
 pub run_apart : (top : ℕ) (pids : List Pid) (acts : List Act) (os : List Outcome)
     → run top pids acts ≡ Some os
     → NoReset acts → All (λ (o : Outcome). HasQueuesApart o.after) os

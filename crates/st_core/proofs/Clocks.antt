@@ -77,7 +77,6 @@ any_grows top p l m h = any_at top p l m l.token refl h
 
 -- THE ACTOR'S PART
 
--- an actor's part leaves its clock no lower
 abbrev IsNoLower : LocalState → Acted → Type 0
 IsNoLower l done = l.clock ≤ done.local.clock
 
@@ -136,7 +135,6 @@ acted_least top (act.Tracer p b) r done h = silent r _ _ done h (omega arith)
 
 -- EACH PROCESS
 
--- both counts of m are those of l
 pub record SameCounts (l m : LocalState) : Type 0 where
   pub clock : m.clock ≡ l.clock
   pub last : m.last ≡ l.last
@@ -363,7 +361,6 @@ printed_reported a r v stamped done e is_stamp h is =
     subst (λ (d : Acted). IsReported a d.local e) parts.2
     (told_reported a m r.local.traced kind.Print m.token None v e (is_stamp m parts.1) refl told)
 
--- a stamp keeps the label
 stamped_label : (top : ℕ) (p : Pid) (l m : LocalState) (n : Label) (t : Token)
     → stamp top p l ≡ Some m
     → has_label n l.token ≡ true → m.token ≡ Some t → has_label n (Some t) ≡ true
@@ -516,7 +513,6 @@ step_in top s (b ∷ acts) os (suc n) a o h at out =
     step_in top t.first.after acts t.others n a o t.is_rest at
     (ap (λ xs. slice_get xs (suc n)) (sym t.is_whole) ∙ out)
 
--- all later clocks are at least those of the state before
 clocks_above : (top : ℕ) (s : State) (acts : List Act) (os : List Outcome)
     → run_from top s acts ≡ Some os
     → NoReset acts → All (λ o. (p : Pid) → clock_in s p ≤ clock_in o.after p) os
@@ -549,7 +545,6 @@ never_fall_from top s (a ∷ acts) os h none =
     (clocks_above top t.first.after acts t.others t.is_rest none.1)
     (never_fall_from top t.first.after acts t.others t.is_rest none.1))
 
--- in every run
 pub clocks_never_fall : (top : ℕ) (pids : List Pid) (acts : List Act) (os : List Outcome)
     → run top pids acts ≡ Some os
     → NoReset acts → ClocksNeverFall os
@@ -607,7 +602,6 @@ lifts_from top s (b ∷ acts) os p this (suc n) a o h none at out lifts =
       };
     })
 
--- in every run
 pub stamps_lift : (top : ℕ) (pids : List Pid) (acts : List Act) (os : List Outcome)
     → run top pids acts ≡ Some os
     → NoReset acts → (p : Pid) (n : ℕ) (t : Token) → StampsToken acts os p n t
@@ -681,7 +675,6 @@ module _ (top : ℕ) (pids : List Pid) (acts : List Act) (os : List Outcome)
         value = x.value;
       }))
 
--- one act at most lifts a clock to a count
 pub lifted_once : (os : List Outcome) (p : Pid) (this m n : ℕ) → LiftsClock os p this m
     → LiftsClock os p this n
     → m ≡ n
@@ -693,7 +686,6 @@ lifted_once os p this m n a b = elim (cases_order m n) [
       absurd (omega arith)
 ]
 
--- and a later one to a greater count
 pub lifted_later : (os : List Outcome) (p : Pid) (x y m n : ℕ) → LiftsClock os p x m
     → LiftsClock os p y n → m < n
     → x < y

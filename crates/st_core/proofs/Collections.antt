@@ -293,7 +293,6 @@ first_failing-drop test (p ∷ ps) (e ∷ es) zero read even within is none =
 first_failing-drop test (p ∷ ps) (e ∷ es) (suc k) read even within is none =
     first_failing-drop test ps es k read (omega arith) (omega arith) is none
 
--- an event for a process leaves the pid of every stream
 pub with_event_pid : (p : Pid) (e : Event) (x : Stream) → (with_event p e x).pid ≡ x.pid
 with_event_pid p e x =
     elim (pid_eq x.pid p) as (λ b. (cond b (record x { events = x.events ++ e ∷ [] }) x).pid
@@ -306,7 +305,6 @@ pub all_apart : (ps : List Pid) (p : Pid) → AllByRecursion (IsBelow p) ps
 all_apart [] p all = tt
 all_apart (q ∷ ps) p all = (pid_eq-swap q p ∙ IsBelow-apart p q all.0, all_apart ps p all.1)
 
--- if no element passes a test, none has a position
 pub position_or_len-none : {A : Type 0} (test : A → Bool) (xs : List A)
     → AllByRecursion (λ x. test x ≡ false) xs
     → position_or_len test xs ≡ length xs

@@ -63,7 +63,6 @@ both_decided (inr no_p) q left right join = inr (λ r. no_p (left r))
 both_decided (inl p) (inr no_q) left right join = inr (λ r. no_q (right r))
 both_decided (inl p) (inl q) left right join = inl (join p q)
 
--- the numbers of two events are the same
 record SameNumbers (d e : Event) : Type 0 where
   label : d.label.0 ≡ e.label.0
   prev : d.serial.prev ≡ e.serial.prev
@@ -247,7 +246,6 @@ a_verdict top streams acts = elim (passing_front top streams acts (length acts) 
       passed_verdict top streams acts whole.0 whole.1 (left_over streams acts whole.0) refl
 ]
 
--- the verdict is yes exactly if the acts show the streams
 pub yes_shows : (top : ℕ) (streams : List Stream) (acts : List Act)
     → ((ps : List (ℕ × ℕ)) × IsVerdict top streams acts (Yes ps)) → Shows top streams acts
 yes_shows top streams acts v = (v.1.0, v.1.1, v.1.2)

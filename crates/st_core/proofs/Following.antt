@@ -224,7 +224,6 @@ follows_from top acts os n s tags (a ∷ rest) outs u =
     ] in
     subst (λ xs. Follows acts os (pairs_from tags n (a ∷ rest) xs)) (sym t.is_whole) whole
 
--- in every run
 pub receives_follow : (top : ℕ) (pids : List Pid) (acts : List Act) (os : List Outcome)
     → run top pids acts ≡ Some os
     → Follows acts os (pairs acts os)

@@ -396,7 +396,6 @@ zero_found (q ∷ pids) p =
       | false ↦ zero_found pids p
     ]
 
--- in every run
 pub tell_counts : (top : ℕ) (pids : List Pid) (acts : List Act) (os : List Outcome)
     → run top pids acts ≡ Some os
     → NoReset acts → ReportsEverything (zero_state pids) acts os → (p : Pid) (i : ℕ) (e : Event)

@@ -24,7 +24,6 @@ no_place : {X : Type 0} (b : Bool) (x : X) → cond b (Some x) None ≡ None →
 no_place true x h = absurd (none-some x (sym h))
 no_place false x h = refl
 
--- if no event fails the test, each passes
 none_fails : (test : Event → Bool) (es : List Event) → position (λ e. not (test e)) es ≡ None
     → (i : ℕ) (e : Event) → slice_get es i ≡ Some e → test e ≡ true
 none_fails test es none i e at =
@@ -60,7 +59,6 @@ by_stream x rest q i e P here there at =
       | false ↦ λ is. there is (ap (λ es. slice_get es i) (sym (events_there x rest q is)) ∙ at)
     ] refl
 
--- a process that has an event among streams above q is above q
 found_above : (q : Pid) (ss : List Stream) (p : Pid) (i : ℕ) (e : Event)
     → AllByRecursion (IsBelow q) (pids_of ss)
     → slice_get (events_of ss p) i ≡ Some e → IsBelow q p

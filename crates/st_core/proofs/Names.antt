@@ -35,7 +35,6 @@ use Rattle.st_core.proofs.Sound.{pick_found, process_holds, step_sound, zero_sou
 use Rattle.st_core.proofs.Queues.{queue_after, changed_queue, IsReceive, acted_queue, receive_none}
 use Rattle.st_core.proofs.Queues.{receive_some}
 
--- a process that is there is among the pids
 pub process_among : (s : State) (p : Pid) (r : Process) → process s p ≡ Some r → is_among
     (map (λ (x : Process). x.pid) s) p ≡ true
 process_among [] p r is = absurd (none-some r is)
@@ -244,7 +243,6 @@ changed_among pids a done r mine part named =
 
 -- STEPS AND RUNS
 
--- the pids of a state
 abbrev pub state_pids : State → List Pid
 state_pids s = map (λ r. r.pid) s
 
@@ -296,7 +294,6 @@ pub zero_pids : (pids : List Pid) → state_pids (zero_state pids) ≡ pids
 zero_pids [] = refl
 zero_pids (p ∷ pids) = ap (λ ps. p ∷ ps) (zero_pids pids)
 
--- in every run
 pub run_named : (top : ℕ) (pids : List Pid) (acts : List Act) (os : List Outcome)
     → run top pids acts ≡ Some os
     → AllZip (ReportsAmong pids) acts os

@@ -242,7 +242,6 @@ once_from top s (a ∷ acts) os h none is =
     (All-cons (λ (o : Outcome). HasStampsOnce o.after) t.first t.others next
     (once_from top t.first.after acts t.others t.is_rest none.1 next))
 
--- in every run without a reset
 pub run_once : (top : ℕ) (pids : List Pid) (acts : List Act) (os : List Outcome)
     → run top pids acts ≡ Some os
     → NoReset acts → All (λ (o : Outcome). HasStampsOnce o.after) os

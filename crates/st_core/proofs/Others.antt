@@ -18,7 +18,6 @@ use Rattle.st_core.proofs.Steps.{changed_pid, changed_untouched}
 
 -- PROCESSES
 
--- the process of p is p's
 pub process_pid : (s : State) (p : Pid) (r : Process) → process s p ≡ Some r → r.pid ≡ p
 process_pid [] p r h = absurd (none-some r h)
 process_pid (x ∷ s) p r h =
@@ -109,7 +108,6 @@ run_parts top s a rest os h =
           sym found.2;
     })
 
--- the process of p after a step
 pub process_after : (top : ℕ) (s : State) (a : Act) (o : Outcome) (t : Stepped top s a o) (p : Pid)
     → process o.after p ≡ option_map (changed a t.done) (process s p)
 process_after top s a o t p =

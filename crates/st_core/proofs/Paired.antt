@@ -34,7 +34,6 @@ use Rattle.st_core.proofs.Underway.{Underway, starts, next}
 
 -- KINDS OF REPORTS
 
--- a report is of its act's kind
 pub report_kind : (traced : Bool) (k : Kind) (token : Option Token) (to : Option Pid) (v : ℕ)
     (e : Event)
     → report traced k token to v ≡ Some e → e.kind ≡ k
@@ -48,7 +47,6 @@ abbrev IsReceive : Act → Type 0
 IsReceive (act.Receive p w) = Unit {0}
 IsReceive a = ⊥
 
--- this part of an act reports no receive
 NoReceive : Acted → Type 0
 NoReceive done = (e : Event) → done.report ≡ Some e → ¬ (e.kind ≡ kind.Receive)
 
@@ -189,7 +187,6 @@ paired_from top acts os n s tags (a ∷ rest) outs u (suc m) e is receive =
           number among,
     )
 
--- in every run
 pub receives_are_paired : (top : ℕ) (pids : List Pid) (acts : List Act) (os : List Outcome)
     → run top pids acts ≡ Some os → AllPaired os (pairs acts os)
 receives_are_paired top pids acts os h r e is receive =

@@ -142,7 +142,6 @@ below_last (q ∷ r ∷ ps) (suc k) l p len rising at h = (
   below_last (r ∷ ps) k l p (omega arith) rising.1 at h,
 )
 
--- if each is below p, the one at a place is
 pub all_at : {A : Type 0} (P : A → Type 0) (xs : List A) (i : ℕ) (x : A) → AllByRecursion P xs
     → slice_get xs i ≡ Some x
     → P x
@@ -199,7 +198,6 @@ above_at [] q j d all within = absurd (omega arith)
 above_at (p ∷ ps) q zero d all within = all.0
 above_at (p ∷ ps) q (suc j) d all within = above_at ps q j d all.1 (omega arith)
 
--- the comparison with x doesn't fall along pids that rise
 pub comparison_rises : (ps : List Pid) (x : Pid) (i j : ℕ) (d : Pid) → IsRising ps → i ≤ j
     → j < length ps
     → ordering_index (pid_cmp (get_or ps i d) x) ≤ ordering_index (pid_cmp (get_or ps j d) x)
@@ -277,6 +275,5 @@ below_decides ps l p b rising at e =
       (λ all. e ∙ ap is_lt (all_at (λ r. IsBelow r p) ps last.0 l all last.2)),
     )
 
--- no pid is below itself
 pub not_below_itself : (p : Pid) → IsBelow p p → ⊥
 not_below_itself p below = let apart = IsBelow-apart p p below in let same = pid_eq-same p in cc

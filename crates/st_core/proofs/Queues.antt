@@ -31,7 +31,6 @@ use Rattle.st_core.proofs.Sound.{acted_sound, process_holds}
 use Rattle.st_core.proofs.Tags.{no_tags}
 use Rattle.st_core.proofs.Zips.{AllZip_push, AllZip_remove, AllZip_map}
 
--- after act i the record of p has this token
 pub record TokenAfter (os : List Outcome) (i : ℕ) (p : Pid) (t : Token) : Type 0 where
   pub sender : Process
   pub is_sender : option_and_then (λ o. process o.after p) (slice_get os i) ≡ Some sender

@@ -67,7 +67,6 @@ event_reported (a ∷ acts) (o ∷ os) p i e h =
           )
     ]
 
--- the acts before a later act report no fewer events
 count_rises : (acts : List Act) (os : List Outcome) (p : Pid) (m n : ℕ) → m ≤ n
     → length (stream (take m acts) (take m os) p) ≤ length (stream (take n acts) (take n os) p)
 count_rises acts os p m n le =

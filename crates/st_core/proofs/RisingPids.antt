@@ -9,7 +9,6 @@ use Rattle.st_core.specs.declared.types.Pid.{Pid}
 use Rattle.st_core.specs.Pid.{pid_cmp, IsBelow, IsRising}
 use Rattle.st_core.proofs.Pids.{IsBelow-trans, is_lt-true}
 
--- an earlier pid is below a later one
 pub rising_at : (ps : List Pid) (i j : ℕ) (d : Pid)
     → IsRising ps → i < j → j < length ps → IsBelow (get_or ps i d) (get_or ps j d)
 rising_at [] i j d rising before within = absurd (omega arith)
@@ -27,12 +26,10 @@ all_above p q (x ∷ xs) below all = (IsBelow-trans p q x below all.0, all_above
 next : (k : ℕ) → k + 1 ≡ suc k
 next k = omega arith
 
--- each pid is below its neighbour
 abbrev NeighboursRise : List Pid → Type 0
 NeighboursRise ps = (k : ℕ) (d : Pid) → suc k < length ps
     → IsBelow (get_or ps k d) (get_or ps (suc k) d)
 
--- so each is below all after it
 rising_from_neighbours : (ps : List Pid) → NeighboursRise ps → IsRising ps
 rising_from_neighbours [] each = tt
 rising_from_neighbours (p ∷ []) each = (tt, tt)

@@ -190,7 +190,6 @@ impl Draft {
         }
     }
 
-    /// Where the pid is among the processes so far.
     fn place_of(&self, pid: Pid) -> Option<usize>
         ensures found { IfSome result (λ i. slice_get (pids_of self.now) i ≡ Some pid) }
         ensures missing { IfNone result
@@ -288,7 +287,6 @@ impl Streams {
     }
 }
 
-/// Whether the pid is above all of these, which rise.
 fn comes_last(pids: &[Pid], pid: Pid) -> bool
     requires { IsRising pids.now }
     ensures { IsTrue result ↔ AllByRecursion (λ p. IsBelow p pid) pids.now }
@@ -308,7 +306,6 @@ fn reserve_at(events: &mut [Sequence<Event>], place: usize, more: usize) -> Resu
     list.reserve(more)
 }
 
-/// Puts the event at the end of the list at this place.
 fn push_at(events: &mut [Sequence<Event>], place: usize, event: Event) -> Result<(), AllocError>
     requires { place < length events.old }
     ensures ok { OnOk result
@@ -321,7 +318,6 @@ fn push_at(events: &mut [Sequence<Event>], place: usize, event: Event) -> Result
     Ok(())
 }
 
-/// Whether the pid is among these, which rise.
 fn is_among(guesses: &Guesses, pids: &[Pid], pid: Pid) -> bool
     requires { IsRising pids.now }
     ensures { result ≡ is_among pids.now pid }

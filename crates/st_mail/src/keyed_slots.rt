@@ -28,7 +28,6 @@ impl<K: Ord + Copy> KeyedSlots<K> {
         KeyedSlots { pairs }
     }
 
-    /// Whether keys are kept.
     pub(crate) fn is_kept(&self) -> bool
         ensures { result ≡ is_kept self.now }
     {

@@ -43,7 +43,6 @@ impl Model for Mailboxes {
     ghost invariant = { λ a. AreFronts a.wiped.items a.queues.lists };
 }
 
-/// The message without its token.
 fn without_token(message: Message) -> Message
     ensures { result ≡ untraced message }
 {
@@ -157,7 +156,6 @@ impl Mailboxes {
         }
     }
 
-    /// The least place with a message from this process.
     fn find_from(&self, mailbox: usize, from: Pid) -> Option<u64>
         requires { mailbox < length self.now.boxes }
         ensures { result ≡ position (λ m. pid_eq m.from from) (queue_in self.now.boxes mailbox) }
@@ -165,7 +163,6 @@ impl Mailboxes {
         self.queues.find_from(mailbox, from)
     }
 
-    /// The least place with a message of this value.
     fn find_value(&self, mailbox: usize, value: u64) -> Option<u64>
         requires { mailbox < length self.now.boxes }
         ensures { result ≡ position (λ m. m.value == value) (queue_in self.now.boxes mailbox) }

@@ -81,7 +81,6 @@ impl Queues {
         self.lists.reserve(count)
     }
 
-    /// How many messages lie in the queue.
     pub(crate) fn len(&self, queue: usize) -> u64
         requires { queue < length self.now.lists }
         ensures { result ≡ length (list_at self.now queue) }
@@ -163,7 +162,6 @@ impl Queues {
         self.finders[queue].index_by(key)
     }
 
-    /// The least place with a message from this process.
     pub(crate) fn find_from(&self, queue: usize, from: Pid) -> Option<u64>
         requires { queue < length self.now.lists }
         ensures { result ≡ position (λ m. pid_eq m.from from) (list_at self.now queue) }
@@ -177,7 +175,6 @@ impl Queues {
         self.lists.find_first(queue, &matches)
     }
 
-    /// The least place with a message of this value.
     pub(crate) fn find_value(&self, queue: usize, value: u64) -> Option<u64>
         requires { queue < length self.now.lists }
         ensures { result ≡ position (λ m. m.value == value) (list_at self.now queue) }

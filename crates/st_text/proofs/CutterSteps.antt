@@ -451,7 +451,6 @@ grows_by limits bytes piece done xs more parts whole h = by h
     by (inl w) = EndsLine (from_done w) some
     by (inr k) = kept k
 
--- after a newline nothing is unfinished
 pub line_whole : (bytes done xs : List ℕ) → 0 < length (cut (bytes ++ (done ++ (xs ++ 10 ∷ [])))).1
     → done ++ (xs ++ 10 ∷ []) ≡ []
 line_whole bytes done xs some =

@@ -7,7 +7,6 @@ use Rattle.st_core.specs.declared.types.Pid.{Pid}
 use Rattle.st_core.specs.Pid.{pid_eq}
 use Rattle.st_text.specs.Parts.Finish.{line_at_place}
 
--- the count never falls
 pub line_ge : (f : Pid → ℕ) (n : ℕ) (ps : List Pid) (p : Pid) (i : ℕ) → n ≤ line_at_place f n ps p i
 line_ge f n [] p i = omega arith
 line_ge f n (q ∷ ps) p i = by (pid_eq q p) (line_ge f (n + 1 + f q) ps p i)

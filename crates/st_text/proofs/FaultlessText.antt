@@ -119,7 +119,6 @@ is_less Less e = refl
 is_less Equal e = absurd cc
 is_less Greater e = absurd cc
 
--- if the last of rising pids is below q, each is
 all_below : (ps : List Pid) (q : Pid) → IsRising ps
     → last_passes (λ r. not (is_lt (pid_cmp r q))) (last_of ps) ≡ false
     → AllByRecursion (λ r. IsBelow r q) ps

@@ -185,7 +185,6 @@ plain_token t f =
     (plain_decimal t.serial.prev f.serial.prev)) (plain_decimal t.serial.this f.serial.this))
     (plain_pid t.from f.from)
 
--- a word and a pid
 named_by : (word : List ℕ) (p : Pid) → list_all (λ b. not (eqb b 10)) word ≡ true → FitsPid p
     → HasNoNewline (word ++ pid p)
 named_by word p e f = plain-append word (pid p) (plain_word word e) (plain_pid p f)

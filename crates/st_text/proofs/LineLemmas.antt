@@ -18,7 +18,6 @@ use Rattle.st_text.proofs.Fields.{pid_again}
 use Rattle.st_text.proofs.EventLemmas.{event_takes, event_again}
 use Rattle.st_text.proofs.ActLemmas.{act_takes, act_again}
 
--- neither an event nor an act
 abbrev IsRare : Line → Type 0
 IsRare (lines.Header wide) = Unit {0}
 IsRare (lines.Process p) = Unit {0}
@@ -114,7 +113,6 @@ line_takes bytes l e =
     ∙ append-nil (line x.0) in
     subst (λ (k : Line). (bytes ≡ line k) × Fits k) (same_Some x.0 l g.1) (whole, t.fits)
 
--- A line that is spelled is read as itself.
 pub line_is : (l : Line) → Fits l → line_of (line l) ≡ Some l
 unfolding line_of
 line_is l fits =

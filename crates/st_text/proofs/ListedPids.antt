@@ -26,7 +26,6 @@ none_from p i (x ∷ xs) e = by (p x) e (none_from p (i + 1) xs)
     by true e more = more e
     by false e more = absurd cc
 
--- no item fails, so each passes
 pub none_unlisted : {A : Type 0} (p : A → Bool) (xs : List A) → position (λ x. not (p x)) xs ≡ None
     → list_all p xs ≡ true
 none_unlisted p xs e = none_from p 0 xs (sym (position_from-zero (λ x. not (p x)) xs) ∙ e)

@@ -27,7 +27,6 @@ use Rattle.st_text.specs.Range.{FitsToken, FitsAct, Fits, most_pid, most_label, 
 use Rattle.st_text.specs.Parsing.{line_of}
 use Rattle.st_text.proofs.LineLemmas.{line_takes}
 
--- the lengths of parts that are in a row
 two : (a b : List ℕ) (m n : ℕ) → length a ≤ m → length b ≤ n → length (a ++ b) ≤ m + n
 two a b m n p q = omega (arith, length-append a b)
 

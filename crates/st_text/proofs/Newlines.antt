@@ -166,7 +166,6 @@ pub said_back : (ls : List Line) → said (map Some ls) ≡ ls
 said_back [] = refl
 said_back (l ∷ ls) = ap (λ (x : List Line). l ∷ x) (said_back ls)
 
--- no line, and no unfinished line
 pub no_lines : (bytes : List ℕ) → sayings bytes ≡ [] → length (cut bytes).0 ≡ 0
 no_lines bytes e = sym (length-map (cut bytes).0 line_of) ∙ ap length e
 

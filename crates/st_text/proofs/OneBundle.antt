@@ -141,7 +141,6 @@ no_fault : (limits : Limits) (bytes : List ℕ) (f : ReadFault) → fault_within
     → fault_within limits bytes ≡ Some f → ⊥
 no_fault limits bytes f e g = cc
 
--- what is written is read
 pub read_back : (limits : Limits) (c : Contents) (r : Result Bundle ReadFault) → IsBundle c
     → IsWithin limits c
     → IsReadResultOrMemory limits (spelling c) r

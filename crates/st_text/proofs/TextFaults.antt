@@ -107,7 +107,6 @@ reads_end limits ended failed bytes old new (Err (faults.Unknown n)) small e = e
 reads_end limits ended failed bytes old new (Err (faults.TooMany n)) small e = e
 reads_end limits ended failed bytes old new (Err faults.Truncated) small e = e
 
--- no text has Memory for its fault
 pub no_memory : (limits : Limits) (bytes : List ℕ) (r : Result Bundle ReadFault)
     → length bytes ≤ limits.bytes
     → IsReadResult limits bytes r

@@ -50,7 +50,6 @@ fn keeps_out(wide: bool, away: bool) -> bool
     away && !wide
 }
 
-/// Whether either holds.
 fn is_either(a: bool, b: bool) -> bool
     ensures { result ≡ (a || b) }
 {
@@ -87,7 +86,6 @@ impl BundleBuilder {
         }
     }
 
-    /// Takes a process line.
     fn open(&mut self, limits: Limits, pid: Pid) -> Step
         ensures { (ls : List Line) → IsBuilt self.old ls
             → Takes limits ls (lines.Process pid) self.new result }

@@ -27,7 +27,6 @@ pub struct UnknownAct {
     pub acts: Option<Sequence<Act>>,
 }
 
-/// Whether the pid is listed in the streams.
 fn is_among(streams: &Streams, pid: Pid) -> bool
     ensures { result ≡ is_among (pids_of streams.now) pid }
 {
@@ -54,7 +53,6 @@ fn is_listed(streams: &Streams, act: &Act) -> bool
     is_among(streams, act.actor()) && is_among(streams, receiver(act))
 }
 
-/// The first act whose actor or receiver isn't listed in the streams.
 fn first_unlisted(streams: &Streams, acts: &[Act]) -> Option<usize>
     ensures { result ≡ position (λ a. not (is_listed (pids_of streams.now) a)) acts.now }
 {

@@ -80,7 +80,6 @@ pub fn write_line<S: ByteSink, L: TextLine>(
     Ok(())
 }
 
-/// Writes these lines into the buffer, one after the other.
 pub(crate) fn write_each<S: ByteSink, L: TextLine>(
     sink: &mut S,
     buffer: &mut Buffer,

@@ -121,7 +121,6 @@ fn put_bool(buffer: &mut Buffer, flag: bool)
     }
 }
 
-/// Appends a word and a truth value.
 fn put_flag(buffer: &mut Buffer, word: &[u8], flag: bool)
     requires { HasRoom (length word.now + bool_room) buffer.old }
     ensures { Puts (length word.now + bool_room)
@@ -150,7 +149,6 @@ fn put_label(buffer: &mut Buffer, label: Label)
     put_number(buffer, u64::from(label.0));
 }
 
-/// Appends a pid with words before it and after it.
 fn put_pid_between(buffer: &mut Buffer, before: &[u8], pid: Pid, behind: &[u8])
     requires { HasRoom (length before.now + length behind.now + pid_room) buffer.old }
     ensures { Puts (length before.now + length behind.now + pid_room)

@@ -17,7 +17,6 @@ use crate::sink::{Device, flush};
 use crate::spell::{Buffer, put_act, put_event, put_pid};
 use st_core::{Act, ByteSink, Event, Pid, Streams};
 
-/// Writes a process and its events.
 fn write_process<S: ByteSink>(
     sink: &mut S,
     buffer: &mut Buffer,
@@ -59,7 +58,6 @@ pub fn write_acts<S: ByteSink>(
     write_each(sink, buffer, acts)
 }
 
-/// Writes all lines after the header.
 fn write_body<S: ByteSink>(
     sink: &mut S,
     buffer: &mut Buffer,
