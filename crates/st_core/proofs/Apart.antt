@@ -23,9 +23,8 @@ use Rattle.st_core.specs.Laws.{is_reset, IsStampedBefore, NoReset}
 use Rattle.st_core.proofs.Others.{actor_is, mapped, process_after, process_pid, run_parts}
 use Rattle.st_core.proofs.Others.{step_parts, Stepped}
 use Rattle.st_core.proofs.Pids.{pid_eq-true}
-use Rattle.st_core.proofs.Queues.{changed_queue, IsReceive, own_queue, queue_after}
+use Rattle.st_core.proofs.Queues.{changed_queue, IsReceive, own_queue, queue_after, zero_queue}
 use Rattle.st_core.proofs.Once.{all_push, all_remove, all_weaker, lifted, step_once, zero_once}
-use Rattle.st_core.proofs.Once.{zero_queue}
 
 -- a message that the act puts into p's queue: its stamp is above the clock of its process
 record IsNew (s : State) (a : Act) (p : Pid) (n : Message) : Type 0 where
@@ -109,13 +108,7 @@ module _ (top : ℕ) (s : State) (P : Message → Type 0) (p : Pid) (r : Process
       subst (λ ms. AllByRecursion P (queue_after (act.Send x q v) t.done.local.token r.pid ms))
       (sym (own_queue top s (act.Send x q v) o t p r (λ no. no) is_r)) (sending x q v o h t new)
   left (act.Receive x w) o h plain t new = taking (act.Receive x w) o t w refl
-  left (act.Tracer x b) o h plain t new = quiet (act.Tracer x b) o t (λ no. no)
-  left (act.Print x v) o h plain t new = quiet (act.Print x v) o t (λ no. no)
-  left (act.PrintAt x n v) o h plain t new = quiet (act.PrintAt x n v) o t (λ no. no)
-  left (act.Set x c) o h plain t new = quiet (act.Set x c) o t (λ no. no)
-  left (act.Clear x) o h plain t new = quiet (act.Clear x) o t (λ no. no)
-  left (act.Restore x y) o h plain t new = quiet (act.Restore x y) o t (λ no. no)
-  left (act.Look x) o h plain t new = quiet (act.Look x) o t (λ no. no)
+  left a o h plain t new = quiet a o t (λ no. no)
 
 module _ (top : ℕ) (s : State) (a : Act) (o : Outcome) (h : step top s a ≡ Some o)
     (plain : is_reset a ≡ false) where

@@ -127,11 +127,7 @@ acted_least top (act.PrintAt p n v) r done h =
       | false ↦ λ h. silent r r.local reply.Done done h (omega arith)
     ] h
 acted_least top (act.Set p c) r done h = silent r _ _ done h (set_least r.pid r.local r.local.token)
-acted_least top (act.Clear p) r done h = silent r _ _ done h (omega arith)
-acted_least top (act.Restore p t) r done h = silent r _ _ done h (omega arith)
-acted_least top (act.Look p) r done h = silent r _ _ done h (omega arith)
-acted_least top (act.Reset p) r done h = silent r _ _ done h (omega arith)
-acted_least top (act.Tracer p b) r done h = silent r _ _ done h (omega arith)
+acted_least top a r done h = silent r _ _ done h (omega arith)
 
 -- EACH PROCESS
 
@@ -158,13 +154,7 @@ reached_counts (act.Tracer p on) t r plain =
       | true ↦ record { clock = refl; last = refl }
       | false ↦ same_counts r.local
     ]
-reached_counts (act.Receive p w) t r plain = same_counts r.local
-reached_counts (act.Print p v) t r plain = same_counts r.local
-reached_counts (act.PrintAt p n v) t r plain = same_counts r.local
-reached_counts (act.Set p c) t r plain = same_counts r.local
-reached_counts (act.Clear p) t r plain = same_counts r.local
-reached_counts (act.Restore p x) t r plain = same_counts r.local
-reached_counts (act.Look p) t r plain = same_counts r.local
+reached_counts a t r plain = same_counts r.local
 
 -- the actor's are those of its part, each other's as they were
 pub changed_counts : (a : Act) (done : Acted) (r : Process) (mine : Bool) → is_reset a ≡ false
@@ -271,25 +261,11 @@ acted_stamp top (act.PrintAt p n v) r done t h is token =
       | false ↦ λ none h.
           absurd (false≢true (sym (stamp_label n r done t h token none) ∙ is))
     ] refl h
-acted_stamp top (act.Receive p w) r done t h is token = absurd (false≢true is)
-acted_stamp top (act.Set p c) r done t h is token = absurd (false≢true is)
-acted_stamp top (act.Clear p) r done t h is token = absurd (false≢true is)
-acted_stamp top (act.Restore p x) r done t h is token = absurd (false≢true is)
-acted_stamp top (act.Look p) r done t h is token = absurd (false≢true is)
-acted_stamp top (act.Reset p) r done t h is token = absurd (false≢true is)
-acted_stamp top (act.Tracer p b) r done t h is token = absurd (false≢true is)
+acted_stamp top a r done t h is token = absurd (false≢true is)
 
 never_reset : (a : Act) (t : Token) → stamps a t ≡ true → is_reset a ≡ false
 never_reset (act.Reset p) t is = absurd (false≢true is)
-never_reset (act.Send p q v) t is = refl
-never_reset (act.Print p v) t is = refl
-never_reset (act.PrintAt p n v) t is = refl
-never_reset (act.Receive p w) t is = refl
-never_reset (act.Set p c) t is = refl
-never_reset (act.Clear p) t is = refl
-never_reset (act.Restore p x) t is = refl
-never_reset (act.Look p) t is = refl
-never_reset (act.Tracer p b) t is = refl
+never_reset a t is = refl
 
 -- what reaches the actor of a stamp besides its own part leaves its token
 own_token : (a : Act) (done : Acted) (r : Process) (t : Token) → stamps a t ≡ true
@@ -301,13 +277,7 @@ own_token (act.Print p v) done r t is mine =
     ap (λ b. (cond b (record r { local = done.local; queue = done.queue }) r).local.token) mine
 own_token (act.PrintAt p n v) done r t is mine =
     ap (λ b. (cond b (record r { local = done.local; queue = done.queue }) r).local.token) mine
-own_token (act.Receive p w) done r t is mine = absurd (false≢true is)
-own_token (act.Set p c) done r t is mine = absurd (false≢true is)
-own_token (act.Clear p) done r t is mine = absurd (false≢true is)
-own_token (act.Restore p x) done r t is mine = absurd (false≢true is)
-own_token (act.Look p) done r t is mine = absurd (false≢true is)
-own_token (act.Reset p) done r t is mine = absurd (false≢true is)
-own_token (act.Tracer p b) done r t is mine = absurd (false≢true is)
+own_token a done r t is mine = absurd (false≢true is)
 
 stamp_lifts : (top : ℕ) (s : State) (a : Act) (o : Outcome) (r : Process) (token : Token)
     → step top s a ≡ Some o
@@ -415,17 +385,7 @@ acted_reported top (act.PrintAt p n v) r done e h is other =
           (λ m at t has. stamped_label top r.pid r.local m n t at labelled has) h is
       | false ↦ λ _ h. silent_reported (act.PrintAt p n v) r r.local reply.Done done e h is
     ] refl h
-acted_reported top (act.Set p c) r done e h is other =
-    silent_reported (act.Set p c) r _ _ done e h is
-acted_reported top (act.Clear p) r done e h is other =
-    silent_reported (act.Clear p) r _ _ done e h is
-acted_reported top (act.Restore p t) r done e h is other =
-    silent_reported (act.Restore p t) r _ _ done e h is
-acted_reported top (act.Look p) r done e h is other = silent_reported (act.Look p) r _ _ done e h is
-acted_reported top (act.Reset p) r done e h is other =
-    silent_reported (act.Reset p) r _ _ done e h is
-acted_reported top (act.Tracer p b) r done e h is other =
-    silent_reported (act.Tracer p b) r _ _ done e h is
+acted_reported top a r done e h is other = silent_reported a r _ _ done e h is
 
 -- and so in the state after the step
 reported_stamp : (top : ℕ) (s : State) (a : Act) (o : Outcome) (e : Event) → step top s a ≡ Some o

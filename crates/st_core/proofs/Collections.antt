@@ -33,9 +33,8 @@ pids_of-collected (p ∷ ps) (e ∷ es) even = ap (λ qs. p ∷ qs) (pids_of-col
 pub ComesLast-collected : (ps : List Pid) (es : List (List Event)) (p : Pid)
     → AllByRecursion (λ q. IsBelow q p) ps
     → ComesLast (collected ps es) p
-ComesLast-collected [] es p all = tt
-ComesLast-collected (q ∷ ps) [] p all = tt
 ComesLast-collected (q ∷ ps) (e ∷ es) p all = (all.0, ComesLast-collected ps es p all.1)
+ComesLast-collected ps es p all = tt
 
 pub ComesLast-pids : (ps : List Pid) (es : List (List Event)) (p : Pid) → length es ≡ length ps
     → ComesLast (collected ps es) p → AllByRecursion (λ q. IsBelow q p) ps
@@ -50,11 +49,10 @@ pub collected-push : (ps : List Pid) (es : List (List Event)) (p : Pid) (e : Lis
     → collected (ps ++ p ∷ []) (es ++ e ∷ []) ≡ collected ps es ++ record { pid = p; events = e }
     ∷ []
 collected-push [] [] p e even = refl
-collected-push [] (f ∷ es) p e even = absurd (omega arith)
-collected-push (q ∷ ps) [] p e even = absurd (omega arith)
 collected-push (q ∷ ps) (f ∷ es) p e even =
     ap (λ (xs : List Stream). record { pid = q; events = f } ∷ xs)
     (collected-push ps es p e (omega arith))
+collected-push ps es p e even = absurd (omega arith)
 
 pub own_push : (xs : List Stream) (p : Pid) → AreOwn xs
     → AreOwn (xs ++ record { pid = p; events = [] } ∷ [])
@@ -87,9 +85,8 @@ IsCollected-push ps es n p c all = record {
 pub stream_of-missing : (ps : List Pid) (es : List (List Event)) (p : Pid)
     → AllByRecursion (λ q. pid_eq q p ≡ false) ps
     → stream_of (collected ps es) p ≡ None
-stream_of-missing [] es p all = refl
-stream_of-missing (q ∷ ps) [] p all = refl
 stream_of-missing (q ∷ ps) (e ∷ es) p all = rw all.0 (stream_of-missing ps es p all.1)
+stream_of-missing ps es p all = refl
 
 pub above_apart : (ps : List Pid) (q p : Pid) (i : ℕ) → AllByRecursion (IsBelow q) ps
     → slice_get ps i ≡ Some p
@@ -119,11 +116,10 @@ place_within (y ∷ xs) (suc i) x at = let rest = place_within xs i x at in omeg
 added_missing : (ps : List Pid) (es : List (List Event)) (p : Pid) (e : Event)
     → AllByRecursion (λ q. IsBelow p q) ps
     → added (collected ps es) p e ≡ collected ps es
-added_missing [] es p e all = refl
-added_missing (q ∷ ps) [] p e all = refl
 added_missing (q ∷ ps) (f ∷ es) p e all =
     let apart : pid_eq q p ≡ false = pid_eq-swap q p ∙ IsBelow-apart p q all.0 in
     rw (apart, added_missing ps es p e all.1) refl
+added_missing ps es p e all = refl
 
 pub added_at : (ps : List Pid) (es : List (List Event)) (p : Pid) (e : Event) (i : ℕ)
     → length es ≡ length ps
@@ -168,8 +164,6 @@ length_set xs i x = length-set xs i x
 total_at : (ps : List Pid) (es : List (List Event)) (e : Event) (i : ℕ) → length es ≡ length ps
     → i < length ps
     → total_of (collected ps (set es i (get_or es i [] ++ e ∷ []))) ≡ total_of (collected ps es) + 1
-total_at [] es e i even within = absurd (omega arith)
-total_at (q ∷ ps) [] e i even within = absurd (omega arith)
 total_at (q ∷ ps) (f ∷ es) e zero even within =
     rw (
       total_cons q (f ++ e ∷ []) (collected ps es),
@@ -184,6 +178,7 @@ total_at (q ∷ ps) (f ∷ es) e (suc i) even within =
       total_cons q f (collected ps es),
     )
     (omega arith)
+total_at ps es e i even within = absurd (omega arith)
 
 pub IsCollected-added : (ps : List Pid) (es : List (List Event)) (n : ℕ) (p : Pid) (e : Event)
     (i : ℕ)
@@ -233,12 +228,11 @@ names-collected ps es even e =
 
 failing-collected : (all : List Stream) (ps : List Pid) (es : List (List Event))
     → unlisted_among all (collected ps es) ≡ first_failing (names_listed all) ps es
-failing-collected all [] es = refl
-failing-collected all (p ∷ ps) [] = refl
 failing-collected all (p ∷ ps) (e ∷ es) =
     ap (λ (o : Option (Pid × ℕ)).
     elim (position (λ d. not (names_listed all d)) e) [ None ↦ o | Some i ↦ Some (p, i) ])
     (failing-collected all ps es)
+failing-collected all ps es = refl
 
 pub unlisted-collected : (ps : List Pid) (es : List (List Event)) → length es ≡ length ps
     → unlisted (collected ps es) ≡ first_failing (names_among ps) ps es
@@ -284,14 +278,13 @@ pub first_failing-drop : (test : Event → Bool) (ps : List Pid) (es : List (Lis
     → position (λ e. not (test e)) read ≡ None
     → first_failing test (drop k ps) (drop k es)
     ≡ first_failing test (drop (suc k) ps) (drop (suc k) es)
-first_failing-drop test [] es k read even within is none = absurd (omega arith)
-first_failing-drop test (p ∷ ps) [] k read even within is none = absurd (omega arith)
 first_failing-drop test (p ∷ ps) (e ∷ es) zero read even within is none =
     let here : position (λ d. not (test d)) e ≡ None =
     subst (λ xs. position (λ d. not (test d)) xs ≡ None) is none in
     ap (λ (o : Option ℕ). elim o [ None ↦ first_failing test ps es | Some i ↦ Some (p, i) ]) here
 first_failing-drop test (p ∷ ps) (e ∷ es) (suc k) read even within is none =
     first_failing-drop test ps es k read (omega arith) (omega arith) is none
+first_failing-drop test ps es k read even within is none = absurd (omega arith)
 
 pub with_event_pid : (p : Pid) (e : Event) (x : Stream) → (with_event p e x).pid ≡ x.pid
 with_event_pid p e x =

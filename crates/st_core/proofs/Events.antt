@@ -14,12 +14,7 @@ kind_eq-true : (k l : Kind) → kind_eq k l ≡ true → k ≡ l
 kind_eq-true kind.Send kind.Send h = refl
 kind_eq-true kind.Receive kind.Receive h = refl
 kind_eq-true kind.Print kind.Print h = refl
-kind_eq-true kind.Send kind.Receive h = absurd (cc)
-kind_eq-true kind.Send kind.Print h = absurd (cc)
-kind_eq-true kind.Receive kind.Send h = absurd (cc)
-kind_eq-true kind.Receive kind.Print h = absurd (cc)
-kind_eq-true kind.Print kind.Send h = absurd (cc)
-kind_eq-true kind.Print kind.Receive h = absurd (cc)
+kind_eq-true k l h = absurd (cc)
 
 kind_eq-same : (k : Kind) → kind_eq k k ≡ true
 kind_eq-same kind.Send = refl
@@ -28,9 +23,8 @@ kind_eq-same kind.Print = refl
 
 pub to_eq-true : (p q : Option Pid) → to_eq p q ≡ true → p ≡ q
 to_eq-true None None h = refl
-to_eq-true None (Some q) h = absurd (cc)
-to_eq-true (Some p) None h = absurd (cc)
 to_eq-true (Some p) (Some q) h = ap (λ (x : Pid). Some x) (pid_eq-true p q h)
+to_eq-true p q h = absurd (cc)
 
 pub to_eq-same : (p : Option Pid) → to_eq p p ≡ true
 to_eq-same None = refl

@@ -38,24 +38,18 @@ pid_decided p q = elim (cases_eq p.node q.node) [
 
 to_decided : (p q : Option Pid) → Decided (p ≡ q)
 to_decided None None = inl refl
-to_decided None (Some q) = inr (λ h. cc)
-to_decided (Some p) None = inr (λ h. cc)
 to_decided (Some p) (Some q) =
     elim (pid_decided p q) [
       | inl same ↦ inl (ap (λ (x : Pid). Some x) same)
       | inr apart ↦ inr (λ h. apart (same_Some p q h))
     ]
+to_decided p q = inr (λ h. cc)
 
 kind_decided : (k l : Kind) → Decided (k ≡ l)
 kind_decided kind.Send kind.Send = inl refl
 kind_decided kind.Receive kind.Receive = inl refl
 kind_decided kind.Print kind.Print = inl refl
-kind_decided kind.Send kind.Receive = inr (λ h. cc)
-kind_decided kind.Send kind.Print = inr (λ h. cc)
-kind_decided kind.Receive kind.Send = inr (λ h. cc)
-kind_decided kind.Receive kind.Print = inr (λ h. cc)
-kind_decided kind.Print kind.Send = inr (λ h. cc)
-kind_decided kind.Print kind.Receive = inr (λ h. cc)
+kind_decided k l = inr (λ h. cc)
 
 both_decided : {P Q R : Type 0} → Decided P → Decided Q → (R → P) → (R → Q) → (P → Q → R)
     → Decided R

@@ -31,8 +31,7 @@ use Rattle.st_core.proofs.Underway.{Underway, starts, next}
 
 -- a reported receive and the send whose message it took
 receive_follows : (top : ℕ) (acts : List Act) (os : List Outcome) (n : ℕ) (s : State) (tags : Tags)
-    (p : Pid) (w : Want)
-    (o : Outcome) (t : Stepped top s (act.Receive p w) o) (found : ℕ × Message)
+    (p : Pid) (w : Want) (o : Outcome) (t : Stepped top s (act.Receive p w) o) (found : ℕ × Message)
     → pick w t.before.queue ≡ Some found
     → slice_get os n ≡ Some o → AreKnown acts n tags → AreTags acts os s tags
     → (e : Event) → o.report ≡ Some e → (i : ℕ) → slice_get (tags p) found.0 ≡ Some i
@@ -159,20 +158,11 @@ pair_of : (top : ℕ) (acts : List Act) (os : List Outcome) (n : ℕ) (s : State
 pair_of top acts os n s tags (act.Receive p w) o h out known are e reported =
     pair_receive top acts os n s tags p w o (step_parts top s (act.Receive p w) o h) out known are e
     reported
-pair_of top acts os n s tags (act.Send p q v) o h out known are e reported = inl refl
-pair_of top acts os n s tags (act.Print p v) o h out known are e reported = inl refl
-pair_of top acts os n s tags (act.PrintAt p l v) o h out known are e reported = inl refl
-pair_of top acts os n s tags (act.Set p c) o h out known are e reported = inl refl
-pair_of top acts os n s tags (act.Clear p) o h out known are e reported = inl refl
-pair_of top acts os n s tags (act.Restore p t) o h out known are e reported = inl refl
-pair_of top acts os n s tags (act.Look p) o h out known are e reported = inl refl
-pair_of top acts os n s tags (act.Reset p) o h out known are e reported = inl refl
-pair_of top acts os n s tags (act.Tracer p b) o h out known are e reported = inl refl
+pair_of top acts os n s tags a o h out known are e reported = inl refl
 
 -- the same if the act's report decides
 reported_pair : (top : ℕ) (acts : List Act) (os : List Outcome) (n : ℕ) (s : State) (tags : Tags)
-    (a : Act)
-    (o : Outcome) → step top s a ≡ Some o → slice_get os n ≡ Some o → AreKnown acts n tags
+    (a : Act) (o : Outcome) → step top s a ≡ Some o → slice_get os n ≡ Some o → AreKnown acts n tags
     → AreTags acts os s tags
     → ((if is_some o.report then pair_at tags n a o.place else []) ≡ [])
     ⊎ IsPair acts os n (tags_after tags n a o.place)
@@ -203,8 +193,7 @@ follows_cons acts os n i ps one apart rest =
     }
 
 follows_from : (top : ℕ) (acts : List Act) (os : List Outcome) (n : ℕ) (s : State) (tags : Tags)
-    (rest : List Act)
-    (outs : List Outcome) → Underway top acts os n s tags rest outs
+    (rest : List Act) (outs : List Outcome) → Underway top acts os n s tags rest outs
     → Follows acts os (pairs_from tags n rest outs)
 follows_from top acts os n s tags [] outs u = follows_nil acts os
 follows_from top acts os n s tags (a ∷ rest) outs u =

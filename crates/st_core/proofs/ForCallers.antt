@@ -6,7 +6,7 @@
 pub use Rattle.st_core.proofs.Bools.{or_true, or_false, not_true, not_false, right_of, both_of}
 pub use Rattle.st_core.proofs.Bools.{both_true, and_false, or_right, false_if, some_of, some_if}
 -- ---- the order of numbers
-pub use Rattle.st_core.proofs.Pids.{is_eq-Equal, both_equal, is_lt-true, nat_cmp-Equal}
+pub use Rattle.st_core.proofs.Pids.{is_eq-Equal, is_lt-true, nat_cmp-Equal}
 pub use Rattle.st_core.proofs.Pids.{nat_cmp-same, nat_cmp-below, below_or_same, eqb-swap}
 -- ---- pids, and the streams of each
 pub use Rattle.st_core.proofs.Pids.{pid_eq-true, pid_eq-same, pid_eq-swap, pid_cmp-same}

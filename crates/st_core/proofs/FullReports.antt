@@ -181,11 +181,7 @@ acted_moves top (act.Set p c) r done h =
 acted_moves top (act.Clear p) r done h = still_moves r _ _ done false h (unmoved r.local None)
 acted_moves top (act.Restore p t) r done h =
     still_moves r _ _ done false h (unmoved r.local (Some t))
-acted_moves top (act.Look p) r done h =
-    still_moves r _ _ done false h (unmoved r.local r.local.token)
-acted_moves top (act.Reset p) r done h =
-    still_moves r _ _ done false h (unmoved r.local r.local.token)
-acted_moves top (act.Tracer p b) r done h =
+acted_moves top a r done h =
     still_moves r _ _ done false h (unmoved r.local r.local.token)
 
 -- WHAT EVENTS TELL
@@ -211,9 +207,8 @@ greatest_push [] e = omega arith
 greatest_push (d ∷ es) e = let rest = greatest_push es e in omega arith
 
 pub prev_push : (es : List Event) (e : Event) → prev_after (es ++ e ∷ []) ≡ prev_after (e ∷ [])
-prev_push [] e = refl
-prev_push (d ∷ []) e = refl
 prev_push (d ∷ f ∷ es) e = prev_push (f ∷ es) e
+prev_push es e = refl
 
 abbrev left_by : Event → Kind → ℕ
 left_by e k = elim k [

@@ -53,8 +53,7 @@ own_is p q same = ap (λ x. pid_eq x p) same ∙ pid_eq-same p
 
 -- the event of a token in force, by its parts
 event_among : (pids : List Pid) (p : Pid) (traced : Bool) (k : Kind) (token : Option Token)
-    (to : Option Pid)
-    (value : ℕ) → ((t : Token) → token ≡ Some t → is_of k t.from to p ≡ true)
+    (to : Option Pid) (value : ℕ) → ((t : Token) → token ≡ Some t → is_of k t.from to p ≡ true)
     → ((t : Token) → token ≡ Some t → is_among pids t.from ≡ true)
     → option_map_or (is_among pids) to true ≡ true
     → ForSome (report traced k token to value) (IsReportAmong pids p)
@@ -150,12 +149,7 @@ acted_among top pids (act.PrintAt p n v) r done who mine other s named h =
           (λ m at. stamp_sound top r.pid r.local m s.ordered at) h
       | false ↦ λ h. silent pids p (answers r r.local reply.Done) done refl h
     ] h
-acted_among top pids (act.Set p c) r done who mine other s named h = silent pids p _ done refl h
-acted_among top pids (act.Clear p) r done who mine other s named h = silent pids p _ done refl h
-acted_among top pids (act.Restore p t) r done who mine other s named h = silent pids p _ done refl h
-acted_among top pids (act.Look p) r done who mine other s named h = silent pids p _ done refl h
-acted_among top pids (act.Reset p) r done who mine other s named h = silent pids p _ done refl h
-acted_among top pids (act.Tracer p b) r done who mine other s named h = silent pids p _ done refl h
+acted_among top pids a r done who mine other s named h = silent pids (actor a) _ done refl h
 
 -- QUEUES
 
@@ -182,24 +176,8 @@ done_among : (top : ℕ) (pids : List Pid) (a : Act) (r : Process) (done : Acted
     → acted top r a ≡ Some done → All (λ m. is_among pids m.from ≡ true) done.queue
 done_among top pids (act.Receive p w) r done named h =
     taken_among top pids p w r done (pick w r.queue) refl named h
-done_among top pids (act.Send p q v) r done named h =
-    kept_among top pids (act.Send p q v) r done named (λ h. h) h
-done_among top pids (act.Print p v) r done named h =
-    kept_among top pids (act.Print p v) r done named (λ h. h) h
-done_among top pids (act.PrintAt p n v) r done named h =
-    kept_among top pids (act.PrintAt p n v) r done named (λ h. h) h
-done_among top pids (act.Set p c) r done named h =
-    kept_among top pids (act.Set p c) r done named (λ h. h) h
-done_among top pids (act.Clear p) r done named h =
-    kept_among top pids (act.Clear p) r done named (λ h. h) h
-done_among top pids (act.Restore p t) r done named h =
-    kept_among top pids (act.Restore p t) r done named (λ h. h) h
-done_among top pids (act.Look p) r done named h =
-    kept_among top pids (act.Look p) r done named (λ h. h) h
-done_among top pids (act.Reset p) r done named h =
-    kept_among top pids (act.Reset p) r done named (λ h. h) h
-done_among top pids (act.Tracer p b) r done named h =
-    kept_among top pids (act.Tracer p b) r done named (λ h. h) h
+done_among top pids a r done named h =
+    kept_among top pids a r done named (λ h. h) h
 
 -- what reaches a queue is from the actor
 after_among : (pids : List Pid) (a : Act) (token : Option Token) (x : Pid) (queue : List Message)
@@ -218,14 +196,7 @@ after_among pids (act.Reset p) token x queue mine all =
       | true ↦ All-map (λ (m : Message). is_among pids m.from ≡ true) untraced queue all
       | false ↦ all
     ]
-after_among pids (act.Receive p w) token x queue mine all = all
-after_among pids (act.Print p v) token x queue mine all = all
-after_among pids (act.PrintAt p n v) token x queue mine all = all
-after_among pids (act.Set p c) token x queue mine all = all
-after_among pids (act.Clear p) token x queue mine all = all
-after_among pids (act.Restore p t) token x queue mine all = all
-after_among pids (act.Look p) token x queue mine all = all
-after_among pids (act.Tracer p b) token x queue mine all = all
+after_among pids a token x queue mine all = all
 
 changed_among : (pids : List Pid) (a : Act) (done : Acted) (r : Process)
     → is_among pids (actor a) ≡ true

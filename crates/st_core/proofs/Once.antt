@@ -6,7 +6,7 @@ use Rattle.std.proofs.Common.{Option, Some, None, All, refl, sym, ◌∙◌, ap,
 use Rattle.std.specs.List.{AllByRecursion, remove}
 use Rattle.std.proofs.lemmas.Bool.{false≢true}
 use Rattle.std.proofs.lemmas.List.Elements.{All-nil, All-cons}
-use Rattle.std.proofs.lemmas.Option.{same_Some, none-some}
+use Rattle.std.proofs.lemmas.Option.{same_Some}
 use Rattle.st_core.specs.declared.types.Pid.{Pid}
 use Rattle.st_core.specs.declared.types.Token.{Token}
 use Rattle.st_core.specs.declared.types.Message.{Message}
@@ -14,7 +14,7 @@ use Rattle.st_core.specs.declared.types.Want.{Want}
 use Rattle.st_core.specs.declared.types.Act.{Act}
 use Rattle.st_core.specs.declared.types.Act.TheVariants as act
 use Rattle.st_core.specs.Pid.{pid_eq}
-use Rattle.st_core.specs.State.{LocalState, Process, State, process, zero_local, zero_state}
+use Rattle.st_core.specs.State.{LocalState, Process, State, process, zero_state}
 use Rattle.st_core.specs.Pick.{pick}
 use Rattle.st_core.specs.Step.{Acted, Outcome, acted, actor, changed, receives, step}
 use Rattle.st_core.specs.Run.{run, run_from}
@@ -23,7 +23,7 @@ use Rattle.st_core.specs.Laws.{NoReset, StampsStandOnce}
 use Rattle.st_core.proofs.Others.{actor_after, actor_is, actor_mine, mapped, process_after}
 use Rattle.st_core.proofs.Others.{run_parts, sent_local, step_parts, Stepped}
 use Rattle.st_core.proofs.Clocks.{sent, Sends, step_clock}
-use Rattle.st_core.proofs.Queues.{changed_queue, IsReceive, own_queue, queue_after}
+use Rattle.st_core.proofs.Queues.{changed_queue, IsReceive, own_queue, queue_after, zero_queue}
 
 -- LISTS
 
@@ -175,20 +175,8 @@ queue_once top s (act.Send x q v) o h plain t p r is_r is =
     (sent_once top s x q v o h t r.pid r.queue is)
 queue_once top s (act.Receive x w) o h plain t p r is_r is =
     taking top s (act.Receive x w) o h plain t p r is_r w refl is
-queue_once top s (act.Tracer x b) o h plain t p r is_r is =
-    quiet top s (act.Tracer x b) o h plain t p r is_r (λ no. no) is
-queue_once top s (act.Print x v) o h plain t p r is_r is =
-    quiet top s (act.Print x v) o h plain t p r is_r (λ no. no) is
-queue_once top s (act.PrintAt x n v) o h plain t p r is_r is =
-    quiet top s (act.PrintAt x n v) o h plain t p r is_r (λ no. no) is
-queue_once top s (act.Set x c) o h plain t p r is_r is =
-    quiet top s (act.Set x c) o h plain t p r is_r (λ no. no) is
-queue_once top s (act.Clear x) o h plain t p r is_r is =
-    quiet top s (act.Clear x) o h plain t p r is_r (λ no. no) is
-queue_once top s (act.Restore x y) o h plain t p r is_r is =
-    quiet top s (act.Restore x y) o h plain t p r is_r (λ no. no) is
-queue_once top s (act.Look x) o h plain t p r is_r is =
-    quiet top s (act.Look x) o h plain t p r is_r (λ no. no) is
+queue_once top s a o h plain t p r is_r is =
+    quiet top s a o h plain t p r is_r (λ no. no) is
 
 -- STATES AND RUNS
 
@@ -211,17 +199,6 @@ module _ (top : ℕ) (s : State) (a : Act) (o : Outcome) (h : step top s a ≡ S
     once = λ p x is_x. (after_step p x is_x).once;
     before = λ p x is_x. (after_step p x is_x).before;
   }
-
-pub zero_queue : (pids : List Pid) (p : Pid) (r : Process) → process (zero_state pids) p ≡ Some r
-    → r.queue ≡ []
-zero_queue [] p r h = absurd (none-some r h)
-zero_queue (q ∷ pids) p r h =
-    let zero : Process = record { pid = q; local = zero_local; queue = [] } in
-    elim (pid_eq q p) as (λ b. cond b (Some zero) (process (zero_state pids) p) ≡ Some r
-    → r.queue ≡ []) [
-      | true ↦ λ h. ap (λ (x : Process). x.queue) (sym (same_Some zero r h))
-      | false ↦ λ h. zero_queue pids p r h
-    ] h
 
 pub zero_once : (pids : List Pid) → HasStampsOnce (zero_state pids)
 zero_once pids = record {

@@ -29,7 +29,7 @@ use Rattle.st_core.proofs.Others.{mapped, Stepped, step_parts}
 use Rattle.st_core.proofs.Sound.{pick_found}
 use Rattle.st_core.proofs.Zips.{AllZip_length}
 use Rattle.st_core.proofs.Tags.{no_tags}
-use Rattle.st_core.proofs.Queues.{IsTag, AreTags, receive_none, receive_some}
+use Rattle.st_core.proofs.Queues.{IsReceive, IsTag, AreTags, receive_none, receive_some}
 use Rattle.st_core.proofs.Underway.{Underway, starts, next}
 
 -- KINDS OF REPORTS
@@ -41,11 +41,6 @@ report_kind traced k None to v e h = absurd (none-some e h)
 report_kind traced k (Some t) to v e h =
     sym (ap (λ (x : Event). x.kind)
     (cond_some (traced && flag_of k t.flags) (token_event k t to v) e h).1)
-
--- the act is a receive
-abbrev IsReceive : Act → Type 0
-IsReceive (act.Receive p w) = Unit {0}
-IsReceive a = ⊥
 
 NoReceive : Acted → Type 0
 NoReceive done = (e : Event) → done.report ≡ Some e → ¬ (e.kind ≡ kind.Receive)
@@ -89,12 +84,7 @@ acted_none top (act.PrintAt p n v) r done other h =
       | true ↦ prints_none r v (stamp top r.pid r.local) done
       | false ↦ silent r r.local reply.Done done
     ] h
-acted_none top (act.Set p c) r done other h = silent r _ _ done h
-acted_none top (act.Clear p) r done other h = silent r _ _ done h
-acted_none top (act.Restore p t) r done other h = silent r _ _ done h
-acted_none top (act.Look p) r done other h = silent r _ _ done h
-acted_none top (act.Reset p) r done other h = silent r _ _ done h
-acted_none top (act.Tracer p b) r done other h = silent r _ _ done h
+acted_none top a r done other h = silent r _ _ done h
 
 -- ONE RECEIVE
 
@@ -104,8 +94,7 @@ record HasPair (n : ℕ) (ps : List (ℕ × ℕ)) : Type 0 where
   pub is : ps ≡ (n, send) ∷ []
 
 receive_pair : (top : ℕ) (acts : List Act) (os : List Outcome) (n : ℕ) (s : State) (tags : Tags)
-    (p : Pid) (w : Want)
-    (o : Outcome) (t : Stepped top s (act.Receive p w) o) (e : Event)
+    (p : Pid) (w : Want) (o : Outcome) (t : Stepped top s (act.Receive p w) o) (e : Event)
     → AreTags acts os s tags → o.report ≡ Some e
     → HasPair n (pair_at tags n (act.Receive p w) o.place)
 receive_pair top acts os n s tags p w o t e are is =
@@ -130,8 +119,7 @@ receive_pair top acts os n s tags p w o t e are is =
     ] refl)
 
 pair_of : (top : ℕ) (acts : List Act) (os : List Outcome) (n : ℕ) (s : State) (tags : Tags)
-    (a : Act)
-    (o : Outcome) (e : Event) → step top s a ≡ Some o → AreTags acts os s tags
+    (a : Act) (o : Outcome) (e : Event) → step top s a ≡ Some o → AreTags acts os s tags
     → o.report ≡ Some e → e.kind ≡ kind.Receive → HasPair n (pair_at tags n a o.place)
 unfolding NoReceive
 pair_of top acts os n s tags (act.Receive p w) o e h are is receive =
@@ -144,8 +132,7 @@ pair_of top acts os n s tags a o e h are is receive =
 -- RUNS
 
 paired_from : (top : ℕ) (acts : List Act) (os : List Outcome) (n : ℕ) (s : State) (tags : Tags)
-    (rest : List Act)
-    (outs : List Outcome) → Underway top acts os n s tags rest outs
+    (rest : List Act) (outs : List Outcome) → Underway top acts os n s tags rest outs
     → (m : ℕ) (e : Event) → option_and_then (λ (o : Outcome). o.report) (slice_get outs m) ≡ Some e
     → e.kind ≡ kind.Receive → IsPaired (pairs_from tags n rest outs) (n + m)
 paired_from top acts os n s tags [] outs u m e is receive =

@@ -115,12 +115,6 @@ IsBelow-apart p q h = elim (pid_eq p q) as (λ b. pid_eq p q ≡ b → b ≡ fal
 
 -- LISTS THAT RISE
 
--- all before a pid that is below p are below p
-all_below : (ps : List Pid) (q p : Pid) → AllByRecursion (λ r. IsBelow r q) ps → IsBelow q p
-    → AllByRecursion (λ r. IsBelow r p) ps
-all_below [] q p all h = tt
-all_below (r ∷ ps) q p all h = (IsBelow-trans r q p all.0 h, all_below ps q p all.1 h)
-
 -- the pid at a place of a list each of which is above q is above q
 at_above : (ps : List Pid) (q l : Pid) (i : ℕ) → AllByRecursion (IsBelow q) ps
     → slice_get ps i ≡ Some l → IsBelow q l
@@ -135,12 +129,11 @@ pub below_last : (ps : List Pid) (k : ℕ) (l p : Pid) → length ps ≡ suc k �
 below_last [] k l p len rising at h = tt
 below_last (q ∷ []) zero l p len rising at h =
     (subst (λ r. IsBelow r p) (sym (same_Some q l at)) h, tt)
-below_last (q ∷ []) (suc k) l p len rising at h = absurd (omega arith)
-below_last (q ∷ r ∷ ps) zero l p len rising at h = absurd (omega arith)
 below_last (q ∷ r ∷ ps) (suc k) l p len rising at h = (
   IsBelow-trans q l p (at_above (r ∷ ps) q l k rising.0 at) h,
   below_last (r ∷ ps) k l p (omega arith) rising.1 at h,
 )
+below_last ps k l p len rising at h = absurd (omega arith)
 
 pub all_at : {A : Type 0} (P : A → Type 0) (xs : List A) (i : ℕ) (x : A) → AllByRecursion P xs
     → slice_get xs i ≡ Some x
@@ -201,13 +194,12 @@ above_at (p ∷ ps) q (suc j) d all within = above_at ps q j d all.1 (omega arit
 pub comparison_rises : (ps : List Pid) (x : Pid) (i j : ℕ) (d : Pid) → IsRising ps → i ≤ j
     → j < length ps
     → ordering_index (pid_cmp (get_or ps i d) x) ≤ ordering_index (pid_cmp (get_or ps j d) x)
-comparison_rises [] x i j d rising le within = absurd (omega arith)
 comparison_rises (p ∷ ps) x zero zero d rising le within = omega arith
 comparison_rises (p ∷ ps) x zero (suc j) d rising le within =
     index_rises p (get_or ps j d) x _ (above_at ps p j d rising.0 (omega arith)) refl
-comparison_rises (p ∷ ps) x (suc i) zero d rising le within = absurd (omega arith)
 comparison_rises (p ∷ ps) x (suc i) (suc j) d rising le within =
     comparison_rises ps x i j d rising.1 (omega arith) (omega arith)
+comparison_rises ps x i j d rising le within = absurd (omega arith)
 
 not_equal_apart : (p q : Pid) → ¬ (pid_cmp p q ≡ Equal) → pid_eq p q ≡ false
 not_equal_apart p q h = elim (pid_eq p q) as (λ b. pid_eq p q ≡ b → b ≡ false) [
@@ -241,20 +233,11 @@ missing_from_search ps x (Err i) rising found =
 
 pub is_lt-true : (o : Ordering) → is_lt o ≡ true → o ≡ Less
 is_lt-true Less h = refl
-is_lt-true Equal h = absurd (cc)
-is_lt-true Greater h = absurd (cc)
+is_lt-true o h = absurd (cc)
 
 pub is_eq-Equal : (o : Ordering) → is_eq o ≡ true → o ≡ Equal
-is_eq-Equal Less h = absurd (cc)
 is_eq-Equal Equal h = refl
-is_eq-Equal Greater h = absurd (cc)
-
-pub both_equal : (a b : Ordering) → is_eq (ordering_then a b) ≡ true → (a ≡ Equal) × (b ≡ Equal)
-both_equal Less b h = absurd (cc)
-both_equal Equal Less h = absurd (cc)
-both_equal Equal Equal h = (refl, refl)
-both_equal Equal Greater h = absurd (cc)
-both_equal Greater b h = absurd (cc)
+is_eq-Equal o h = absurd (cc)
 
 last_place : (ps : List Pid) (l : Pid) → slice_get ps (length ps - 1) ≡ Some l
     → (k : ℕ) × (length ps ≡ suc k) × (slice_get ps k ≡ Some l)

@@ -81,13 +81,7 @@ reached_queue (act.Tracer p on) token r =
       | true ↦ refl
       | false ↦ refl
     ]
-reached_queue (act.Receive p w) token r = refl
-reached_queue (act.Print p v) token r = refl
-reached_queue (act.PrintAt p n v) token r = refl
-reached_queue (act.Set p c) token r = refl
-reached_queue (act.Clear p) token r = refl
-reached_queue (act.Restore p t) token r = refl
-reached_queue (act.Look p) token r = refl
+reached_queue a token r = refl
 
 -- a process's queue after an act: the actor's by its part, and what reaches it
 pub changed_queue : (a : Act) (done : Acted) (r : Process)
@@ -136,12 +130,7 @@ acted_queue top (act.PrintAt p n v) r done other h =
       | true ↦ λ h. printed_queue r v (stamp top r.pid r.local) done h
       | false ↦ λ h. some_queue (answers r r.local reply.Done) done h
     ] h
-acted_queue top (act.Set p c) r done other h = some_queue _ done h
-acted_queue top (act.Clear p) r done other h = some_queue _ done h
-acted_queue top (act.Restore p t) r done other h = some_queue _ done h
-acted_queue top (act.Look p) r done other h = some_queue _ done h
-acted_queue top (act.Reset p) r done other h = some_queue _ done h
-acted_queue top (act.Tracer p b) r done other h = some_queue _ done h
+acted_queue top a r done other h = some_queue _ done h
 
 -- the queue of a process after its own part of an act that is no receive
 pub own_queue : (top : ℕ) (s : State) (a : Act) (o : Outcome) (t : Stepped top s a o) (p : Pid)
@@ -161,8 +150,7 @@ own_queue top s a o t p r other is_r =
 
 -- the token that a send gave its message is its sender's after it
 sender_token : (top : ℕ) (s : State) (p q : Pid) (v : ℕ) (o : Outcome)
-    (t : Stepped top s (act.Send p q v) o)
-    (os : List Outcome) (n : ℕ) → slice_get os n ≡ Some o
+    (t : Stepped top s (act.Send p q v) o) (os : List Outcome) (n : ℕ) → slice_get os n ≡ Some o
     → ForSome t.done.local.token (TokenAfter os n p)
 sender_token top s p q v o t os n at token is =
     let a = act.Send p q v in
@@ -212,8 +200,7 @@ tag_untraced acts os p i m is =
     }
 
 tags_reset : (acts : List Act) (os : List Outcome) (tags : Tags) (p : Pid) (token : Option Token)
-    (x : Pid)
-    (queue : List Message) → AllZip (IsTag acts os x) (tags x) queue
+    (x : Pid) (queue : List Message) → AllZip (IsTag acts os x) (tags x) queue
     → AllZip (IsTag acts os x) (tags x) (queue_after (act.Reset p) token x queue)
 tags_reset acts os tags p token x queue all =
     elim (node_eq x p) as (λ b.
@@ -294,27 +281,9 @@ tags_of_queue top acts os n s tags (act.Reset p) o t at out sound x r is all =
     tags_reset acts os tags p t.done.local.token x _
     (subst (AllZip (IsTag acts os x) (tags x))
     (sym (own_queue top s (act.Reset p) o t x r (λ h. h) is)) all)
-tags_of_queue top acts os n s tags (act.Print p v) o t at out sound x r is all =
+tags_of_queue top acts os n s tags a o t at out sound x r is all =
     subst (AllZip (IsTag acts os x) (tags x))
-    (sym (own_queue top s (act.Print p v) o t x r (λ h. h) is)) all
-tags_of_queue top acts os n s tags (act.PrintAt p l v) o t at out sound x r is all =
-    subst (AllZip (IsTag acts os x) (tags x))
-    (sym (own_queue top s (act.PrintAt p l v) o t x r (λ h. h) is)) all
-tags_of_queue top acts os n s tags (act.Set p c) o t at out sound x r is all =
-    subst (AllZip (IsTag acts os x) (tags x))
-    (sym (own_queue top s (act.Set p c) o t x r (λ h. h) is)) all
-tags_of_queue top acts os n s tags (act.Clear p) o t at out sound x r is all =
-    subst (AllZip (IsTag acts os x) (tags x))
-    (sym (own_queue top s (act.Clear p) o t x r (λ h. h) is)) all
-tags_of_queue top acts os n s tags (act.Restore p token) o t at out sound x r is all =
-    subst (AllZip (IsTag acts os x) (tags x))
-    (sym (own_queue top s (act.Restore p token) o t x r (λ h. h) is)) all
-tags_of_queue top acts os n s tags (act.Look p) o t at out sound x r is all =
-    subst (AllZip (IsTag acts os x) (tags x))
-    (sym (own_queue top s (act.Look p) o t x r (λ h. h) is)) all
-tags_of_queue top acts os n s tags (act.Tracer p b) o t at out sound x r is all =
-    subst (AllZip (IsTag acts os x) (tags x))
-    (sym (own_queue top s (act.Tracer p b) o t x r (λ h. h) is)) all
+    (sym (own_queue top s a o t x r (λ h. h) is)) all
 
 pub tags_step : (top : ℕ) (acts : List Act) (os : List Outcome) (n : ℕ) (s : State) (tags : Tags)
     (a : Act)
@@ -346,7 +315,7 @@ tags_step top acts os n s tags a o at out h sound are =
 
 -- AT THE START
 
-zero_queue : (pids : List Pid) (p : Pid) (r : Process) → process (zero_state pids) p ≡ Some r
+pub zero_queue : (pids : List Pid) (p : Pid) (r : Process) → process (zero_state pids) p ≡ Some r
     → r.queue ≡ []
 zero_queue pids p r is =
     process_holds (λ x. x.queue ≡ []) (zero_state pids) p r is

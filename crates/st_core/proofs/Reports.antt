@@ -35,8 +35,6 @@ front true (Some x) rest (suc i) e h = inr (i, omega arith, h)
 
 pub event_reported : (acts : List Act) (os : List Outcome) (p : Pid) (i : ℕ) (e : Event)
     → slice_get (stream acts os p) i ≡ Some e → (n : ℕ) × ReportsEvent acts os p i e n
-event_reported [] os p i e h = absurd (none-some e h)
-event_reported (a ∷ acts) [] p i e h = absurd (none-some e h)
 event_reported (a ∷ acts) (o ∷ os) p i e h =
     elim (front (pid_eq (actor a) p) o.report (stream acts os p) i e h) [
       | inl now ↦ (
@@ -66,6 +64,7 @@ event_reported (a ∷ acts) (o ∷ os) p i e h =
             },
           )
     ]
+event_reported acts os p i e h = absurd (none-some e h)
 
 count_rises : (acts : List Act) (os : List Outcome) (p : Pid) (m n : ℕ) → m ≤ n
     → length (stream (take m acts) (take m os) p) ≤ length (stream (take n acts) (take n os) p)

@@ -11,12 +11,11 @@ use Rattle.st_core.proofs.Pids.{IsBelow-trans, is_lt-true}
 
 pub rising_at : (ps : List Pid) (i j : ℕ) (d : Pid)
     → IsRising ps → i < j → j < length ps → IsBelow (get_or ps i d) (get_or ps j d)
-rising_at [] i j d rising before within = absurd (omega arith)
-rising_at (p ∷ ps) i zero d rising before within = absurd (omega arith)
 rising_at (p ∷ ps) zero (suc j) d rising before within =
     All-from_recursion (IsBelow p) ps rising.0 j d (omega arith)
 rising_at (p ∷ ps) (suc i) (suc j) d rising before within =
     rising_at ps i j d rising.1 (omega arith) (omega arith)
+rising_at ps i j d rising before within = absurd (omega arith)
 
 all_above : (p q : Pid) (ps : List Pid) → IsBelow p q → AllByRecursion (IsBelow q) ps
     → AllByRecursion (IsBelow p) ps

@@ -22,8 +22,6 @@ use Rattle.st_core.proofs.Names.{run_named}
 stream_among : (pids : List Pid) (acts : List Act) (os : List Outcome) (p : Pid)
     → AllZip (ReportsAmong pids) acts os
     → AllByRecursion (IsReportAmong pids p) (stream acts os p)
-stream_among pids [] os p all = tt
-stream_among pids (a ∷ acts) [] p all = tt
 stream_among pids (a ∷ acts) (o ∷ os) p all =
     let rest = stream_among pids acts os p all.1 in
     elim o.report as (λ report. ForSome report (IsReportAmong pids (actor a))
@@ -42,6 +40,7 @@ stream_among pids (a ∷ acts) (o ∷ os) p all =
             | false ↦ λ is. rest
           ] refl
     ] all.0
+stream_among pids acts os p all = tt
 
 pub lists_among : (streams : List Stream) (p : Pid) → lists streams p ≡ is_among (pids_of streams) p
 lists_among [] p = refl

@@ -255,21 +255,9 @@ acted_sound top (act.Set p c) r done is s h =
     let counts = set_ordered top r.pid c r.local s.ordered s.within in
     subst (IsActed top (act.Set p c) r) (same_Some _ done h)
     (answered top (act.Set p c) r _ _ s counts.0 counts.1 tt)
-acted_sound top (act.Clear p) r done is s h =
-    subst (IsActed top (act.Clear p) r) (same_Some _ done h)
-    (answered top (act.Clear p) r _ _ s s.ordered s.within tt)
-acted_sound top (act.Restore p t) r done is s h =
-    subst (IsActed top (act.Restore p t) r) (same_Some _ done h)
-    (answered top (act.Restore p t) r _ _ s s.ordered s.within tt)
-acted_sound top (act.Look p) r done is s h =
-    subst (IsActed top (act.Look p) r) (same_Some _ done h)
-    (answered top (act.Look p) r _ _ s s.ordered s.within tt)
-acted_sound top (act.Reset p) r done is s h =
-    subst (IsActed top (act.Reset p) r) (same_Some _ done h)
-    (answered top (act.Reset p) r _ _ s s.ordered s.within tt)
-acted_sound top (act.Tracer p b) r done is s h =
-    subst (IsActed top (act.Tracer p b) r) (same_Some _ done h)
-    (answered top (act.Tracer p b) r _ _ s s.ordered s.within tt)
+acted_sound top a r done is s h =
+    subst (IsActed top a r) (same_Some _ done h)
+    (answered top a r _ _ s s.ordered s.within tt)
 
 -- EACH PROCESS
 
@@ -309,13 +297,7 @@ reached_sound top (act.Tracer p on) token r sent s =
       | true ↦ record { ordered = s.ordered; within = s.within; queued = s.queued }
       | false ↦ s
     ]
-reached_sound top (act.Receive p w) token r sent s = s
-reached_sound top (act.Print p v) token r sent s = s
-reached_sound top (act.PrintAt p n v) token r sent s = s
-reached_sound top (act.Set p c) token r sent s = s
-reached_sound top (act.Clear p) token r sent s = s
-reached_sound top (act.Restore p t) token r sent s = s
-reached_sound top (act.Look p) token r sent s = s
+reached_sound top a token r sent s = s
 
 changed_sound : (top : ℕ) (a : Act) (before : Process) (done : Acted) → IsActed top a before done
     → (r : Process)

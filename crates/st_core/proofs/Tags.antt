@@ -112,14 +112,7 @@ pub known_step : (acts : List Act) (n : ℕ) (tags : Tags) (a : Act) (place : Op
     → AreKnown acts n tags → AreKnown acts (n + 1) (tags_after tags n a place)
 known_step acts n tags (act.Send p q v) place at k = known_send acts n tags p q v place at k
 known_step acts n tags (act.Receive p w) place at k = known_receive acts n tags p w place k
-known_step acts n tags (act.Print p v) place at k = known_kept acts n tags k
-known_step acts n tags (act.PrintAt p l v) place at k = known_kept acts n tags k
-known_step acts n tags (act.Set p c) place at k = known_kept acts n tags k
-known_step acts n tags (act.Clear p) place at k = known_kept acts n tags k
-known_step acts n tags (act.Restore p t) place at k = known_kept acts n tags k
-known_step acts n tags (act.Look p) place at k = known_kept acts n tags k
-known_step acts n tags (act.Reset p) place at k = known_kept acts n tags k
-known_step acts n tags (act.Tracer p b) place at k = known_kept acts n tags k
+known_step acts n tags a place at k = known_kept acts n tags k
 
 -- i is the number of an act before n, and tags no message
 pub record IsGone (tags : Tags) (n i : ℕ) : Type 0 where
@@ -155,14 +148,7 @@ gone_step tags n (act.Receive p w) (Some at) i g =
             | false ↦ g.absent x
           ];
     }
-gone_step tags n (act.Print p v) place i g = gone_kept tags n i g
-gone_step tags n (act.PrintAt p l v) place i g = gone_kept tags n i g
-gone_step tags n (act.Set p c) place i g = gone_kept tags n i g
-gone_step tags n (act.Clear p) place i g = gone_kept tags n i g
-gone_step tags n (act.Restore p t) place i g = gone_kept tags n i g
-gone_step tags n (act.Look p) place i g = gone_kept tags n i g
-gone_step tags n (act.Reset p) place i g = gone_kept tags n i g
-gone_step tags n (act.Tracer p b) place i g = gone_kept tags n i g
+gone_step tags n a place i g = gone_kept tags n i g
 
 pair_gone : (tags : Tags) (n : ℕ) (a : Act) (place : Option ℕ) (i : ℕ) → IsGone tags n i
     → All (λ x. i ≢ x.1) (pair_at tags n a place)
@@ -175,22 +161,12 @@ pair_gone tags n (act.Receive p w) (Some k) i g =
       | Some s ↦ λ e. All-cons P (n, s) [] (All_at (λ j. i ≢ j) (tags p) k s e (g.absent p))
           (All-nil P)
     ] refl
-pair_gone tags n (act.Send p q v) place i g = All-nil (λ x. i ≢ x.1)
-pair_gone tags n (act.Print p v) place i g = All-nil (λ x. i ≢ x.1)
-pair_gone tags n (act.PrintAt p l v) place i g = All-nil (λ x. i ≢ x.1)
-pair_gone tags n (act.Set p c) place i g = All-nil (λ x. i ≢ x.1)
-pair_gone tags n (act.Clear p) place i g = All-nil (λ x. i ≢ x.1)
-pair_gone tags n (act.Restore p t) place i g = All-nil (λ x. i ≢ x.1)
-pair_gone tags n (act.Look p) place i g = All-nil (λ x. i ≢ x.1)
-pair_gone tags n (act.Reset p) place i g = All-nil (λ x. i ≢ x.1)
-pair_gone tags n (act.Tracer p b) place i g = All-nil (λ x. i ≢ x.1)
+pair_gone tags n a place i g = All-nil (λ x. i ≢ x.1)
 
 -- what is gone is in no later pair
 pub pairs_gone : (tags : Tags) (n : ℕ) (acts : List Act) (os : List Outcome) (i : ℕ)
     → IsGone tags n i
     → All (λ x. i ≢ x.1) (pairs_from tags n acts os)
-pairs_gone tags n [] os i g = All-nil (λ x. i ≢ x.1)
-pairs_gone tags n (a ∷ acts) [] i g = All-nil (λ x. i ≢ x.1)
 pairs_gone tags n (a ∷ acts) (o ∷ os) i g =
     let P = λ (x : ℕ × ℕ). i ≢ x.1 in
     All-append P (cond (is_some o.report) (pair_at tags n a o.place) [])
@@ -200,6 +176,7 @@ pairs_gone tags n (a ∷ acts) (o ∷ os) i g =
       | false ↦ All-nil P
     ])
     (pairs_gone (tags_after tags n a o.place) (n + 1) acts os i (gone_step tags n a o.place i g))
+pairs_gone tags n acts os i g = All-nil (λ x. i ≢ x.1)
 
 sent_same : (acts : List Act) (p q : Pid) (i : ℕ) → SendsTo acts p i → SendsTo acts q i → p ≡ q
 sent_same acts p q i s t =

@@ -17,9 +17,8 @@ pub AllZip_push : {A B : Type 0} (R : A → B → Type 0) (xs : List A) (ys : Li
     → AllZip R xs ys
     → R x y → AllZip R (xs ++ x ∷ []) (ys ++ y ∷ [])
 AllZip_push R [] [] x y all one = (one, tt)
-AllZip_push R [] (b ∷ ys) x y all one = absurd all
-AllZip_push R (a ∷ xs) [] x y all one = absurd all
 AllZip_push R (a ∷ xs) (b ∷ ys) x y all one = (all.0, AllZip_push R xs ys x y all.1 one)
+AllZip_push R xs ys x y all one = absurd all
 
 pub AllZip_remove : {A B : Type 0} (R : A → B → Type 0) (xs : List A) (ys : List B) (k : ℕ)
     → AllZip R xs ys
@@ -35,9 +34,8 @@ pub AllZip_map : {A B : Type 0} (R : A → B → Type 0) (f : B → B)
     → ((x : A) (y : B) → R x y → R x (f y)) → (xs : List A)
     (ys : List B) → AllZip R xs ys → AllZip R xs (map f ys)
 AllZip_map R f keeps [] [] all = tt
-AllZip_map R f keeps [] (b ∷ ys) all = absurd all
-AllZip_map R f keeps (a ∷ xs) [] all = absurd all
 AllZip_map R f keeps (a ∷ xs) (b ∷ ys) all = (keeps a b all.0, AllZip_map R f keeps xs ys all.1)
+AllZip_map R f keeps xs ys all = absurd all
 
 pub AllZip_at : {A B : Type 0} (R : A → B → Type 0) (xs : List A) (ys : List B) (k : ℕ) (x : A)
     (y : B) → AllZip R xs ys
@@ -51,9 +49,8 @@ AllZip_at R (a ∷ xs) (b ∷ ys) (suc k) x y all at there = AllZip_at R xs ys k
 pub AllZip_length : {A B : Type 0} (R : A → B → Type 0) (xs : List A) (ys : List B) → AllZip R xs ys
     → length xs ≡ length ys
 AllZip_length R [] [] all = refl
-AllZip_length R [] (b ∷ ys) all = absurd all
-AllZip_length R (a ∷ xs) [] all = absurd all
 AllZip_length R (a ∷ xs) (b ∷ ys) all = ap suc (AllZip_length R xs ys all.1)
+AllZip_length R xs ys all = absurd all
 
 -- ALL PAIRS OF ONE LIST
 
