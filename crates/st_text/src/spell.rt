@@ -26,8 +26,10 @@ const BUFFER: usize = PIECE + LINE;
 pub type Buffer = ArrayVec<u8, BUFFER>;
 
 /// The two digits of each number below 100, one pair after the other.
-static PAIRS: [u8; 200] =
-    *b"00010203040506070809101112131415161718192021222324252627282930313233343536373839404142434445464748495051525354555657585960616263646566676869707172737475767778798081828384858687888990919293949596979899";
+static PAIRS: [u8; 200] = *b"00010203040506070809101112131415161718192021222324\
+    25262728293031323334353637383940414243444546474849\
+    50515253545556575859606162636465666768697071727374\
+    75767778798081828384858687888990919293949596979899";
 
 /// Appends bytes. Always inlined, so that words of the grammar are written in a store or two.
 #[inline(always)]
@@ -104,7 +106,8 @@ pub fn put_number(buffer: &mut Buffer, number: u64)
 /// Appends words and a decimal number.
 pub fn put_numbered(buffer: &mut Buffer, words: &[u8], number: u64)
     requires { HasRoom (length words.now + number_room) buffer.old }
-    ensures { Puts (length words.now + number_room) (words.now ++ decimal number) buffer.old buffer.new }
+    ensures { Puts (length words.now + number_room) (words.now ++ decimal number)
+        buffer.old buffer.new }
 {
     put_bytes(buffer, words);
     put_number(buffer, number);

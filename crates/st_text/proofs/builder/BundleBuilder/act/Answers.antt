@@ -57,7 +57,8 @@ returns c = λ ls s.
     ap (λ b. b && not p.wide) (sym c.is_act_remote-away.ensures) ∙ sym c.keeps_out.ensures
     ∙ c.if-keeps_out.false in
     let count : acts_len p.acts ≡ c.len.result = ap acts_len c.in-Some.is ∙ sym c.len.ensures in
-    let remote = c.is_either-self.ensures ∙ ap (λ b. p.remote || b) c.is_act_remote-away.ensures in (
+    let remote =
+    c.is_either-self.ensures ∙ ap (λ b. p.remote || b) c.is_act_remote-away.ensures in (
       act_good c.args.limits p ls c.args.act.now c.in-Some.acts s c.in-Some.is out
           (omega (arith, count, c.if-len-limits.false)),
       sound_act p _ ls c.in-Some.acts c.args.act.now s c.in-Some.is refl
