@@ -126,9 +126,8 @@ away_out false wide away e = refl
 
 pub let_in : (f wide away : Bool) → f ≡ true → (away && not wide) ≡ false
     → (f && (wide || not away)) ≡ true
-let_in f true away e h = rw e refl
 let_in f false true e h = absurd cc
-let_in f false false e h = rw e refl
+let_in f wide away e h = rw e refl
 
 pub not_begun : (a : Bool) → a ≡ false → not a ≡ true
 not_begun a e = rw e refl

@@ -2,7 +2,7 @@
 -- it: so lines without a fault are within the limits on counts.
 use Rattle.std.proofs.Common.{◌≡◌, ℕ, ◌+◌, ◌≤◌, Bool, true, false, not, cond, leb, List, [], ◌∷◌}
 use Rattle.std.proofs.Common.{◌++◌, length, map}
-use Rattle.std.proofs.Common.{Some, None, refl, sym, ap, subst, append_assoc, arith}
+use Rattle.std.proofs.Common.{Some, None, refl, sym, ◌∙◌, ap, subst, append_assoc, arith}
 use Rattle.std.specs.List.{count_by}
 use Rattle.std.proofs.lemmas.Bool.Decides.{nat_tests}
 use Rattle.std.proofs.lemmas.List.{append-nil, length_push}
@@ -43,10 +43,7 @@ passes limits ls l e =
         ≡ None
         → (a ≡ true) × (b ≡ false) × (c ≡ false) × (d ≡ false)
     by n true false false false e = (refl, refl, refl, refl)
-    by n true false false true e = absurd cc
-    by n true false true d e = absurd cc
-    by n true true c d e = absurd cc
-    by n false b c d e = absurd cc
+    by n a b c d e = absurd cc
 
 -- ---- how many lines of each kind there are
 
@@ -61,18 +58,6 @@ below m n e = grind (arith, nat_tests)
 -- one more line: it is one more of its kind alone, and that one passed the test
 one_more : (limits : Limits) (ls : List Line) (l : Line) → AreFew limits ls → Passes limits ls l
     → AreFew limits (ls ++ l ∷ [])
-one_more limits ls (lines.Header b) g p =
-    let l = lines.Header b in
-    record {
-      processes = omega (
-        arith,
-        ap length (pids_push ls l),
-        ap length (append-nil (pids ls)),
-        g.processes,
-      );
-      events = omega (arith, count_push is_event ls l, g.events);
-      acts = omega (arith, count_push is_act ls l, g.acts);
-    }
 one_more limits ls (lines.Process q) g p =
     let l = lines.Process q in
     let room = below limits.processes (length (pids ls)) p.few in
@@ -85,39 +70,23 @@ one_more limits ls (lines.Event e) g p =
     let l = lines.Event e in
     let room = below limits.events (count_by is_event ls) p.few in
     record {
-      processes = omega (
-        arith,
-        ap length (pids_push ls l),
-        ap length (append-nil (pids ls)),
-        g.processes,
-      );
+      processes = omega (arith, ap length (pids_push ls l ∙ append-nil (pids ls)), g.processes);
       events = omega (arith, count_push is_event ls l, room);
-      acts = omega (arith, count_push is_act ls l, g.acts);
-    }
-one_more limits ls lines.Acts g p =
-    let l = lines.Acts in
-    record {
-      processes = omega (
-        arith,
-        ap length (pids_push ls l),
-        ap length (append-nil (pids ls)),
-        g.processes,
-      );
-      events = omega (arith, count_push is_event ls l, g.events);
       acts = omega (arith, count_push is_act ls l, g.acts);
     }
 one_more limits ls (lines.Act a) g p =
     let l = lines.Act a in
     let room = below limits.acts (count_by is_act ls) p.few in
     record {
-      processes = omega (
-        arith,
-        ap length (pids_push ls l),
-        ap length (append-nil (pids ls)),
-        g.processes,
-      );
+      processes = omega (arith, ap length (pids_push ls l ∙ append-nil (pids ls)), g.processes);
       events = omega (arith, count_push is_event ls l, g.events);
       acts = omega (arith, count_push is_act ls l, room);
+    }
+one_more limits ls l g p =
+    record {
+      processes = omega (arith, ap length (pids_push ls l ∙ append-nil (pids ls)), g.processes);
+      events = omega (arith, count_push is_event ls l, g.events);
+      acts = omega (arith, count_push is_act ls l, g.acts);
     }
 
 more_few : (limits : Limits) (ls more : List Line) → AreFew limits ls

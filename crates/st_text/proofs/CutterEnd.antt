@@ -24,7 +24,7 @@ use Rattle.st_text.specs.Parts.Builder.{so_far, IsBuilt}
 use Rattle.st_text.specs.Parts.Finish.{IsFinished, Finishes}
 use Rattle.st_text.specs.Parts.Cutter.{IsTail}
 use Rattle.st_text.specs.Parts.CutterState.{HasTakenAs}
-use Rattle.st_text.specs.Answer.{IsReadResultOrMemory, IsReadResult, Reads}
+use Rattle.st_text.specs.Answer.{IsReadResult, Reads}
 use Rattle.st_text.proofs.Newlines.{spelled_by, no_lines, fault_of_line, fault_truncated}
 use Rattle.st_text.proofs.Newlines.{fault_at_end, truncated_tail, truncated_nothing, truncated_none}
 use Rattle.st_text.proofs.CountLimits.{all_few}
@@ -32,45 +32,26 @@ use Rattle.st_text.proofs.GoodLines.{count-append, count-cons}
 use Rattle.st_text.proofs.Headers.{spelled_whole, body_fits}
 use Rattle.st_text.specs.declared.limits.Limits.{Limits}
 
--- an answer that isn't Memory is one
-pub answers : (limits : Limits) (bytes : List ℕ) (r : Result Bundle ReadFault)
-    → IsReadResult limits bytes r
-    → IsReadResultOrMemory limits bytes r
-answers limits bytes (Ok b) h = h
-answers limits bytes (Err faults.Memory) h = tt
-answers limits bytes (Err faults.Device) h = h
-answers limits bytes (Err faults.TooLarge) h = h
-answers limits bytes (Err (faults.Line n)) h = h
-answers limits bytes (Err (faults.Order n)) h = h
-answers limits bytes (Err (faults.Foreign n)) h = h
-answers limits bytes (Err (faults.Unknown n)) h = h
-answers limits bytes (Err (faults.TooMany n)) h = h
-answers limits bytes (Err faults.Truncated) h = h
-
 -- a fault was met
 pub end_fault : (limits : Limits) (bytes : List ℕ) (out : Bool) (o : Option ReadFault) (long : Bool)
-    (kept : List ℕ)
-    (p : Option BundleBuilder) (f : ReadFault)
+    (kept : List ℕ) (p : Option BundleBuilder) (f : ReadFault)
     → out ≡ false → o ≡ Some f → length bytes ≤ limits.bytes
     → HasTakenAs limits out o bytes long kept p
     → fault_within limits bytes ≡ Some f
-end_fault limits bytes true o long kept p f eo ef few h = absurd cc
-end_fault limits bytes false None long kept p f eo ef few h = absurd cc
 end_fault limits bytes false (Some g) long kept p f eo ef few h =
     let same : g ≡ f =
     cc in fault_of_line limits bytes f few
     (subst (λ (x : ReadFault). first_fault limits [] (sayings bytes) ≡ Some x)
     same h)
+end_fault limits bytes out o long kept p f eo ef few h = absurd cc
 
 -- none was met
 pub good : (limits : Limits) (bytes : List ℕ) (out : Bool) (o : Option ReadFault) (long : Bool)
-    (kept : List ℕ)
-    (p : Option BundleBuilder)
+    (kept : List ℕ) (p : Option BundleBuilder)
     → out ≡ false → o ≡ None → HasTakenAs limits out o bytes long kept p
     → HasTakenAs limits false None bytes long kept p
-good limits bytes true o long kept p eo ef h = absurd cc
-good limits bytes false (Some g) long kept p eo ef h = absurd cc
 good limits bytes false None long kept p eo ef h = h
+good limits bytes out o long kept p eo ef h = absurd cc
 
 long_some : (long : Bool) (kept t : List ℕ) → long ≡ true → IsTail long kept t → 0 < length t
 long_some true kept t e h = omega arith
@@ -231,9 +212,7 @@ small_count ls p s =
     )
 
 pub end_finish : (limits : Limits) (bytes : List ℕ) (long : Bool) (kept : List ℕ)
-    (o : Option BundleBuilder)
-    (p : BundleBuilder)
-    (r : Result Bundle ReadFault)
+    (o : Option BundleBuilder) (p : BundleBuilder) (r : Result Bundle ReadFault)
     → long ≡ false → kept ≡ [] → o ≡ Some p → length bytes ≤ limits.bytes
     → ((ls : List Line) → IsBuilt p ls → length ls < 2 ^ 64 → Finishes ls p r)
     → HasTakenAs limits false None bytes long kept o → IsReadResult limits bytes r

@@ -92,15 +92,11 @@ unfolding first_fault
 holds_nothing limits kept e = ([], record { tail_is = e; held = refl; said = refl; good = refl })
 
 pub holds_kept : (limits : Limits) (out : Bool) (fault : Option ReadFault) (bytes xs : List ℕ)
-    (long long' : Bool)
-    (kept kept' : List ℕ)
-    (p : Option BundleBuilder)
+    (long long' : Bool) (kept kept' : List ℕ) (p : Option BundleBuilder)
     → out ≡ false → fault ≡ None → HasNoNewline xs
     → (IsTail long kept (cut bytes).1 → IsTail long' kept' ((cut bytes).1 ++ xs))
     → HasTakenAs limits out fault bytes long kept p
     → HasTakenAs limits out fault (bytes ++ xs) long' kept' p
-holds_kept limits true fault bytes xs long long' kept kept' p eo ef plain tail h = absurd cc
-holds_kept limits false (Some f) bytes xs long long' kept kept' p eo ef plain tail h = absurd cc
 holds_kept limits false None bytes xs long long' kept kept' p eo ef plain tail h =
     let same = sayings_plain bytes xs plain in (
       h.0,
@@ -111,6 +107,7 @@ holds_kept limits false None bytes xs long long' kept kept' p eo ef plain tail h
         good = ap (first_fault limits []) same ∙ h.1.good;
       },
     )
+holds_kept limits out fault bytes xs long long' kept kept' p eo ef plain tail h = absurd cc
 
 pub tail_long : (long : Bool) (kept t xs : List ℕ) → long ≡ true → IsTail long kept t
     → IsTail long kept (t ++ xs)
@@ -170,22 +167,14 @@ first_is_header limits wide = refl
 
 pub header_some : (said : Option Line) (wide : Bool) → header_of said ≡ Some wide
     → said ≡ Some (lines.Header wide)
-header_some None wide e = absurd cc
 header_some (Some (lines.Header w)) wide e = let same : w ≡ wide = cc in cc
-header_some (Some (lines.Process p)) wide e = absurd cc
-header_some (Some (lines.Event v)) wide e = absurd cc
-header_some (Some lines.Acts) wide e = absurd cc
-header_some (Some (lines.Act a)) wide e = absurd cc
+header_some said wide e = absurd cc
 
 pub header_none : (limits : Limits) (said : Option Line) → header_of said ≡ None
     → line_fault limits [] said ≡ Some (faults.Line 1)
 unfolding line_fault
-header_none limits None e = refl
 header_none limits (Some (lines.Header w)) e = absurd cc
-header_none limits (Some (lines.Process p)) e = refl
-header_none limits (Some (lines.Event v)) e = refl
-header_none limits (Some lines.Acts) e = refl
-header_none limits (Some (lines.Act a)) e = refl
+header_none limits said e = refl
 
 pub none_held : (o : Option BundleBuilder) (ls : List Line) → o ≡ None → IsStateAfter o ls → ls ≡ []
 none_held None ls e h = h
@@ -197,9 +186,7 @@ pub some_held : (o : Option BundleBuilder) (p : BundleBuilder) (ls : List Line) 
 some_held o p ls e h = subst (λ (x : Option BundleBuilder). IsStateAfter x ls) e h
 
 pub said_some : (limits : Limits) (old : Option BundleBuilder) (p new : BundleBuilder)
-    (ls : List Line)
-    (said : Option Line)
-    (step : Step)
+    (ls : List Line) (said : Option Line) (step : Step)
     → old ≡ Some p → ((ls : List Line) → IsBuilt p ls → TakesLine limits ls said new step)
     → IsStateAfter old ls
     → TakesSaid limits ls said (Some new) step
@@ -207,9 +194,7 @@ said_some limits old p new ls said step e takes h =
     said_by limits ls said new step (takes ls (some_held old p ls e h))
 
 pub said_header : (limits : Limits) (old : Option BundleBuilder) (new : BundleBuilder)
-    (ls : List Line)
-    (said : Option Line)
-    (wide : Bool)
+    (ls : List Line) (said : Option Line) (wide : Bool)
     → old ≡ None → header_of said ≡ Some wide → IsBuilt new (lines.Header wide ∷ [])
     → IsStateAfter old ls
     → TakesSaid limits ls said (Some new) Goes
@@ -232,9 +217,7 @@ said_none limits old ls said e is h = rw (none_held old ls e h) (header_none lim
 
 -- a good line
 pub line_goes : (limits : Limits) (out : Bool) (fault : Option ReadFault) (bytes xs : List ℕ)
-    (long long' : Bool)
-    (kept kept' : List ℕ)
-    (p new : Option BundleBuilder) (said : Option Line)
+    (long long' : Bool) (kept kept' : List ℕ) (p new : Option BundleBuilder) (said : Option Line)
     → out ≡ false → fault ≡ None → long' ≡ false → HasNoNewline xs → kept' ≡ []
     → (IsTail long kept (cut bytes).1 → said ≡ line_of ((cut bytes).1 ++ xs))
     → ((ls : List Line) → IsStateAfter p ls → TakesSaid limits ls said new Goes)
@@ -267,8 +250,7 @@ line_goes limits false None bytes xs long false kept kept' p new said eo ef el p
 
 -- a faulty line
 pub line_stops : (limits : Limits) (out : Bool) (fault : Option ReadFault) (bytes xs : List ℕ)
-    (long long' : Bool)
-    (kept kept' : List ℕ)
+    (long long' : Bool) (kept kept' : List ℕ)
     (p new : Option BundleBuilder) (said : Option Line) (f : ReadFault)
     → out ≡ false → fault ≡ None → HasNoNewline xs
     → (IsTail long kept (cut bytes).1 → said ≡ line_of ((cut bytes).1 ++ xs))
@@ -290,15 +272,11 @@ line_stops limits false None bytes xs long long' kept kept' p new said f eo ef p
 
 -- a good line for which there was no room
 pub line_halts : (limits : Limits) (out : Bool) (fault : Option ReadFault) (bytes xs : List ℕ)
-    (long : Bool)
-    (kept : List ℕ)
-    (p new : Option BundleBuilder) (said : Option Line)
+    (long : Bool) (kept : List ℕ) (p new : Option BundleBuilder) (said : Option Line)
     → out ≡ false → fault ≡ None → HasNoNewline xs
     → (IsTail long kept (cut bytes).1 → said ≡ line_of ((cut bytes).1 ++ xs))
     → ((ls : List Line) → IsStateAfter p ls → TakesSaid limits ls said new Halts)
     → HasTakenAs limits out fault bytes long kept p → EndsKept limits (bytes ++ (xs ++ 10 ∷ []))
-line_halts limits true fault bytes xs long kept p new said eo ef plain says takes h = absurd cc
-line_halts limits false (Some f) bytes xs long kept p new said eo ef plain says takes h = absurd cc
 line_halts limits false None bytes xs long kept p new said eo ef plain says takes h =
     let ls = h.0 in
     let t = takes ls h.1.held in
@@ -314,16 +292,13 @@ line_halts limits false None bytes xs long kept p new said eo ef plain says take
       good = ap (first_fault limits []) all ∙ at ∙ t.good;
       kept = t.kept;
     }
+line_halts limits out fault bytes xs long kept p new said eo ef plain says takes h = absurd cc
 
 -- bytes join the unfinished line
 pub adds_bytes : (limits : Limits) (out : Bool) (fault : Option ReadFault) (bytes xs : List ℕ)
-    (long : Bool)
-    (kept : List ℕ)
-    (p : Option BundleBuilder)
+    (long : Bool) (kept : List ℕ) (p : Option BundleBuilder)
     → out ≡ false → fault ≡ None → HasNoNewline xs → 0 < length xs
     → HasTakenAs limits out fault bytes long kept p → AddsBytes limits bytes xs
-adds_bytes limits true fault bytes xs long kept p eo ef plain some h = absurd cc
-adds_bytes limits false (Some f) bytes xs long kept p eo ef plain some h = absurd cc
 adds_bytes limits false None bytes xs long kept p eo ef plain some h =
     record {
       within = record {
@@ -337,19 +312,16 @@ adds_bytes limits false None bytes xs long kept p eo ef plain some h =
       };
       some = some;
     }
+adds_bytes limits out fault bytes xs long kept p eo ef plain some h = absurd cc
 
 -- a line that is kept so far has begun
 pub ends_within : (limits : Limits) (out : Bool) (fault : Option ReadFault) (bytes : List ℕ)
-    (long : Bool)
-    (kept : List ℕ)
-    (p : Option BundleBuilder)
+    (long : Bool) (kept : List ℕ) (p : Option BundleBuilder)
     → out ≡ false → fault ≡ None → long ≡ false → 0 < length kept
     → HasTakenAs limits out fault bytes long kept p → EndsWithin limits bytes
-ends_within limits true fault bytes long kept p eo ef el some h = absurd cc
-ends_within limits false (Some f) bytes long kept p eo ef el some h = absurd cc
-ends_within limits false None bytes true kept p eo ef el some h = absurd cc
 ends_within limits false None bytes false kept p eo ef el some h =
     record { good = h.1.good; some = omega (arith, some, ap length h.1.tail_is) }
+ends_within limits out fault bytes long kept p eo ef el some h = absurd cc
 
 -- memory didn't run out
 pub not_out : {R : Type 0} (out : Bool) → out ≡ false → out ≡ true → R
@@ -358,20 +330,12 @@ not_out false e f = absurd cc
 
 -- after a fault, or without memory, more bytes change nothing
 pub holds_over : (limits : Limits) (out : Bool) (fault : Option ReadFault) (bytes xs : List ℕ)
-    (long : Bool)
-    (kept : List ℕ)
-    (p : Option BundleBuilder)
+    (long : Bool) (kept : List ℕ) (p : Option BundleBuilder)
     → (out || is_some fault) ≡ true → HasTakenAs limits out fault bytes long kept p
     → HasTakenAs limits out fault (bytes ++ xs) long kept p
 holds_over limits true fault bytes xs long kept p over h = tt
 holds_over limits false (Some f) bytes xs long kept p over h = fault_more limits bytes xs f h
 holds_over limits false None bytes xs long kept p over h = absurd cc
-
-pub going : (out : Bool) (fault : Option ReadFault) → (out || is_some fault) ≡ false
-    → (out ≡ false) × (fault ≡ None)
-going true fault e = absurd cc
-going false (Some f) e = absurd cc
-going false None e = (refl, refl)
 
 -- ---- the newlines of a piece
 

@@ -64,22 +64,18 @@ head_again h rest fits =
 place_takes : (k : Kind) (bytes : List ℕ) (x : Option Pid × List ℕ) → parse_place k bytes ≡ Some x
     → Takes place (FitsPlace k) bytes x
 unfolding parse_place parse_some_pid
-place_takes kinds.Send bytes x e =
-    field_next (pid_takes bytes) (unread bytes) e λ p fits s e. made e s fits
-place_takes kinds.Receive bytes x e =
-    field_next (pid_takes bytes) (unread bytes) e λ p fits s e. made e s fits
 place_takes kinds.Print bytes x e =
     begins_cases (codes "[]") bytes e (λ rest s e. made e s tt) none_left
+place_takes k bytes x e =
+    field_next (pid_takes bytes) (unread bytes) e λ p fits s e. made e s fits
 
 place_again : (k : Kind) (o : Option Pid) (rest : List ℕ) → FitsPlace k o
     → parse_place k (place o ++ rest) ≡ Some (o, rest)
 unfolding parse_place parse_some_pid
-place_again kinds.Send (Some p) rest fits = rw (pid_again p rest fits)
-place_again kinds.Send None rest fits = absurd fits
-place_again kinds.Receive (Some p) rest fits = rw (pid_again p rest fits)
-place_again kinds.Receive None rest fits = absurd fits
-place_again kinds.Print (Some p) rest fits = absurd fits
 place_again kinds.Print None rest fits = refl
+place_again kinds.Print (Some p) rest fits = absurd fits
+place_again k None rest fits = absurd fits
+place_again k (Some p) rest fits = rw (pid_again p rest fits)
 
 abbrev Ends : Type 0
 Ends = Pid × Option Pid

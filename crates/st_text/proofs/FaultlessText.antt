@@ -7,7 +7,7 @@ use Rattle.std.proofs.Common.{sym, ap, subst, ◌∙◌, append_assoc, arith}
 use Rattle.std.specs.Prelude.{is_some}
 use Rattle.std.specs.List.{flat_map, count_by, list_any, list_all, AllByRecursion}
 use Rattle.std.specs.declared.cmp.Ordering.{Ordering}
-use Rattle.std.specs.declared.cmp.Ordering.TheVariants.{Less, Equal, Greater}
+use Rattle.std.specs.declared.cmp.Ordering.TheVariants.{Less}
 use Rattle.std.specs.Ordering.{is_lt}
 use Rattle.std.proofs.lemmas.Bool.Decides.{nat_tests}
 use Rattle.std.proofs.lemmas.Bool.{eqb-true}
@@ -116,8 +116,7 @@ some_last (Some p) e = (p, refl)
 
 is_less : (o : Ordering) → not (is_lt o) ≡ false → o ≡ Less
 is_less Less e = refl
-is_less Equal e = absurd cc
-is_less Greater e = absurd cc
+is_less o e = absurd cc
 
 all_below : (ps : List Pid) (q : Pid) → IsRising ps
     → last_passes (λ r. not (is_lt (pid_cmp r q))) (last_of ps) ≡ false
@@ -299,10 +298,7 @@ begin limits (lines.Header b) p =
       lines = refl;
       draft = record { rising = tt; own = tt };
     }
-begin limits (lines.Process q) p = let no = p.stands in absurd cc
-begin limits (lines.Event e) p = let no = p.stands in absurd cc
-begin limits lines.Acts p = let no = p.stands in absurd cc
-begin limits (lines.Act a) p = let no = p.stands in absurd cc
+begin limits l p = let no = p.stands in absurd cc
 
 gather : (limits : Limits) (rs : List (Option Line)) → first_fault limits [] rs ≡ None
     → 0 < length rs → GoOn [] rs

@@ -69,8 +69,7 @@ came_more ls wide ps events acts begun l c =
 
 -- a line that passes each test has no fault
 pub line_passes : (limits : Limits) (ls : List Line) (wide : Bool) (ps : List Pid) (events acts : ℕ)
-    (begun : Bool)
-    (l : Line)
+    (begun : Bool) (l : Line)
     → Came ls wide ps events acts begun
     → may_follow begun (last_of ps) l ≡ true → (wide || not (is_remote l)) ≡ true
     → is_out_of_order (last_of ps) l ≡ false
@@ -141,8 +140,7 @@ under false false b e = (refl, e)
 
 -- the events of the last process
 pub events_pass : (limits : Limits) (es : List Event) (ls more : List Line) (wide : Bool)
-    (ps : List Pid) (m k : ℕ)
-    (p : Pid)
+    (ps : List Pid) (m k : ℕ) (p : Pid)
     → Came ls wide ps m k false → last_of ps ≡ Some p → AllByRecursion (λ e. is_own p e ≡ true) es
     → (wide || not (list_any is_remote (map lines.Event es))) ≡ true → m + length es ≤ limits.events
     → (first_fault limits ls (map Some (map lines.Event es ++ more))

@@ -108,12 +108,10 @@ plain_kind kinds.Receive = plain_word (codes "'receive'") refl
 plain_kind kinds.Print = plain_word (codes "print") refl
 
 plain_place : (k : Kind) (o : Option Pid) → FitsPlace k o → HasNoNewline (place o)
-plain_place kinds.Send (Some p) f = plain_pid p f
-plain_place kinds.Send None f = absurd f
-plain_place kinds.Receive (Some p) f = plain_pid p f
-plain_place kinds.Receive None f = absurd f
-plain_place kinds.Print (Some p) f = absurd f
 plain_place kinds.Print None f = plain_word (codes "[]") refl
+plain_place kinds.Print (Some p) f = absurd f
+plain_place k None f = absurd f
+plain_place k (Some p) f = plain_pid p f
 
 plain_event : (e : Event) → FitsEvent e → HasNoNewline (event e)
 plain_event e f =

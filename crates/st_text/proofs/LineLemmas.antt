@@ -19,11 +19,9 @@ use Rattle.st_text.proofs.EventLemmas.{event_takes, event_again}
 use Rattle.st_text.proofs.ActLemmas.{act_takes, act_again}
 
 abbrev IsRare : Line → Type 0
-IsRare (lines.Header wide) = Unit {0}
-IsRare (lines.Process p) = Unit {0}
 IsRare (lines.Event v) = ⊥
-IsRare lines.Acts = Unit {0}
 IsRare (lines.Act a) = ⊥
+IsRare l = Unit {0}
 
 rare_takes : (bytes : List ℕ) (x : Line × List ℕ) → parse_rare bytes ≡ Some x
     → Takes line Fits bytes x
@@ -56,11 +54,9 @@ no_other : (l : Line) (rest : List ℕ) → IsRare l
     → parse_line (line l ++ rest) ≡ parse_rare (line l ++ rest)
 unfolding parse_line parse_act parse_alone
 no_other (lines.Header false) rest rare = refl
-no_other (lines.Header true) rest rare = refl
-no_other (lines.Process p) rest rare = refl
-no_other lines.Acts rest rare = refl
 no_other (lines.Event v) rest rare = absurd rare
 no_other (lines.Act a) rest rare = absurd rare
+no_other l rest rare = refl
 
 rare_again : (l : Line) (rest : List ℕ) → Fits l → IsRare l
     → parse_rare (line l ++ rest) ≡ Some (l, rest)
@@ -75,14 +71,7 @@ rare_again (lines.Act a) rest fits rare = absurd rare
 line_again : (l : Line) (rest : List ℕ) → Fits l → Stops rest
     → parse_line (line l ++ rest) ≡ Some (l, rest)
 unfolding parse_line
-line_again (lines.Header wide) rest fits stops =
-    no_other (lines.Header wide) rest tt ∙ rare_again (lines.Header wide) rest fits tt
-line_again (lines.Process p) rest fits stops =
-    no_other (lines.Process p) rest tt ∙ rare_again (lines.Process p) rest fits tt
-line_again (lines.Event v) rest fits stops =
-    rw (event_again v rest fits)
-line_again lines.Acts rest fits stops =
-    no_other lines.Acts rest tt ∙ rare_again lines.Acts rest fits tt
+line_again (lines.Event v) rest fits stops = rw (event_again v rest fits)
 line_again (lines.Act a) rest fits stops =
     rw (no_word a rest) (rw (act_again a rest fits stops) refl)
   where
@@ -91,15 +80,8 @@ line_again (lines.Act a) rest fits stops =
         ≡ on_some (parse_act (act a ++ rest)) (λ b. Some (lines.Act b.0, b.1))
         (parse_rare (act a ++ rest))
     no_word (acts.Send p q v) rest = refl
-    no_word (acts.Receive p w) rest = refl
-    no_word (acts.Print p v) rest = refl
-    no_word (acts.PrintAt p l v) rest = refl
-    no_word (acts.Set p c) rest = refl
-    no_word (acts.Clear p) rest = refl
-    no_word (acts.Restore p t) rest = refl
-    no_word (acts.Look p) rest = refl
-    no_word (acts.Reset p) rest = refl
-    no_word (acts.Tracer p b) rest = refl
+    no_word a rest = refl
+line_again l rest fits stops = no_other l rest tt ∙ rare_again l rest fits tt
 
 -- A line that is read is spelled as it is written.
 pub line_takes : (bytes : List ℕ) (l : Line) → line_of bytes ≡ Some l → (bytes ≡ line l) × Fits l

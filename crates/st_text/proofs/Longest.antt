@@ -79,12 +79,10 @@ kind_len kinds.Receive = omega arith
 kind_len kinds.Print = omega arith
 
 place_len : (k : Kind) (o : Option Pid) → FitsPlace k o → length (place o) ≤ 15
-place_len kinds.Send (Some p) f = pid_len p f
-place_len kinds.Send None f = absurd f
-place_len kinds.Receive (Some p) f = pid_len p f
-place_len kinds.Receive None f = absurd f
-place_len kinds.Print (Some p) f = absurd f
 place_len kinds.Print None f = omega arith
+place_len kinds.Print (Some p) f = absurd f
+place_len k None f = absurd f
+place_len k (Some p) f = pid_len p f
 
 event_len : (e : Event) → FitsEvent e → length (event e) ≤ 131
 event_len e f =

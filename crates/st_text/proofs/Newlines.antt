@@ -147,14 +147,13 @@ cut_back (b ∷ bytes) = by (eqb b 10) refl (cut_back bytes)
 lines_back : (bs : List (List ℕ)) (ls : List Line) → map line_of bs ≡ map Some ls
     → flat_map with_newline bs ≡ flat_map ended ls
 lines_back [] [] e = refl
-lines_back [] (l ∷ ls) e = absurd cc
-lines_back (b ∷ bs) [] e = absurd cc
 lines_back (b ∷ bs) (l ∷ ls) e =
     let first : line_of b ≡ Some l = cc in
     let others : map line_of bs ≡ map Some ls = cc in
     let spelled = (line_takes b l first).0 in
     ap (λ (x : List ℕ). with_newline x ++ flat_map with_newline bs) spelled
     ∙ ap (λ (x : List ℕ). ended l ++ x) (lines_back bs ls others)
+lines_back bs ls e = absurd cc
 
 -- bytes whose lines say these, up to an unfinished line, are their spelling
 pub spelled_by : (bytes : List ℕ) (ls : List Line) → sayings bytes ≡ map Some ls

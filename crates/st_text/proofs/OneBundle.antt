@@ -28,10 +28,7 @@ use Rattle.st_text.proofs.GoodText.{sayings_spelled, text_sound}
 acts_back : List Line → List Act
 acts_back [] = []
 acts_back (lines.Act a ∷ ls) = a ∷ acts_back ls
-acts_back (lines.Header b ∷ ls) = []
-acts_back (lines.Process p ∷ ls) = []
-acts_back (lines.Event e ∷ ls) = []
-acts_back (lines.Acts ∷ ls) = []
+acts_back ls = []
 
 -- events before the next process, then the streams, then the acts
 record Back : Type 0 where
@@ -43,7 +40,6 @@ abbrev none_back : Back
 none_back = record { events = []; streams = []; acts = None }
 
 back : List Line → Back
-back [] = none_back
 back (lines.Event e ∷ ls) =
     record { events = e ∷ (back ls).events; streams = (back ls).streams; acts = (back ls).acts }
 back (lines.Process p ∷ ls) =
@@ -54,8 +50,7 @@ back (lines.Process p ∷ ls) =
       acts = (back ls).acts;
     }
 back (lines.Acts ∷ ls) = record { events = []; streams = []; acts = Some (acts_back ls) }
-back (lines.Header b ∷ ls) = none_back
-back (lines.Act a ∷ ls) = none_back
+back ls = none_back
 
 back_acts : (list : List Act) → acts_back (map lines.Act list) ≡ list
 unfolding acts_back
@@ -116,12 +111,11 @@ body_one c d e = ap held
 
 some_one : (ls ms : List Line) → map {B = Option Line} Some ls ≡ map Some ms → ls ≡ ms
 some_one [] [] e = refl
-some_one [] (m ∷ ms) e = absurd cc
-some_one (l ∷ ls) [] e = absurd cc
 some_one (l ∷ ls) (m ∷ ms) e =
     let first : l ≡ m = cc in
     let others : map {B = Option Line} Some ls ≡ map Some ms = cc in
     ap (λ (x : Line). x ∷ ls) first ∙ ap (λ (x : List Line). m ∷ x) (some_one ls ms others)
+some_one ls ms e = absurd cc
 
 tail_one : (h k : Line) (ls ms : List Line) → h ∷ ls ≡ k ∷ ms → ls ≡ ms
 tail_one h k ls ms e = cc
@@ -156,11 +150,4 @@ read_back limits c r b w a = by r a
     by : (r : Result Bundle ReadFault) → IsReadResultOrMemory limits (spelling c) r → IsReadBack c r
     by (Ok x) a = text_one (spelling c) (contents x) c a.text reads.text
     by (Err faults.Memory) a = tt
-    by (Err faults.Device) a = no_fault limits (spelling c) faults.Device clean a
-    by (Err faults.TooLarge) a = no_fault limits (spelling c) faults.TooLarge clean a
-    by (Err (faults.Line n)) a = no_fault limits (spelling c) (faults.Line n) clean a
-    by (Err (faults.Order n)) a = no_fault limits (spelling c) (faults.Order n) clean a
-    by (Err (faults.Foreign n)) a = no_fault limits (spelling c) (faults.Foreign n) clean a
-    by (Err (faults.Unknown n)) a = no_fault limits (spelling c) (faults.Unknown n) clean a
-    by (Err (faults.TooMany n)) a = no_fault limits (spelling c) (faults.TooMany n) clean a
-    by (Err faults.Truncated) a = no_fault limits (spelling c) faults.Truncated clean a
+    by (Err f) a = no_fault limits (spelling c) f clean a

@@ -211,8 +211,7 @@ flat_map-map f g (x ∷ xs) = ap (λ ys. f (g x) ++ ys) (flat_map-map f g xs)
 
 -- what went of items went of their images
 pub on_images : {S X Y T E : Type 0} (puts : S → List ℕ → S → Type 0) (failed : S → Bool)
-    (f : Y → List ℕ) (g : X → Y)
-    (xs : List X) (a b : S) (x y : List ℕ) (r : Result T E)
+    (f : Y → List ℕ) (g : X → Y) (xs : List X) (a b : S) (x y : List ℕ) (r : Result T E)
     → WritesOn puts failed (flat_map (λ v. f (g v)) xs) a b x y r
     → WritesOn puts failed (flat_map f (map g xs)) a b x y r
 on_images puts failed f g xs a b x y r h =

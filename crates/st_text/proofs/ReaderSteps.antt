@@ -17,8 +17,7 @@ use Rattle.st_text.proofs.TextFaults.{no_memory}
 use Rattle.st_text.specs.declared.limits.Limits.{Limits}
 
 pub record IsReading (limits : Limits) {S : Type 0} (gives : S → List ℕ → S → Type 0)
-    (failed : S → Bool)
-    (old now : S) (feed : Feed)
+    (failed : S → Bool) (old now : S) (feed : Feed)
     (left : ℕ) (buffer : List ℕ) : Type 0 where
   pub bytes : List ℕ
   pub given : InARow gives old bytes now
@@ -54,9 +53,7 @@ later_growth limits gives old bytes more h =
 
 -- one more piece, after which memory has run out: in it, or before it
 pub growth_after : (limits : Limits) {S : Type 0} (gives : S → List ℕ → S → Type 0)
-    (old now next : S)
-    (bytes piece : List ℕ)
-    (was is : Option ReadFault)
+    (old now next : S) (bytes piece : List ℕ) (was is : Option ReadFault)
     → InARow gives old bytes now → gives now piece next
     → (was ≡ Some faults.Memory → HadGrowth limits gives bytes old)
     → (was ≡ None → is ≡ Some faults.Memory → Grows limits bytes piece)
@@ -79,9 +76,7 @@ growth_after limits gives old now next bytes piece (Some f) is row call before h
 
 -- an answer of Memory at the end is that of the feed
 pub growth_at_end : (limits : Limits) {S : Type 0} (gives : S → List ℕ → S → Type 0) (old : S)
-    (bytes : List ℕ)
-    (was : Option ReadFault)
-    (r : Result Bundle ReadFault)
+    (bytes : List ℕ) (was : Option ReadFault) (r : Result Bundle ReadFault)
     → length bytes ≤ limits.bytes → (was ≡ Some faults.Memory → HadGrowth limits gives bytes old)
     → (was ≡ None → IsReadResult limits bytes r)
     → ((f : ReadFault) → was ≡ Some f → r ≡ Err f) → r ≡ Err faults.Memory

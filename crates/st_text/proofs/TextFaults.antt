@@ -23,12 +23,7 @@ abbrev pub OfText : ReadFault → Type 0
 OfText faults.Memory = ⊥
 OfText faults.Device = ⊥
 OfText faults.TooLarge = ⊥
-OfText (faults.Line n) = Unit {0}
-OfText (faults.Order n) = Unit {0}
-OfText (faults.Foreign n) = Unit {0}
-OfText (faults.Unknown n) = Unit {0}
-OfText (faults.TooMany n) = Unit {0}
-OfText faults.Truncated = Unit {0}
+OfText f = Unit {0}
 
 abbrev AllOfText : Option ReadFault → Type 0
 AllOfText None = Unit {0}
@@ -90,22 +85,14 @@ of_text limits bytes f small e = let P : Option ReadFault → Type 0 = AllOfText
 
 -- the answer at the source's end
 pub reads_end : (limits : Limits) {S : Type 0} (ended : S → Type 0) (failed : S → Bool)
-    (bytes : List ℕ) (old new : S)
-    (r : Result Bundle ReadFault)
+    (bytes : List ℕ) (old new : S) (r : Result Bundle ReadFault)
     → length bytes ≤ limits.bytes → Ends limits ended failed bytes old new r
     → ReadsAs limits ended failed bytes old new r
-reads_end limits ended failed bytes old new (Ok b) small e = e
-reads_end limits ended failed bytes old new (Err faults.Memory) small e = e
 reads_end limits ended failed bytes old new (Err faults.Device) small e =
     absurd (of_text limits bytes faults.Device small e.answer)
 reads_end limits ended failed bytes old new (Err faults.TooLarge) small e =
     absurd (of_text limits bytes faults.TooLarge small e.answer)
-reads_end limits ended failed bytes old new (Err (faults.Line n)) small e = e
-reads_end limits ended failed bytes old new (Err (faults.Order n)) small e = e
-reads_end limits ended failed bytes old new (Err (faults.Foreign n)) small e = e
-reads_end limits ended failed bytes old new (Err (faults.Unknown n)) small e = e
-reads_end limits ended failed bytes old new (Err (faults.TooMany n)) small e = e
-reads_end limits ended failed bytes old new (Err faults.Truncated) small e = e
+reads_end limits ended failed bytes old new r small e = e
 
 pub no_memory : (limits : Limits) (bytes : List ℕ) (r : Result Bundle ReadFault)
     → length bytes ≤ limits.bytes

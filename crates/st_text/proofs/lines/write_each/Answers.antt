@@ -26,8 +26,7 @@ loop-line-preserved g c =
     c.args.lines.now c.loop-line.line-index c.line-item.result c.loop-line-test.true
     c.loop-line.invariant
     (it_went g.S.ByteSink.puts g.S.ByteSink.failed (λ line. ended_line (g.L.TextLine.words line)) _
-    _
-    c.line-item.is _ _ _ _ c.in_ok-write_line.ensures)
+    _ c.line-item.is _ _ _ _ c.in_ok-write_line.ensures)
 
 pub returns-in_err-write_line : goal.returns-in_err-write_line
 returns-in_err-write_line g c =
@@ -36,8 +35,7 @@ returns-in_err-write_line g c =
     c.args.lines.now c.loop-line.line-index c.line-item.result refl c.loop-line-test.true
     c.loop-line.invariant
     (it_failed g.S.ByteSink.puts g.S.ByteSink.failed (λ line. ended_line (g.L.TextLine.words line))
-    _ _
-    c.line-item.is _ _ _ c.in_err-write_line.ensures))
+    _ _ c.line-item.is _ _ _ c.in_err-write_line.ensures))
 
 pub returns : goal.returns
 returns g c =

@@ -9,9 +9,8 @@ counted : (limits : Limits) (large out : Bool) (bytes : List ℕ) (count : ℕ) 
     → large ≡ false
     → out ≡ false
     → FedAs limits large out bytes count cutter → AreBytesCounted limits bytes count cutter
-counted limits true out bytes count cutter el eo fed = absurd cc
-counted limits false true bytes count cutter el eo fed = absurd cc
 counted limits false false bytes count cutter el eo fed = fed
+counted limits large out bytes count cutter el eo fed = absurd cc
 
 pub returns-then-self-3-clause-memory : goal.returns-then-self-3-clause-memory
 returns-then-self-3-clause-memory c = λ bytes fed going ran.
