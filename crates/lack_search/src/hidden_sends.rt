@@ -59,8 +59,8 @@ fn note_hidden(
     Ok(())
 }
 
-/// The hidden sends of streams, by sender and count, without places. Pairing accepts no two receives
-/// of one sender and count, so no two of the sends have the same key.
+/// The hidden sends of streams, by sender and count, without places. Pairing accepts no two
+/// receives of one sender and count, so no two of the sends have the same key.
 pub(crate) fn hidden_sends(
     alloc: Global,
     streams: &Streams,

@@ -133,7 +133,8 @@ impl Linker<'_> {
 }
 
 fn no_links(alloc: Global, whole: &Streams) -> Result<Vec<Vec<u32>>, AllocError>
-    ensures { IfOk result (λ rows. map (λ row. length row.items) rows.items ≡ event_counts whole.now) }
+    ensures { IfOk result (λ rows.
+        map (λ row. length row.items) rows.items ≡ event_counts whole.now) }
 {
     let mut rows = Vec::with_capacity(alloc, whole.pids().len())?;
     for &pid in whole.pids() {

@@ -73,7 +73,8 @@ impl<'a> MergedEvents<'a> {
     /// Takes the next event: a receive that a stamp got, else a hidden send whose place it is, else
     /// a reported event. Returns none if no event comes any more.
     pub(crate) fn take_next(&mut self) -> Option<MergedEvent>
-        ensures some { IfSome result (λ next. self.old.reported.now ≡ told_in next ++ self.new.reported.now) }
+        ensures some { IfSome result (λ next.
+            self.old.reported.now ≡ told_in next ++ self.new.reported.now) }
         ensures none { IfNone result (self.old.reported.now ≡ []) }
         ensures fewer { OnSome result (events_left self.new < events_left self.old) }
     {

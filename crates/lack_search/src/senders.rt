@@ -200,7 +200,7 @@ pub(crate) struct Senders {
     pub unlisted: Vec<Pid>,
 }
 
-/// The needs that are left among these stamps, by count, and those of one count in their order here.
+/// The needs that are left among these stamps, by count, those of one count in their order here.
 fn turns_of(alloc: Global, fed: &[Ask]) -> Result<Vec<Turn>, AllocError>
     ensures { IfOk result (λ turns. AreTurnsOf fed.now turns.items) }
 {

@@ -71,8 +71,8 @@ impl Next {
         if prev == send.prev {
             return limit;
         }
-        // Puts the send before a receive of the next stamp's prev, if one can stand there: the stamp
-        // then costs nothing.
+        // Puts the send before a receive of the next stamp's prev, if one can stand there: the
+        // stamp then costs nothing.
         let received = match ground.last_after(prev, limit) {
             Some(gap) if self.may_stand_at(gap, limit) => Some(gap.saturating_sub(1)),
             _ => None,
@@ -282,7 +282,8 @@ impl StretchWalk {
         start: usize,
         hidden: &[HiddenSend],
     ) -> Result<(), AllocError>
-        ensures { OnOk result (vec_len self.new.places ≡ vec_len self.old.places + length hidden.now) }
+        ensures { OnOk result
+            (vec_len self.new.places ≡ vec_len self.old.places + length hidden.now) }
     {
         if hidden.is_empty() {
             return Ok(());
@@ -299,7 +300,8 @@ impl StretchWalk {
     /// Finds the places of the hidden sends of a process, which come by rising count, among its
     /// events.
     fn place_process(&mut self, events: &[Event], hidden: &[HiddenSend]) -> Result<(), AllocError>
-        ensures { OnOk result (vec_len self.new.places ≡ vec_len self.old.places + length hidden.now) }
+        ensures { OnOk result
+            (vec_len self.new.places ≡ vec_len self.old.places + length hidden.now) }
     {
         let mut rest = hidden;
         let mut start = 0;

@@ -90,7 +90,8 @@ fn tell_acts<H: Threads + Sync, W: ByteSink>(
 
 /// Whether the completion has more processes than the reader takes.
 fn is_long(completion: &Completion) -> bool
-    ensures { IsTrue result ↔ (MOST_PROCESSES < length (pids_of (all_streams completion.now.wholes))) }
+    ensures { IsTrue result
+        ↔ (MOST_PROCESSES < length (pids_of (all_streams completion.now.wholes))) }
 {
     completion.streams().pids().len() > MOST_PROCESSES
 }

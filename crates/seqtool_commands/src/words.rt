@@ -59,7 +59,8 @@ fn form_named(name: &str) -> Option<Form>
 
 /// The form that words after `--as` begin with, and the words after it.
 fn named_form<S: AsStr>(words: &[S]) -> Option<(Form, &[S])>
-    ensures { option_map (λ x. (x.0, map S.text x.1.now)) result ≡ named_form (map S.text words.now) }
+    ensures { option_map (λ x. (x.0, map S.text x.1.now)) result
+        ≡ named_form (map S.text words.now) }
 {
     match words {
         [name, rest @ ..] => match form_named(name.as_str()) {
@@ -72,7 +73,8 @@ fn named_form<S: AsStr>(words: &[S]) -> Option<(Form, &[S])>
 
 /// The form that words begin with, and the words after it.
 fn form_asked<S: AsStr>(words: &[S]) -> Option<(Form, &[S])>
-    ensures { option_map (λ x. (x.0, map S.text x.1.now)) result ≡ form_asked (map S.text words.now) }
+    ensures { option_map (λ x. (x.0, map S.text x.1.now)) result
+        ≡ form_asked (map S.text words.now) }
 {
     match words_behind("--as", words) {
         None => Some((Form::Added, words)),

@@ -207,7 +207,7 @@ pub(crate) fn any_answered<T, F: Fn(&T) -> bool>(
     }
 }
 
-/// Searches as `answered_from` does, from both ends at once.
+/// Searches from both ends at once.
 fn answered_from_ends<T, F: Fn(&T) -> bool>(
     nodes: &Slab<Node<T>>,
     ends: Ends,

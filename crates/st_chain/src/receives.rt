@@ -73,7 +73,8 @@ fn note_all(
 ) -> Result<(), AllocError>
     requires from { from ≤ to }
     requires to { to ≤ length events.now }
-    requires noted { (this : ℕ) → get nat_cmp places.old this ≡ received_before events.now this from }
+    requires noted { (this : ℕ)
+        → get nat_cmp places.old this ≡ received_before events.now this from }
     ensures { OnOk result ((this : ℕ)
         → get nat_cmp places.new this ≡ received_before events.now this to) }
 {

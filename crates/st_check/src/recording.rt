@@ -146,7 +146,8 @@ impl<const TOP: u64> Recording<TOP> {
 }
 
 fn keep(replies: &mut Sequence<Reply>, reply: Reply, keeps_replies: bool) -> Result<(), AllocError>
-    ensures { OnOk result (replies.new ≡ replies.old ++ (if keeps_replies then reply ∷ [] else [])) }
+    ensures { OnOk result
+        (replies.new ≡ replies.old ++ (if keeps_replies then reply ∷ [] else [])) }
 {
     if keeps_replies {
         replies.push(reply)?;

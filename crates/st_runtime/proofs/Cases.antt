@@ -18,7 +18,8 @@ use Rattle.st_runtime.specs.System.{knows}
 use Rattle.st_runtime.specs.Walk.{touching, IsWalk}
 use Rattle.st_runtime.proofs.Members.{pairs_from_ordered, IsOrdered-from_rises}
 
--- The client, <0.30.0>, and the shop, <0.31.0>, are on one node; the stock, <1.30.0>, is on another.
+-- The client, <0.30.0>, and the shop, <0.31.0>, are on one node; the stock, <1.30.0>, is on another
+-- one.
 
 abbrev entry : ℕ → Act → Reply → Entry
 entry rank a y = record { rank = rank; act = a; reply = y; report = None; carried = None }

@@ -1,6 +1,7 @@
 -- The cursors that an act's pass moves are those of the processes that it touches: pids rise, so
 -- that each is at one place, and the pids of a node are in a row.
-use Rattle.std.proofs.Common.{◌≡◌, ◌≢◌, ℕ, zero, suc, ◌<◌, ◌≤◌, ◌+◌, Bool, true, false, List, [], ◌∷◌}
+use Rattle.std.proofs.Common.{◌≡◌, ◌≢◌, ℕ, zero, suc, ◌<◌, ◌≤◌, ◌+◌, Bool, true, false, List, []}
+use Rattle.std.proofs.Common.{◌∷◌}
 use Rattle.std.proofs.Common.{length, get_or, set, refl, sym, ◌∙◌, ap, subst, arith, inl, inr}
 use Rattle.std.proofs.Common.{⊎_elim, ◌⊎◌, Some}
 use Rattle.std.specs.Prelude.{MatchBool, eqb, nat_lt, slice_get}
@@ -180,7 +181,8 @@ module _ (e : Entry) (cs : List Along) (ps : List Pid) (me them : ℕ) (of : pid
       let c = to.cursor in
       let still = length-set cs me b in
       let Stepped : List Along → Type 0 = λ xs. AreStepped e cs xs in
-      let both : ds ≡ set (set cs me b) them c = to.written ∙ ap (λ xs. set xs them c) from.written in
+      let both : ds ≡ set (set cs me b) them c =
+      to.written ∙ ap (λ xs. set xs them c) from.written in
       let passes : MovesPast e (get_or (set cs me b) them c) c =
       subst (λ xs. MovesPast e (get_or xs them c) c) from.written to.passes in
       subst Stepped (sym both) (record {
@@ -229,7 +231,8 @@ eqb_same : (m n : ℕ) → m ≡ n → eqb m n ≡ true
 eqb_same m n same = grind (arith, nat_tests)
 
 eqb_apart : (m n : ℕ) → (m < n) ⊎ (n < m) → eqb m n ≡ false
-eqb_apart m n apart = ⊎_elim (λ low. grind (arith, nat_tests)) (λ high. grind (arith, nat_tests)) apart
+eqb_apart m n apart =
+    ⊎_elim (λ low. grind (arith, nat_tests)) (λ high. grind (arith, nat_tests)) apart
 
 -- The cursors from the first of the node up to here passed the entry, and no others. Their pids are
 -- on the node.

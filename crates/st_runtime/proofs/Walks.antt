@@ -16,7 +16,8 @@ use Rattle.st_runtime.specs.Joined.{IsBefore, IsMerged}
 use Rattle.st_runtime.specs.Pcb.{Control}
 use Rattle.st_runtime.specs.Pieces.{pids_in, AreWhole, HasIfTouched, IsWholeEntry}
 use Rattle.st_runtime.specs.System.{knows}
-use Rattle.st_runtime.specs.Walk.{touching, IsWalk, IsKeyBefore, Along, start, pids_along, MovesPast}
+use Rattle.st_runtime.specs.Walk.{touching, IsWalk, IsKeyBefore, Along, start, pids_along}
+use Rattle.st_runtime.specs.Walk.{MovesPast}
 use Rattle.st_runtime.specs.Walk.{AreStepped}
 use Rattle.st_runtime.proofs.Members.{In, In-Contains, Contains-In, All-In, In-All, In-filter}
 use Rattle.st_runtime.proofs.Members.{In-to_filter, IsOrdered, pairs_from_ordered}
@@ -137,7 +138,8 @@ all_start xs = record { even = length-map xs start; each = start_at xs }
 
 -- where no entry is left, the log is what was passed
 all_end : (xs : List Control) (es : List Entry) (cs : List Along) → AreAlong xs es cs
-    → All (λ (c : Along). c.left ≡ []) cs → All (λ (x : Control). x.log ≡ touching x.process.pid es) xs
+    → All (λ (c : Along). c.left ≡ []) cs
+    → All (λ (x : Control). x.log ≡ touching x.process.pid es) xs
 all_end xs es cs a none i x below =
     let c = start x in
     let at = a.each i below x c in
@@ -149,7 +151,8 @@ pub pids_start : (xs : List Control) → pids_along (map start xs) ≡ pids_in x
 pids_start [] = refl
 pids_start (x ∷ xs) = ap (λ (ps : List Pid). x.process.pid ∷ ps) (pids_start xs)
 
-same_pid : (e : Entry) (c d : Along) (b : Bool) → MatchBool b (MovesPast e c d) (d ≡ c) → d.pid ≡ c.pid
+same_pid : (e : Entry) (c d : Along) (b : Bool) → MatchBool b (MovesPast e c d) (d ≡ c)
+    → d.pid ≡ c.pid
 same_pid e c d true s = s.pid
 same_pid e c d false s = ap (λ (x : Along). x.pid) s
 

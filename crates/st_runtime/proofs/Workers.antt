@@ -34,7 +34,8 @@ all_left system job pids (h ∷ hs) (t ∷ ts) (o ∷ os) even of each =
     let here = each 0 o (omega arith) in
     let of_h : LeavesEnding (system h) (job h) o =
     subst (λ x. LeavesEnding (system x) (job x) o) here.1 here.2 in
-    let of_t : LeavesEnding (system h) t o = subst (λ x. LeavesEnding (system h) x o) of.0.0 of_h in (
+    let of_t : LeavesEnding (system h) t o =
+    subst (λ x. LeavesEnding (system h) x o) of.0.0 of_h in (
       subst (λ x. LeavesEnding x t o) of.0.1 of_t,
       all_left system job pids hs ts os (omega arith) of.1
           (λ i d below. each (suc i) d (omega arith)),

@@ -1,6 +1,7 @@
 -- One walk over the acts by rank. What it finds of logs: each has exactly the acts that touch its
 -- process. And its cursors: one in each log, which passes an act that touches the process.
-use Rattle.std.specs.Prelude.{◌≡◌, ℕ, ◌<◌, true, MatchBool, List, [], ◌∷◌, ◌++◌, length, map, filter}
+use Rattle.std.specs.Prelude.{◌≡◌, ℕ, ◌<◌, true, MatchBool, List, [], ◌∷◌, ◌++◌, length, map}
+use Rattle.std.specs.Prelude.{filter}
 use Rattle.std.specs.Prelude.{All, AllPairs, drop, slice_index_or, slice_set, ◌⊎◌}
 use Rattle.st_core.specs.declared.types.Pid.{Pid}
 use Rattle.st_core.specs.Pid.{node_of, IsBelow}

@@ -2,7 +2,8 @@
 //! its actor and at each other process that it touches, and at the end all cursors are at their
 //! ends. So each log is found to have exactly the acts that touch its process, in one order.
 
-ghost use Rattle.std.specs.Prelude.{◌≡◌, ◌<◌, ◌≤◌, ◌∷◌, [], drop, length, map, true, false, All, IfOk};
+ghost use Rattle.std.specs.Prelude.{◌≡◌, ◌<◌, ◌≤◌, ◌∷◌, [], drop, length, map, true, false, All};
+ghost use Rattle.std.specs.Prelude.{IfOk};
 ghost use Rattle.std.specs.Prelude.{IfSome, IsTrue, OnOk, slice_get, Some};
 ghost use Rattle.st_core.specs.Pid.{node_of, IsRising};
 ghost use Rattle.st_core.specs.Step.{actor};
@@ -12,7 +13,8 @@ ghost use Rattle.st_runtime.specs.Joining.{referred, IsThere};
 ghost use Rattle.st_runtime.specs.Pcb.{IsFromLog};
 ghost use Rattle.st_runtime.specs.Pieces.{pids_in};
 ghost use Rattle.st_runtime.specs.System.{knows};
-ghost use Rattle.st_runtime.specs.Walk.{start, pids_along, AreLower, AreStepped, IsKeyBefore, IsWalk};
+ghost use Rattle.st_runtime.specs.Walk.{start, pids_along, AreLower, AreStepped, IsKeyBefore};
+ghost use Rattle.st_runtime.specs.Walk.{IsWalk};
 ghost use Rattle.st_runtime.specs.Walk.{IsNextAt, MovesPast, MovesPastAt};
 
 use crate::pcb::Pcb;

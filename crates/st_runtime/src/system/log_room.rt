@@ -27,8 +27,8 @@ pub fn expected_entries(
     Ok(counts)
 }
 
-/// Counts the entries of the script of the process at this place: one there for each act, and one at
-/// the receiver of each send.
+/// Counts the entries of the script of the process at this place: one there for each act, and one
+/// at the receiver of each send.
 fn count_script(counts: &mut [usize], pids: &[Pid], guesses: &Guesses, place: usize, script: &[Act])
     requires rising { IsRising pids.now }
     requires each { length counts.old ≡ length pids.now }

@@ -44,16 +44,16 @@ loop-receipt-preserved c =
                 (unfounded_still piece n receipt at c.loop-receipt.least
                 (c.loop-receipt.invariant.least pid lowest) (λ zero_prev hidden behind.
                 elim w.else-receipt-eq0.branch [
-                | goal.else-receipt-eq0-via-then-receipt-eq0+then-not-has_count+else-is_behind_stamp
-                    v ↦
-                    false≢true (sym v.if-is_behind_stamp.false
-                    ∙ (v.is_behind_stamp.ensures piece lowest).1 behind)
-                | goal.else-receipt-eq0-via-then-receipt-eq0+else-not-has_count v ↦
-                    let has = subst (HasCount es next receipt.event.serial.this)
-                    v.if-not-has_count.false v.has_count.ensures in
-                    none-some (next, has.0) (sym hidden ∙ stamp_some piece c.requires.rise
-                    receipt.event.serial.this next has.0 has.1 (is.here has.0 has.1).0 has.2)
-                | goal.else-receipt-eq0-via-else-receipt-eq0 v ↦ v.if-receipt-eq0.false zero_prev
+                  | goal.else-receipt-eq0-via-then-receipt-eq0+then-not-has_count+else-is_behind_stamp
+                      v ↦
+                      false≢true (sym v.if-is_behind_stamp.false
+                      ∙ (v.is_behind_stamp.ensures piece lowest).1 behind)
+                  | goal.else-receipt-eq0-via-then-receipt-eq0+else-not-has_count v ↦
+                      let has = subst (HasCount es next receipt.event.serial.this)
+                      v.if-not-has_count.false v.has_count.ensures in
+                      none-some (next, has.0) (sym hidden ∙ stamp_some piece c.requires.rise
+                      receipt.event.serial.this next has.0 has.1 (is.here has.0 has.1).0 has.2)
+                  | goal.else-receipt-eq0-via-else-receipt-eq0 v ↦ v.if-receipt-eq0.false zero_prev
                 ]))
           ];
     }

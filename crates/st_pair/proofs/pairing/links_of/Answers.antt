@@ -17,7 +17,8 @@ fill_in-requires-clause-links c =
     let lists = c.loop-place.links.items in
     let k = c.loop-place.place in
     let made = stream_here streams c.pids-pids.result.now k _ _
-    c.pids-pids.ensures.streams.draft.rising c.pids-pids.ensures.value c.loop-place-test.true c.events-events.ensures.value in
+    c.pids-pids.ensures.streams.draft.rising c.pids-pids.ensures.value c.loop-place-test.true
+    c.events-events.ensures.value in
     let there = still (links_in streams) (links_back streams) streams k _ lists made
     c.loop-place.invariant.links in
     c.index_mut.ensures.value ∙ get_or_from_slice_get lists k _ c.index_mut.result.now there

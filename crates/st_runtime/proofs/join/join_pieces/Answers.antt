@@ -1,4 +1,4 @@
--- One walk leads through the logs of the pieces, so their entries are whole; and each pid is seated.
+-- One walk leads through the logs of the pieces, so their entries are whole. Each pid is seated.
 use Rattle.std.proofs.Common.{◌≡◌, ◌∙◌, map, rules, subst, List}
 use Rattle.st_log.specs.declared.entry.Entry.{Entry}
 use Rattle.st_runtime.specs.Joining.{referred, IsLogged}

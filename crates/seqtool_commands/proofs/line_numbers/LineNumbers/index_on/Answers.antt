@@ -1,8 +1,6 @@
 -- A line below the first event, or after the last one, is none of the process's.
 use Rattle.std.proofs.Common.{◌∙◌, sym}
 use Rattle.seqtool_commands.proofs.LineFirsts.{line_above, line_below, line_none_says, line_on}
-use Rattle.seqtool_commands.proofs.line_numbers.LineNumbers.index_on.Goals.{else-first-line-via-else-first-line}
-use Rattle.seqtool_commands.proofs.line_numbers.LineNumbers.index_on.Goals.{else-first-line-via-then-first-line+else-line-first}
 use Rattle.seqtool_commands.proofs.line_numbers.LineNumbers.index_on.Goals as goal
 
 pub returns-in-None-clause-missing : goal.returns-in-None-clause-missing
@@ -20,10 +18,10 @@ pub returns-else-first-line-clause-missing : goal.returns-else-first-line-clause
 returns-else-first-line-clause-missing c = λ i.
     let at = sym c.first.ensures.value ∙ c.in-Some.is in
     elim c.else-first-line.branch [
-      | else-first-line-via-then-first-line+else-line-first w ↦
+      | goal.else-first-line-via-then-first-line+else-line-first w ↦
           line_above c.args.self.now c.args.pid c.in-Some.first c.args.line i at
           (rw (w.len.ensures, c.self.view_is) at w.if-line-first.false)
-      | else-first-line-via-else-first-line w ↦
+      | goal.else-first-line-via-else-first-line w ↦
           line_below c.args.self.now c.args.pid c.in-Some.first c.args.line i at
           w.if-first-line.false
     ]

@@ -19,7 +19,8 @@ pub loop-place-preserved : goal.loop-place-preserved
 loop-place-preserved c =
     let log = c.args.log.now.entries in
     let i = c.loop-place.place in
-    let within : i < length log = omega (arith, c.loop-place-test.true, c.len-place-end.ensures) in (
+    let within : i < length log =
+    omega (arith, c.loop-place-test.true, c.len-place-end.ensures) in (
       ap (λ d. lists d c.args.pid) c.in_ok-add_entry.ensures ∙ lists_reported c.loop-place.draft
           c.args.pid _
           ∙ c.loop-place.invariant.0,

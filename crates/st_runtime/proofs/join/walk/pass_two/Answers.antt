@@ -1,5 +1,5 @@
--- The actor is at its place, and the receiver at the one that is found, which is another one if it is
--- another process.
+-- The actor is at its place, and the receiver at the one that is found, which is another one if it
+-- is another process.
 use Rattle.std.proofs.Common.{◌≡◌, ◌≢◌, ◌∙◌, ℕ, Bool, List, get_or, Some, true, false, length}
 use Rattle.std.proofs.Common.{refl, sym, ap, arith}
 use Rattle.std.specs.Prelude.{slice_get}

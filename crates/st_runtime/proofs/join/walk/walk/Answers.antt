@@ -1,5 +1,6 @@
 -- Each turn passes one entry more, which comes after those before.
-use Rattle.std.proofs.Common.{◌≡◌, ◌∙◌, ◌++◌, ◌∷◌, [], ℕ, true, List, length, take, drop, map, sym, ap}
+use Rattle.std.proofs.Common.{◌≡◌, ◌∙◌, ◌++◌, ◌∷◌, [], ℕ, true, List, length, take, drop, map, sym}
+use Rattle.std.proofs.Common.{ap}
 use Rattle.std.proofs.Common.{subst, arith}
 use Rattle.std.specs.Prelude.{All}
 use Rattle.std.proofs.lemmas.List.{map-append}
@@ -25,7 +26,8 @@ loop-turn-init g c =
     let none = c.in_ok-entries.ensures.items in
     let p = c.on.result in (
       subst (λ (refs : List (Bor Logged × ℕ)). IsUnderway xs (map referred refs) cs 0 p) (sym none)
-          (subst (λ (along : List Along). IsUnderway xs [] along 0 p) (sym are) (walk_start xs 0 p)),
+          (subst (λ (along : List Along). IsUnderway xs [] along 0 p) (sym are)
+          (walk_start xs 0 p)),
       ap pids_along are ∙ pids_start xs,
       subst (All IsThere) (sym none) (All-nil IsThere),
       c.in_ok-entries.ensures.len,
