@@ -1,11 +1,12 @@
 -- The tests of the walk decide what gives a stamp.
 use Rattle.std.proofs.Common.{◌≡◌, ◌≢◌, ℕ, ◌<◌, ◌≤◌, ◌^◌, ◌⊎◌, ◌||◌, max, cond, Bool, true, false}
-use Rattle.std.proofs.Common.{zero, suc, get_or, length, take, Some, ◌+◌, List, [], ◌∷◌, ◌++◌}
-use Rattle.std.proofs.Common.{Result, Ok, Err, OnOk, inl, inr, refl, arith, sym, ◌∙◌, ap, subst}
+use Rattle.std.proofs.Common.{zero, suc, length, take, Some, ◌+◌, List, [], ◌∷◌, ◌++◌, Result, Ok}
+use Rattle.std.proofs.Common.{Err, OnOk, inl, inr, refl, arith, sym, ◌∙◌, ap, subst}
 use Rattle.std.specs.List.{AllByRecursion, list_any, slice_get}
 use Rattle.std.proofs.lemmas.Bool.{false≢true}
 use Rattle.std.proofs.lemmas.Option.{none-some, same_Some}
 use Rattle.st_core.specs.declared.types.Serial.{Serial}
+use Rattle.st_core.specs.declared.types.Kind.TheVariants as kind
 use Rattle.node_machine.specs.Counts.{stamp_count}
 use Rattle.node_machine.specs.declared.types.Seen.{Seen}
 use Rattle.node_machine.specs.declared.types.Reading.{Reading}
@@ -272,6 +273,15 @@ module _ (es : List Seen) (ks : List ℕ) (lift last : ℕ) (taking : Bool) (t :
 
 -- LISTS
 
+-- where there is no event
+abbrev pub blank : Seen
+blank = record {
+  kind = kind.Send;
+  label = record { 0 = 0 };
+  serial = record { prev = 0; this = 0 };
+  answer = false;
+}
+
 pub pushed_at : {A : Type 0} (xs : List A) (x : A) (j : ℕ) (y : A)
     → slice_get (xs ++ x ∷ []) j ≡ Some y
     → (slice_get xs j ≡ Some y) ⊎ ((j ≡ length xs) × (x ≡ y))
@@ -282,11 +292,6 @@ pushed_at (z ∷ xs) x (suc j) y is = elim (pushed_at xs x j y is) [
   | inl old ↦ inl old
   | inr new ↦ inr (ap suc new.0, new.1)
 ]
-
-pub at_below : {A : Type 0} (xs : List A) (j : ℕ) (y : A) → slice_get xs j ≡ Some y → j < length xs
-at_below [] j y is = absurd (none-some y is)
-at_below (x ∷ xs) zero y is = omega arith
-at_below (x ∷ xs) (suc j) y is = let rest = at_below xs j y is in omega arith
 
 pub taken_more : {A : Type 0} (xs : List A) (j : ℕ) (y : A) → slice_get xs j ≡ Some y
     → take (j + 1) xs ≡ take j xs ++ y ∷ []
@@ -302,12 +307,6 @@ fits_at [] j e fit is = absurd (none-some e is)
 fits_at (d ∷ es) zero e fit is =
     subst (λ (x : Seen). x.serial.this < 2 ^ 60) (same_Some d e is) fit.0
 fits_at (d ∷ es) (suc j) e fit is = fits_at es j e fit.1 is
-
-pub at_get_or : {A : Type 0} (xs : List A) (j : ℕ) (blank : A) → j < length xs
-    → slice_get xs j ≡ Some (get_or xs j blank)
-at_get_or [] j blank below = absurd (omega arith)
-at_get_or (x ∷ xs) zero blank below = refl
-at_get_or (x ∷ xs) (suc j) blank below = at_get_or xs j blank (omega arith)
 
 pub length_more : {A : Type 0} (xs : List A) (x : A) (n : ℕ) → length xs ≡ n
     → length (xs ++ x ∷ []) ≡ n + 1

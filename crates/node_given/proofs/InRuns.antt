@@ -19,7 +19,7 @@ use Rattle.node_given.specs.declared.way.Way.{Way}
 use Rattle.node_given.specs.declared.way.Way.TheVariants as way
 use Rattle.node_given.specs.Runs.{AreEventsOf}
 use Rattle.node_given.specs.Walk.{IsWay, names_put_back}
-use Rattle.node_given.proofs.Decisions.{at_below, at_get_or}
+use Rattle.std.proofs.lemmas.Option.{slice_get_within as at_below, slice_get-get_or as at_get_or}
 
 module _ (p : Pid) (es : List Seen) (pids : List Pid) (acts : List NodeAct) (os : List Outcome)
     (run : AreEventsOf p es pids acts os) where
@@ -46,7 +46,6 @@ module _ (p : Pid) (es : List Seen) (pids : List Pid) (acts : List NodeAct) (os 
       (λ same. false≢true (sym is.0 ∙ ap (λ (k : Kind). kind_eq k kind.Receive) same)) in
       is.1 (subst (λ xs. IsGiven (take i xs) e) run.shown given)
 
-  -- a way that names a put-back has its place
   place_at : (i : ℕ) (e : Seen) (w : Way) → slice_get es i ≡ Some e → IsWay (take i es) e w
       → names_put_back w ≡ true
       → IsMet (places p [] acts os) (take i es)

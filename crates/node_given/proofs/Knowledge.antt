@@ -1,6 +1,6 @@
 -- The knowledge after events, with one event more.
-use Rattle.std.proofs.Common.{◌≡◌, ℕ, ◌<◌, ◌^◌, ◌==◌, ◌&&◌, max, not, cond, Bool, true, false}
-use Rattle.std.proofs.Common.{List, [], ◌∷◌, ◌++◌, map, inl, inr, refl, arith, sym, ◌∙◌, ap, subst}
+use Rattle.std.proofs.Common.{◌≡◌, ℕ, ◌<◌, ◌^◌, ◌==◌, ◌&&◌, max, not, cond, Bool, true, false, List}
+use Rattle.std.proofs.Common.{[], ◌∷◌, ◌++◌, map, inl, inr, refl, arith, sym, ◌∙◌, ap, subst}
 use Rattle.std.specs.List.{filter}
 use Rattle.std.proofs.lemmas.Bool.{and_parts, eqb-true}
 use Rattle.st_core.specs.declared.types.Serial.{Serial}
@@ -264,12 +264,12 @@ and_no : (b : Bool) → (b && false) ≡ false
 and_no true = refl
 and_no false = refl
 
-swap : (x y z : Serial) → IsAmong (x ∷ y ∷ []) z → IsAmong (y ∷ x ∷ []) z
+pub swap : (x y z : Serial) → IsAmong (x ∷ y ∷ []) z → IsAmong (y ∷ x ∷ []) z
 swap x y z (inl is) = inr (inl is)
 swap x y z (inr (inl is)) = inl is
 swap x y z (inr (inr is)) = absurd is
 
-turn : (w x y z : Serial) → IsAmong (w ∷ x ∷ y ∷ []) z → IsAmong (y ∷ x ∷ w ∷ []) z
+pub turn : (w x y z : Serial) → IsAmong (w ∷ x ∷ y ∷ []) z → IsAmong (y ∷ x ∷ w ∷ []) z
 turn w x y z (inl is) = inr (inr (inl is))
 turn w x y z (inr (inl is)) = inr (inl is)
 turn w x y z (inr (inr (inl is))) = inl is

@@ -1,6 +1,6 @@
 -- In each way to read the events a token was put back for each stamp of which the walk says so.
-use Rattle.std.proofs.Common.{◌≡◌, ℕ, ◌+◌, ◌≤◌, cond, true, false, List, [], ◌∷◌, ◌++◌}
-use Rattle.std.proofs.Common.{inl, inr, refl, arith, sym, ◌∙◌, ap, subst}
+use Rattle.std.proofs.Common.{◌≡◌, ℕ, ◌+◌, ◌≤◌, cond, true, false, List, [], ◌∷◌, ◌++◌, inl, inr}
+use Rattle.std.proofs.Common.{refl, arith, sym, ◌∙◌, ap, subst}
 use Rattle.std.specs.List.{count_by}
 use Rattle.std.proofs.lemmas.Bool.{false≢true}
 use Rattle.std.proofs.lemmas.List.Sums.{sum_by-append}
@@ -81,9 +81,6 @@ way_least es e (way.Lowered token) n is least = least_more es e n is.0 is.1 leas
 way_least es e way.Ungiven n is least =
     let same : n ≡ n + 0 = omega arith in
     subst (NeedsAtLeast (es ++ e ∷ [])) same (least_same es e n least)
-
-pub none_needed : NeedsAtLeast [] 0
-none_needed = (omega arith, tt)
 
 pub counted_more : (ws : List Way) (w : Way)
     → count_by names_put_back (ws ++ w ∷ []) ≡ count_by names_put_back ws + cond (names_put_back w)

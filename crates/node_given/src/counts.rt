@@ -9,7 +9,6 @@ use node_machine::Seen;
 /// The least number that a serial can't show.
 const SERIAL_END: u64 = 1 << 60;
 
-/// The clock after a stamp.
 pub(crate) fn clock_after(clock: u64) -> u64
     ensures { result ≡ next_clock clock }
 {
@@ -23,7 +22,6 @@ pub(crate) fn count_after(clock: u64) -> u64
     clock.wrapping_add(1) % SERIAL_END
 }
 
-/// The count before this one.
 pub(crate) fn count_before(count: u64) -> u64
     requires { count < 2 ^ 60 }
     ensures fits { result < 2 ^ 60 }
@@ -35,7 +33,6 @@ pub(crate) fn count_before(count: u64) -> u64
     count - 1
 }
 
-/// The clock that an answer with this count leaves.
 pub(crate) fn clock_of_answer(count: u64) -> u64
     requires { count < 2 ^ 60 }
     ensures { result ≡ answer_count count }
@@ -43,7 +40,6 @@ pub(crate) fn clock_of_answer(count: u64) -> u64
     16 * count + 15
 }
 
-/// The last that it leaves.
 pub(crate) fn last_of_answer(count: u64) -> u64
     requires { count < 2 ^ 60 }
     ensures { result ≡ serial_count (answer_count count) }

@@ -23,7 +23,6 @@ pub(crate) struct Tokens {
 }
 
 impl Tokens {
-    /// No tokens.
     pub(crate) fn new(alloc: Global) -> Tokens
         ensures { AreTokens [] result }
     {
@@ -45,7 +44,6 @@ impl Tokens {
         Ok(())
     }
 
-    /// Whether there is a token of this serial.
     pub(crate) fn has(&self, prev: u64, this: u64) -> bool
         ensures found { (xs : List SerialValue) → AreTokens xs self.now → IsTrue result
             → IsAmong xs (record { prev = prev; this = this }) }

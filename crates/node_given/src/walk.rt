@@ -89,7 +89,6 @@ impl Walk {
         Some(Serial { prev, this: clock })
     }
 
-    /// Returns what gives a stamp.
     fn way(&self, stamp: Seen) -> Way
         requires { stamp.serial.this < 2 ^ 60 }
         ensures { (es : List SeenValue) → is_receipt stamp ≡ false

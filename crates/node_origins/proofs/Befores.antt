@@ -1,10 +1,9 @@
 -- The receive, or the answer, right before a stamp is at one index: so there is one origin by a
 -- receive at most, and by an answer those of its request.
-use Rattle.std.proofs.Common.{◌≡◌, ℕ, ◌+◌, zero, suc, false, List, [], ◌∷◌}
-use Rattle.std.proofs.Common.{◌++◌, take, Some, refl, arith, sym, ◌∙◌, ap, subst}
+use Rattle.std.proofs.Common.{◌≡◌, ℕ, ◌+◌, zero, suc, false, List, [], ◌∷◌, ◌++◌, take, Some, refl}
+use Rattle.std.proofs.Common.{arith, sym, ◌∙◌, ap, subst}
 use Rattle.std.specs.List.{slice_get}
 use Rattle.std.proofs.lemmas.Option.{same_Some}
-use Rattle.st_core.specs.declared.types.Kind.TheVariants as kind
 use Rattle.node_machine.specs.declared.types.Seen.{Seen}
 use Rattle.node_machine.specs.Readings.{is_receipt}
 use Rattle.node_machine.specs.Origins.{Can, Follows, TokenOrigin}
@@ -20,15 +19,6 @@ use Rattle.node_origins.specs.Summary.{IsEntry, IsSummary}
 use Rattle.node_origins.proofs.Summaries.{entry_summary, same_summary}
 use Rattle.node_origins.proofs.Receives.{Leads, leads_leaves, leads_taken, leaves_leads}
 use Rattle.node_origins.proofs.Receives.{taken_leads}
-
--- where there is no event
-abbrev pub blank : Seen
-blank = record {
-  kind = kind.Send;
-  label = record { 0 = 0 };
-  serial = record { prev = 0; this = 0 };
-  answer = false;
-}
 
 fit_front : (n : ℕ) (es : List Seen) → AreFit es → AreFit (take n es)
 fit_front zero es fit = tt

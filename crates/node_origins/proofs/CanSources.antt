@@ -1,8 +1,7 @@
 -- Each way in which events allow an origin is one of four sources.
 use Rattle.std.proofs.Common.{◌⊎◌, ℕ, List, inl, inr, refl, sym, subst}
 use Rattle.node_machine.specs.declared.types.Seen.{Seen}
-use Rattle.node_machine.specs.Origins.{answered, Can, home, received, stamped, taken}
-use Rattle.node_machine.specs.Origins.{TokenOrigin}
+use Rattle.node_machine.specs.Origins.{answered, Can, home, received, stamped, taken, TokenOrigin}
 use Rattle.node_origins.specs.Sources.{FromHome, FromPredecessor, FromReceive, FromRequest}
 
 abbrev pub FromSome : List Seen → ℕ → TokenOrigin → Type 0

@@ -1,12 +1,12 @@
 -- A process can have given a stamp's token its label exactly if the first event that bears it is no
 -- receive, and either the label was new right before the stamp, or a token that the stamp succeeds
 -- was held before that first event.
-use Rattle.std.proofs.Common.{◌≡◌, ℕ, ◌≤◌, ◌⊎◌, zero, suc, false, List, [], ◌∷◌, ◌++◌}
-use Rattle.std.proofs.Common.{length, take, drop, Some, inl, inr, refl, arith, sym, ◌∙◌, ap, subst}
+use Rattle.std.proofs.Common.{◌≡◌, ℕ, ◌≤◌, ◌⊎◌, zero, suc, false, List, [], ◌∷◌, ◌++◌, length, take}
+use Rattle.std.proofs.Common.{drop, Some, inl, inr, refl, arith, sym, ◌∙◌, ap, subst}
 use Rattle.std.specs.List.{slice_get}
 use Rattle.std.proofs.lemmas.List.{take-append-drop}
 use Rattle.std.proofs.Math.Seq.{take-append_seam}
-use Rattle.std.proofs.lemmas.Option.{none-some, same_Some}
+use Rattle.std.proofs.lemmas.Option.{none-some, same_Some, slice_get_within as at_below}
 use Rattle.st_core.specs.declared.types.Label.{Label}
 use Rattle.st_core.specs.declared.types.Serial.{Serial}
 use Rattle.node_machine.specs.declared.types.Seen.{Seen}
@@ -15,7 +15,7 @@ use Rattle.node_machine.specs.Readings.{is_receipt}
 use Rattle.node_machine.specs.Given.{shown, tokens}
 use Rattle.node_machine.specs.Origins.{Bears, IsAtHome, StampsFirst}
 use Rattle.node_machine.proofs.ForCallers.{among_back, among_front, among_parts}
-use Rattle.node_given.proofs.ForCallers.{at_below, zero_held}
+use Rattle.node_given.proofs.ForCallers.{zero_held}
 use Rattle.node_origins.specs.declared.first_labels.FirstBearer.{FirstBearer}
 use Rattle.node_origins.specs.Tables.{HasPredecessor, IsBearer, NoneBears}
 
@@ -26,7 +26,6 @@ length_taken zero xs most = refl
 length_taken (suc n) [] most = absurd (omega arith)
 length_taken (suc n) (x ∷ xs) most = ap suc (length_taken n xs (omega arith))
 
--- tokens that were held stay
 pub tokens_later : (m n : ℕ) (es : List Seen) (x : Serial) → m ≤ n
     → IsAmong (tokens (take m es)) x → IsAmong (tokens (take n es)) x
 tokens_later zero n es x most (inl is) =

@@ -1,9 +1,7 @@
 -- In runs: each event has an origin told, which is one that the events allow.
 use Rattle.std.proofs.Common.{◌≡◌, ℕ, ◌+◌, ◌<◌, Bool, true, false, List, [], ◌∷◌, ◌++◌, length}
-use Rattle.std.proofs.Common.{Some}
-use Rattle.std.proofs.Common.{Option, None, option_map, option_to_list, get_or, refl, arith, sym}
-use Rattle.std.proofs.Common.{◌∙◌}
-use Rattle.std.proofs.Common.{ap, subst, cond}
+use Rattle.std.proofs.Common.{Some, Option, None, option_map, option_to_list, get_or, refl, arith}
+use Rattle.std.proofs.Common.{sym, ◌∙◌, ap, subst, cond}
 use Rattle.std.specs.List.{slice_get}
 use Rattle.std.proofs.lemmas.Bool.{false≢true}
 use Rattle.std.proofs.lemmas.List.{length-append}
@@ -21,8 +19,8 @@ use Rattle.node_machine.specs.Readings.{is_receipt}
 use Rattle.node_machine.specs.Origins.{Can, Held, held_in, Home, OriginsAre, origins_told}
 use Rattle.node_machine.specs.Origins.{TokenOrigin}
 use Rattle.node_machine.proofs.ForCallers.{origins_can}
-use Rattle.node_given.proofs.ForCallers.{at_get_or}
 use Rattle.node_origins.specs.Runs.{HaveOrigins}
+use Rattle.std.proofs.lemmas.Option.{slice_get-get_or as at_get_or}
 
 -- as many are told as there are events
 told_once : (b : Bool) (h : TokenOrigin) (o : Option Seen)

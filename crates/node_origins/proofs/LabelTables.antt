@@ -1,18 +1,16 @@
 -- The table of labels with one event more: it keeps what it has, since that came first.
-use Rattle.std.proofs.Common.{◌≡◌, ℕ, ◌≤◌, ◌==◌, zero, suc, cond, Bool, true}
-use Rattle.std.proofs.Common.{false, List, [], ◌∷◌, ◌++◌, length, take, Option, Some, None, refl}
-use Rattle.std.proofs.Common.{arith}
-use Rattle.std.proofs.Common.{sym, ◌∙◌, ap, subst}
+use Rattle.std.proofs.Common.{◌≡◌, ℕ, ◌==◌, zero, suc, cond, Bool, true, false, List, [], ◌∷◌, ◌++◌}
+use Rattle.std.proofs.Common.{length, take, Option, Some, None, refl, arith, sym, ◌∙◌, ap, subst}
 use Rattle.std.specs.List.{slice_get}
 use Rattle.std.proofs.lemmas.Bool.{eq-eqb, eqb-true, false≢true}
-use Rattle.std.proofs.lemmas.Option.{none-some}
+use Rattle.std.proofs.lemmas.List.{take-append-le}
+use Rattle.std.proofs.lemmas.Option.{none-some, slice_get_within as at_below}
 use Rattle.std.proofs.Math.Seq.{take-append_seam}
 use Rattle.st_core.specs.declared.types.Label.{Label}
 use Rattle.node_machine.specs.declared.types.Seen.{Seen}
 use Rattle.node_machine.specs.Readings.{is_receipt}
 use Rattle.node_machine.specs.Origins.{Bears}
-use Rattle.node_machine.proofs.ForCallers.{all_append}
-use Rattle.node_given.proofs.ForCallers.{at_below}
+use Rattle.node_machine.proofs.ForCallers.{all_append, item_behind}
 use Rattle.node_origins.specs.declared.first_labels.FirstBearer.{FirstBearer}
 use Rattle.node_origins.specs.Tables.{IsBearer, IsFirstBearer, NoneBears}
 
@@ -22,19 +20,7 @@ at_front [] ys i x at = absurd (none-some x at)
 at_front (z ∷ xs) ys zero x at = at
 at_front (z ∷ xs) ys (suc i) x at = at_front xs ys i x at
 
-at_end : {A : Type 0} (xs : List A) (x : A) → slice_get (xs ++ x ∷ []) (length xs) ≡ Some x
-at_end [] x = refl
-at_end (z ∷ xs) x = at_end xs x
-
-take_before : {A : Type 0} (xs ys : List A) (i : ℕ) → i ≤ length xs
-    → take i (xs ++ ys) ≡ take i xs
-take_before xs ys zero most = refl
-take_before [] ys (suc i) most = absurd (omega arith)
-take_before (z ∷ xs) ys (suc i) most =
-    ap (λ zs. z ∷ zs) (take_before xs ys i (omega arith))
-
 module _ (es : List Seen) (e : Seen) where
-  -- a label that was there
   pub bearer_stays : (label : Label) (first : FirstBearer) → IsBearer es label first
       → IsBearer (es ++ e ∷ []) label first
   bearer_stays label first is =
@@ -45,7 +31,7 @@ module _ (es : List Seen) (e : Seen) where
         bears = is.bears;
         kind = is.kind;
         new = subst (NoneBears label)
-            (sym (take_before es (e ∷ []) first.index (omega arith))) is.new;
+            (sym (take-append-le first.index es (e ∷ []) (omega arith))) is.new;
       }
 
   -- none has it still
@@ -59,7 +45,7 @@ module _ (es : List Seen) (e : Seen) where
       → IsBearer (es ++ e ∷ []) label (record { index = index; receives = receives })
   bearer_now label index receives at kind bears none = record {
     event = e;
-    at = ap (slice_get (es ++ e ∷ [])) at ∙ at_end es e;
+    at = ap (slice_get (es ++ e ∷ [])) at ∙ item_behind es [] e;
     bears = bears;
     kind = kind;
     new = subst (NoneBears label) (sym (ap (λ n. take n (es ++ e ∷ [])) at
@@ -71,7 +57,6 @@ module _ (es : List Seen) (e : Seen) where
   first_stays label None never is = none_still label (never refl) is
   first_stays label (Some first) never is = bearer_stays label first is
 
-  -- an answer bears no label
   pub labels_answer : e.answer ≡ true → (label : Label) (o : Option FirstBearer)
       → IsFirstBearer es label o → IsFirstBearer (es ++ e ∷ []) label o
   labels_answer answer label o =

@@ -34,7 +34,6 @@ abbrev pub Leads : List Seen → Seen → Seen → Type 0
 Leads front receive e = IsPlainly (front ++ receive ∷ []) e
     ⊎ ((token : Serial) × IsLowered (front ++ receive ∷ []) e token)
 
--- a list has one last element
 ends_once : {A : Type 0} (xs ys : List A) (x y : A) → xs ++ x ∷ [] ≡ ys ++ y ∷ []
     → (xs ≡ ys) × (x ≡ y)
 ends_once [] [] x y is = let same : x ≡ y = cc in (refl, same)

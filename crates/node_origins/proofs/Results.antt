@@ -1,25 +1,25 @@
 -- The list of all entries has that of each event at its index.
-use Rattle.std.proofs.Common.{◌≡◌, ◌↔◌, ℕ, ◌<◌, ◌≤◌, true, false, List, Some, length}
-use Rattle.std.proofs.Common.{get_or, refl, arith, sym, ◌∙◌, ap}
+use Rattle.std.proofs.Common.{◌≡◌, ◌↔◌, ℕ, ◌<◌, ◌≤◌, true, false, List, Some, length, get_or, refl}
+use Rattle.std.proofs.Common.{arith, sym, ◌∙◌, ap}
 use Rattle.std.specs.List.{slice_get}
-use Rattle.std.proofs.lemmas.Option.{same_Some}
+use Rattle.std.proofs.lemmas.Option.{same_Some, slice_get_within as at_below}
+use Rattle.std.proofs.lemmas.Option.{slice_get-get_or as at_get_or}
 use Rattle.st_core.specs.declared.types.Pid.{Pid}
 use Rattle.st_core.specs.Step.{Outcome}
 use Rattle.node_machine.specs.declared.types.Seen.{Seen}
 use Rattle.node_machine.specs.Node.{NodeAct}
 use Rattle.node_machine.specs.Readings.{is_receipt}
 use Rattle.node_machine.specs.Origins.{Can, origins_told, TokenOrigin}
-use Rattle.node_given.proofs.ForCallers.{at_below, at_get_or}
 use Rattle.node_origins.specs.declared.origin.EventOrigins.{EventOrigins}
 use Rattle.node_origins.specs.declared.origin.EventOrigins.TheVariants as origins
 use Rattle.node_origins.specs.declared.origin.StampOrigin.{StampOrigin}
 use Rattle.node_origins.specs.Runs.{HaveOrigins}
 use Rattle.node_origins.specs.Summary.{HasBothOrigins, HasNoOrigin, HasOneOrigin, IsEntry}
 use Rattle.node_origins.specs.Summary.{origin_of}
-use Rattle.node_origins.proofs.Befores.{blank}
 use Rattle.node_origins.proofs.Entries.{entry_one, entry_receive, entry_several, entry_unknown}
 use Rattle.node_origins.proofs.Entries.{one_parts, unknown_parts}
 use Rattle.node_origins.proofs.InRuns.{origin_in_run}
+use Rattle.node_given.proofs.ForCallers.{blank}
 
 -- an entry is there if the list has it
 as_entry : (found : List EventOrigins) (i : ℕ) (o p : EventOrigins) → slice_get found i ≡ Some o

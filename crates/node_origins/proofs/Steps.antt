@@ -1,6 +1,6 @@
 -- A token that is put back before a receive is put back right before it too.
-use Rattle.std.proofs.Common.{◌≡◌, ℕ, ◌++◌, max, true, List, [], ◌∷◌, refl}
-use Rattle.std.proofs.Common.{sym, ◌∙◌, ap, subst, append_assoc, append-nil}
+use Rattle.std.proofs.Common.{◌≡◌, ℕ, ◌++◌, max, true, List, [], ◌∷◌, refl, sym, ◌∙◌, ap, subst}
+use Rattle.std.proofs.Common.{append_assoc, append-nil}
 use Rattle.st_core.specs.declared.types.Serial.{Serial}
 use Rattle.node_machine.specs.Counts.{stamp_count}
 use Rattle.node_machine.specs.declared.types.Seen.{Seen}

@@ -1,7 +1,7 @@
 -- The table of successors with one event more: only the token that the event shows comes to what it
 -- has, and that is under the stamp that succeeds the token.
-use Rattle.std.proofs.Common.{◌≡◌, ℕ, ◌+◌, ◌==◌, ◌⊎◌, cond, Bool, true, false, List, Some}
-use Rattle.std.proofs.Common.{inl, inr, refl, arith, sym, ◌∙◌, ap, subst}
+use Rattle.std.proofs.Common.{◌≡◌, ℕ, ◌+◌, ◌==◌, ◌⊎◌, cond, Bool, true, false, List, Some, inl, inr}
+use Rattle.std.proofs.Common.{refl, arith, sym, ◌∙◌, ap, subst}
 use Rattle.std.specs.List.{slice_get}
 use Rattle.std.specs.HashMap.{get}
 use Rattle.std.specs.Option.{unwrap_or}
@@ -58,10 +58,6 @@ added t u key all o now is q =
           (λ i. record { label = parts.0 i; prev = parts.1 i; this = parts.2 i })
       | false ↦ λ _. refl
     ]) refl
-
-pub none_lead : (es : List Seen) (label prev this : ℕ) (h : TokenOrigin)
-    → LeadsTo es 0 label prev this h → ⊥
-none_lead es label prev this h is = let before = is.before in omega arith
 
 module _ (es : List Seen) (i : ℕ) (e : Seen) where
   -- what comes to the table

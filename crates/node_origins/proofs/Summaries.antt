@@ -9,8 +9,8 @@ use Rattle.node_origins.specs.declared.origin.EventOrigins.{EventOrigins}
 use Rattle.node_origins.specs.declared.origin.EventOrigins.TheVariants as origins
 use Rattle.node_origins.specs.declared.origin.StampOrigin.{StampOrigin}
 use Rattle.node_origins.specs.declared.origin.StampOrigin.TheVariants as stamp_origin
-use Rattle.node_origins.specs.Summary.{either_origins, HasNoOrigin, IsEntry, IsSummary}
-use Rattle.node_origins.specs.Summary.{origin_eq, origin_of}
+use Rattle.node_origins.specs.Summary.{either_origins, HasNoOrigin, IsEntry, IsSummary, origin_eq}
+use Rattle.node_origins.specs.Summary.{origin_of}
 
 -- ORIGINS
 

@@ -1,9 +1,8 @@
 -- The table of tokens keeps the first number that it is told for each, and numbers never fall: so
 -- it has the least.
-use Rattle.std.proofs.Common.{◌≡◌, ℕ, ◌+◌, ◌<◌, ◌≤◌, ◌==◌, ◌⊎◌, cond, Bool, true}
-use Rattle.std.proofs.Common.{false, List, [], ◌∷◌, ◌++◌, length, take, Option, Some, None, is_some}
-use Rattle.std.proofs.Common.{inl, inr}
-use Rattle.std.proofs.Common.{refl, arith, sym, ◌∙◌, ap, subst}
+use Rattle.std.proofs.Common.{◌≡◌, ℕ, ◌+◌, ◌<◌, ◌≤◌, ◌==◌, ◌⊎◌, cond, Bool, true, false, List, []}
+use Rattle.std.proofs.Common.{◌∷◌, ◌++◌, length, take, Option, Some, None, is_some, inl, inr, refl}
+use Rattle.std.proofs.Common.{arith, sym, ◌∙◌, ap, subst}
 use Rattle.std.specs.List.{slice_get}
 use Rattle.std.specs.HashMap.{get}
 use Rattle.std.proofs.lemmas.Bool.{and_parts, cases_order, eq-eqb, eqb-true, false≢true}
@@ -19,14 +18,10 @@ use Rattle.node_machine.specs.Premises.{IsAmong}
 use Rattle.node_machine.specs.Readings.{is_receipt}
 use Rattle.node_machine.specs.Given.{fresh, shown, tokens}
 use Rattle.node_machine.proofs.ForCallers.{tokens_new, tokens_parts}
-use Rattle.node_given.proofs.ForCallers.{shown_stamp, shown_taken, taken_more}
+use Rattle.node_given.proofs.ForCallers.{shown_stamp, shown_taken, swap, taken_more, turn}
 use Rattle.node_origins.specs.declared.first_tokens.FirstTokens.{FirstTokens}
 use Rattle.node_origins.specs.Tables.{AreFirstTokens, HasPredecessor, IsSince, same_serial}
 use Rattle.node_origins.proofs.Homes.{tokens_later}
-
-pub some_of : {A : Type 0} (o : Option A) → is_some o ≡ true → (x : A) × (o ≡ Some x)
-some_of None is = absurd (false≢true is)
-some_of (Some x) is = (x, refl)
 
 pub none_of : {A : Type 0} (o : Option A) → is_some o ≡ false → o ≡ None
 none_of None is = refl
@@ -48,7 +43,6 @@ among_more xs ys prev this more is = record {
   count = is.count;
 }
 
--- one of them is the first, or in the rest
 first_or : (x : Serial) (xs : List Serial) (prev this : ℕ) → HasPredecessor (x ∷ xs) prev this
     → ((x.prev ≡ prev) × (this ≡ stamp_count x.this)) ⊎ HasPredecessor xs prev this
 first_or x xs prev this is = elim is.held [
@@ -72,15 +66,6 @@ same_parts : (p q a b : ℕ) → same_serial (p, q) (a, b) ≡ true → (p ≡ a
 same_parts p q a b is =
     let parts = and_parts (p == a) (q == b) is in
     (eqb-true p a parts.0, eqb-true q b parts.1)
-
--- no tokens
-pub since_none_yet : (es : List Seen) (t : FirstTokens)
-    → ((q : ℕ × ℕ) → get same_serial t.since q ≡ None) → IsSince es 0 [] t
-since_none_yet es t none = record {
-  sound = λ prev this m is. absurd (none-some m (sym (none (prev, this)) ∙ is));
-  least = λ prev this k below is. absurd (omega arith);
-  new = λ prev this is. absurd is.held;
-}
 
 -- ONE TOKEN MORE
 
@@ -250,17 +235,7 @@ module _ (es : List Seen) (i : ℕ) (e : Seen) (at : slice_get es i ≡ Some e) 
       new = λ prev this is. absurd is.held;
     }
 
--- by kind
-swap : (x y z : Serial) → IsAmong (x ∷ y ∷ []) z → IsAmong (y ∷ x ∷ []) z
-swap x y z (inl is) = inr (inl is)
-swap x y z (inr (inl is)) = inl is
-swap x y z (inr (inr is)) = absurd is
-
-turn : (w x y z : Serial) → IsAmong (w ∷ x ∷ y ∷ []) z → IsAmong (y ∷ x ∷ w ∷ []) z
-turn w x y z (inl is) = inr (inr (inl is))
-turn w x y z (inr (inl is)) = inr (inl is)
-turn w x y z (inr (inr (inl is))) = inl is
-turn w x y z (inr (inr (inr is))) = absurd is
+-- BY KIND
 
 module _ (es : List Seen) (i : ℕ) (e : Seen) (at : slice_get es i ≡ Some e) (t : FirstTokens) where
   pub since_stamp : is_receipt e ≡ false

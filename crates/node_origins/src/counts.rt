@@ -13,7 +13,6 @@ pub(crate) fn count_after(clock: u64) -> u64
     clock.wrapping_add(1) % SERIAL_END
 }
 
-/// The clock that an answer with this count leaves.
 pub(crate) fn clock_of_answer(count: u64) -> u64
     requires { count < 2 ^ 60 }
     ensures { result ≡ answer_count count }
@@ -21,7 +20,6 @@ pub(crate) fn clock_of_answer(count: u64) -> u64
     16 * count + 15
 }
 
-/// The last that it leaves.
 pub(crate) fn last_of_answer(count: u64) -> u64
     requires { count < 2 ^ 60 }
     ensures { result ≡ serial_count (answer_count count) }

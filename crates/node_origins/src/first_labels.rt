@@ -19,7 +19,6 @@ pub(crate) struct FirstBearer {
     pub(crate) receives: bool,
 }
 
-/// Whether an event is a receive.
 fn receives(event: Seen) -> bool
     ensures { result ≡ is_receipt event }
 {

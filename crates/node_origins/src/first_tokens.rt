@@ -25,7 +25,6 @@ pub(crate) struct FirstTokens {
 }
 
 impl FirstTokens {
-    /// No tokens.
     fn new(alloc: Global) -> FirstTokens
         ensures { (es : List SeenValue) → IsSince es 0 [] result }
     {

@@ -44,7 +44,6 @@ pub(crate) struct Successors {
 }
 
 impl Successors {
-    /// No tokens.
     pub(crate) fn new(alloc: Global) -> Successors
         ensures { (es : List SeenValue) → AreSuccessors es 0 result }
     {

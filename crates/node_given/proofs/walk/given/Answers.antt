@@ -1,26 +1,15 @@
 -- One event more has its way, and is among those that the walk knows.
-use Rattle.std.proofs.Common.{◌≡◌, [], ◌∷◌, ◌++◌, false, get_or, length, take, inl, inr, arith, sym}
+use Rattle.std.proofs.Common.{◌≡◌, [], ◌∷◌, ◌++◌, get_or, length, take, inl, inr, arith, sym}
 use Rattle.std.proofs.Common.{◌∙◌, ap, subst}
 use Rattle.std.specs.List.{count_by, slice_get}
 use Rattle.std.proofs.lemmas.List.{take_all}
-use Rattle.std.proofs.lemmas.Option.{same_Some}
-use Rattle.st_core.specs.declared.types.Kind.TheVariants as kind
-use Rattle.node_machine.specs.declared.types.Seen.{Seen}
+use Rattle.std.proofs.lemmas.Option.{same_Some, slice_get-get_or as at_get_or}
 use Rattle.node_machine.specs.Readings.{NeedsAtLeast}
 use Rattle.node_given.specs.Walk.{IsKnown, IsWay, names_put_back}
-use Rattle.node_given.proofs.Decisions.{at_get_or, length_more, pushed_at, taken_more}
+use Rattle.node_given.proofs.Decisions.{blank, length_more, pushed_at, taken_more}
 use Rattle.node_given.proofs.InRuns.{least_in_run, places_in_run, ungiven_in_run}
 use Rattle.node_given.proofs.PutBacks.{counted_more, way_least}
 use Rattle.node_given.proofs.walk.given.Goals as goal
-
--- where there is no event
-abbrev blank : Seen
-blank = record {
-  kind = kind.Send;
-  label = record { 0 = 0 };
-  serial = record { prev = 0; this = 0 };
-  answer = false;
-}
 
 pub loop-event-preserved : goal.loop-event-preserved
 loop-event-preserved c =

@@ -1,11 +1,9 @@
 -- One event more has its entry, and in runs a stamp's origin is one that is allowed.
-use Rattle.std.proofs.Common.{◌≡◌, ◌<◌, get_or, length, inl, inr, arith}
-use Rattle.std.proofs.Common.{sym, ◌∙◌, ap, subst, Some}
+use Rattle.std.proofs.Common.{◌≡◌, ◌<◌, get_or, length, inl, inr, arith, sym, ◌∙◌, ap, subst, Some}
 use Rattle.std.specs.List.{slice_get}
-use Rattle.std.proofs.lemmas.Option.{none-some, same_Some}
-use Rattle.node_given.proofs.ForCallers.{at_get_or, length_more, pushed_at}
+use Rattle.std.proofs.lemmas.Option.{none-some, same_Some, slice_get-get_or as at_get_or}
+use Rattle.node_given.proofs.ForCallers.{length_more, pushed_at, blank}
 use Rattle.node_origins.specs.Summary.{IsEntry}
-use Rattle.node_origins.proofs.Befores.{blank}
 use Rattle.node_origins.proofs.Results.{certain_at, impossible_at, one_at, receive_at, several_at}
 use Rattle.node_origins.proofs.Results.{unknown_at}
 use Rattle.node_origins.proofs.walk.origins.Goals as goal

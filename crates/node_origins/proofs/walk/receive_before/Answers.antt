@@ -1,9 +1,10 @@
 -- The receive is at the index before the stamp's.
 use Rattle.std.proofs.Common.{◌≡◌, ◌-◌, ◌<◌, suc, length, get_or, arith, sym, ◌∙◌}
 use Rattle.std.proofs.lemmas.Bool.{false≢true}
-use Rattle.node_given.proofs.ForCallers.{at_below, at_get_or}
-use Rattle.node_origins.proofs.Befores.{blank, none_brings, receive_brings}
+use Rattle.node_origins.proofs.Befores.{none_brings, receive_brings}
 use Rattle.node_origins.proofs.walk.receive_before.Goals as goal
+use Rattle.std.proofs.lemmas.Option.{slice_get_within as at_below, slice_get-get_or as at_get_or}
+use Rattle.node_given.proofs.ForCallers.{blank}
 
 pub returns-then-brings : goal.returns-then-brings
 returns-then-brings c =

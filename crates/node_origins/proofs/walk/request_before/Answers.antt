@@ -2,10 +2,11 @@
 use Rattle.std.proofs.Common.{◌≡◌, ◌-◌, ◌<◌, suc, length, get_or, arith, sym, ◌∙◌, ap}
 use Rattle.std.specs.List.{slice_get}
 use Rattle.std.proofs.lemmas.Bool.{false≢true}
-use Rattle.node_given.proofs.ForCallers.{at_below, at_get_or}
 use Rattle.node_origins.specs.declared.origin.EventOrigins.TheVariants as origins
-use Rattle.node_origins.proofs.Befores.{blank, none_requests, request_gives}
+use Rattle.node_origins.proofs.Befores.{none_requests, request_gives}
 use Rattle.node_origins.proofs.walk.request_before.Goals as goal
+use Rattle.std.proofs.lemmas.Option.{slice_get_within as at_below, slice_get-get_or as at_get_or}
+use Rattle.node_given.proofs.ForCallers.{blank}
 
 pub returns-then-goes_on_from : goal.returns-then-goes_on_from
 returns-then-goes_on_from c =

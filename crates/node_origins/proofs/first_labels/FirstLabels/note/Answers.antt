@@ -2,9 +2,10 @@
 use Rattle.std.proofs.Common.{nat_eq, sym, ◌∙◌}
 use Rattle.std.specs.HashMap.{get}
 use Rattle.node_origins.proofs.LabelTables.{labels_answer, labels_more, labels_same}
-use Rattle.node_origins.proofs.TokenTables.{none_of, some_of}
+use Rattle.node_origins.proofs.TokenTables.{none_of}
 use Rattle.node_origins.specs.Tables.{first_in}
 use Rattle.node_origins.proofs.first_labels.FirstLabels.note.Goals as goal
+use Rattle.st_core.proofs.ForCallers.{some_of}
 
 pub returns-then-event : goal.returns-then-event
 returns-then-event c = λ es long are label.

@@ -1,10 +1,10 @@
 -- One event more comes to the table.
 use Rattle.std.proofs.Common.{◌≤◌, get_or, length, take, arith, sym, subst}
-use Rattle.node_given.proofs.ForCallers.{at_get_or, taken_more}
+use Rattle.node_given.proofs.ForCallers.{taken_more, blank}
 use Rattle.node_origins.specs.Tables.{AreFirstLabels}
-use Rattle.node_origins.proofs.Befores.{blank}
 use Rattle.node_origins.proofs.Homes.{length_taken}
 use Rattle.node_origins.proofs.first_labels.FirstLabels.of.Goals as goal
+use Rattle.std.proofs.lemmas.Option.{slice_get-get_or as at_get_or}
 
 pub loop-index-preserved : goal.loop-index-preserved
 loop-index-preserved c =

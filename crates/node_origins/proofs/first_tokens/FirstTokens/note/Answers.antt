@@ -2,8 +2,9 @@
 use Rattle.std.proofs.Common.{cond, Some, sym, ◌∙◌, ap}
 use Rattle.std.specs.HashMap.{get}
 use Rattle.node_origins.specs.Tables.{same_serial}
-use Rattle.node_origins.proofs.TokenTables.{none_of, since_more, since_same, some_of}
+use Rattle.node_origins.proofs.TokenTables.{none_of, since_more, since_same}
 use Rattle.node_origins.proofs.first_tokens.FirstTokens.note.Goals as goal
+use Rattle.st_core.proofs.ForCallers.{some_of}
 
 pub returns-then-contains_key : goal.returns-then-contains_key
 returns-then-contains_key c = λ es xs since.

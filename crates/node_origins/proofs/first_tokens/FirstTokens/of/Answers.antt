@@ -1,10 +1,10 @@
 -- The table begins with the token that can be made before all events.
 use Rattle.std.proofs.Common.{◌≡◌, ◌+◌, [], arith, subst}
-use Rattle.node_given.proofs.ForCallers.{at_get_or}
 use Rattle.node_origins.specs.Tables.{IsSince}
-use Rattle.node_origins.proofs.Befores.{blank}
 use Rattle.node_origins.proofs.TokenTables.{since_start}
 use Rattle.node_origins.proofs.first_tokens.FirstTokens.of.Goals as goal
+use Rattle.std.proofs.lemmas.Option.{slice_get-get_or as at_get_or}
+use Rattle.node_given.proofs.ForCallers.{blank}
 
 pub loop-index-init : goal.loop-index-init
 loop-index-init c =

@@ -2,10 +2,10 @@
 use Rattle.std.proofs.Common.{◌≤◌, length, not, inl, inr, refl, arith, sym, ◌∙◌, ap, subst}
 use Rattle.st_core.proofs.ForCallers.{not_true}
 use Rattle.std.proofs.lemmas.Bool.{false≢true, le-leb}
-use Rattle.node_given.proofs.ForCallers.{at_below}
 use Rattle.node_origins.specs.Tables.{IsFirstBearer}
 use Rattle.node_origins.proofs.Homes.{home_back, home_new, home_saved, home_unborne}
 use Rattle.node_origins.proofs.home.Firsts.allow_home.Goals as goal
+use Rattle.std.proofs.lemmas.Option.{slice_get_within as at_below}
 
 pub returns-in-None : goal.returns-in-None
 returns-in-None c = λ es are at.
