@@ -262,7 +262,7 @@ now_given es None l m e (inr (inr answer)) is told =
 
 -- RUNS
 
--- what holds of each stamp among the later events and of the events before it
+-- P holds of each stamp among the later events with the events before it
 abbrev pub EachStamp : (List Seen → Seen → Type 0) → List Seen → List Seen → Type 0
 EachStamp P es [] = Unit {0}
 EachStamp P es (e ∷ rest) = (is_receipt e ≡ false → P es e) × EachStamp P (es ++ e ∷ []) rest

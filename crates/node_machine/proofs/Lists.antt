@@ -54,7 +54,7 @@ pub length_more : {A : Type 0} (xs more : List A) → length xs ≤ length (xs +
 length_more [] more = omega arith
 length_more (y ∷ xs) more = let rest = length_more xs more in omega arith
 
--- what holds of each item, its number from n on, and the item of another list at its place
+-- P holds of each item with its number, from n on, and the other list's item at its place
 abbrev pub AllAlong : {A B : Type 0} → (ℕ → A → B → Type 0) → ℕ → List A → List B → Type 0
 AllAlong P n [] ys = Unit {0}
 AllAlong P n (x ∷ xs) [] = Unit {0}

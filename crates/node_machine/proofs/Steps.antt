@@ -83,7 +83,7 @@ node_process_after s a o t p =
     ap (λ (x : Outcome). process x.after p) (sym t.is_outcome)
     ∙ process-map (changed (machine_act a) t.done) (changed_pid (machine_act a) t.done) s p
 
--- what a process's token comes to, of the one that it has or of none
+-- P holds of what f makes of a process's token, if there is one: so of each item of that list
 pub of_token : {A : Type 0} (P : A → Type 0) (f : Token → A) (found : Option Process)
     → ((t : Token) → (local_found found).token ≡ Some t → P (f t))
     → AllByRecursion P (option_to_list (option_map f
