@@ -112,8 +112,7 @@ module _ (streams : List Stream) (ok : IsPaired streams) (p : Pid) (i : ℕ) (e 
       (received_before (events_of streams p) e.serial.prev i) else of_source
       (elim (stamp_of streams e.from e.serial.this) [
         | None ↦ source.Hidden
-        | Some f ↦
-            source.Event e.from f.0
+        | Some f ↦ source.Event e.from f.0
       ])))) < 1 + weight e) [
         | true ↦ λ is. stamp_back is (received_before (events_of streams p) e.serial.prev i) refl
         | false ↦ λ is. receive_back is (stamp_of streams e.from e.serial.this) refl

@@ -23,7 +23,6 @@ use st_pair::{Pairing, Source};
 use std::alloc::{AllocError, Global};
 use std::marker::Model;
 
-/// Returns the cause at an index.
 fn back_at(list: &[Option<u64>], index: u64) -> Option<u64>
     ensures { result ≡ option_and_then (λ x. x) (slice_get list.now index) }
 {
