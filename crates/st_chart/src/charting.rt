@@ -50,7 +50,6 @@ fn put_lane_line(buffer: &mut Buffer, number: u64, pid: Pid)
     put_bytes(buffer, b"\n");
 }
 
-/// Writes the line that names the label.
 fn write_label<W: ByteSink>(writer: &mut W, page: &mut Page, label: Label) -> Result<(), Device>
     ensures { Draws W.ByteSink (label_line label) writer.old writer.new page.old page.new result }
 {
@@ -59,7 +58,6 @@ fn write_label<W: ByteSink>(writer: &mut W, page: &mut Page, label: Label) -> Re
     put_on(writer, &mut page.waits, page.line.as_slice())
 }
 
-/// Writes a line for each lane.
 fn write_lanes<W: ByteSink>(writer: &mut W, page: &mut Page, lanes: &[Pid]) -> Result<(), Device>
     ensures { Draws W.ByteSink (lane_lines 1 lanes.now)
         writer.old writer.new page.old page.new result }
@@ -72,7 +70,6 @@ fn write_lanes<W: ByteSink>(writer: &mut W, page: &mut Page, lanes: &[Pid]) -> R
     Ok(())
 }
 
-/// Writes an item's mark in each of these lanes.
 fn write_each_mark<W: ByteSink>(
     writer: &mut W,
     page: &mut Page,
@@ -138,7 +135,6 @@ fn write_runs<W: ByteSink>(
     write_run(writer, page, back, charted)
 }
 
-/// Writes an item's mark in each lane.
 fn write_marks<W: ByteSink>(
     writer: &mut W,
     page: &mut Page,
@@ -156,7 +152,6 @@ fn write_marks<W: ByteSink>(
     }
 }
 
-/// Writes the line of an item.
 fn write_item<W: ByteSink>(
     writer: &mut W,
     page: &mut Page,
@@ -173,7 +168,6 @@ fn write_item<W: ByteSink>(
     put_on(writer, &mut page.waits, page.line.as_slice())
 }
 
-/// Writes the line of an item, if it has the label.
 fn write_if_charted<W: ByteSink>(
     writer: &mut W,
     page: &mut Page,
@@ -190,7 +184,6 @@ fn write_if_charted<W: ByteSink>(
     }
 }
 
-/// Writes the line of each item that has the label.
 fn write_items<W: ByteSink>(
     writer: &mut W,
     page: &mut Page,
@@ -207,7 +200,6 @@ fn write_items<W: ByteSink>(
     Ok(())
 }
 
-/// Writes the label, the lanes and the items.
 fn write_chart<W: ByteSink>(
     writer: &mut W,
     page: &mut Page,

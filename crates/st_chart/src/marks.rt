@@ -18,10 +18,8 @@ use st_text::{Buffer, put_bytes, put_number, put_serial};
 /// The lanes that get their bars at once, which take 1,024 bytes.
 pub(crate) const RUN: usize = 256;
 
-/// The bars of a run.
 static BARS: [[u8; 4]; RUN] = [*b"   |"; RUN];
 
-/// Returns the bars of this many lanes.
 pub(crate) fn bars_of(count: usize) -> &'static [u8]
     requires { count ≤ 256 }
     ensures { result.now ≡ bars count }
@@ -43,7 +41,6 @@ fn letter_of(item: Item, kind: Kind) -> &'static [u8]
     }
 }
 
-/// An item's mark in a process's lane.
 pub(crate) fn mark_of(charted: &ChartedItem, lane: Pid) -> &'static [u8]
     ensures { result.now ≡ mark charted.now lane }
 {
@@ -71,7 +68,6 @@ fn put_item_word(buffer: &mut Buffer, item: Item, kind: Kind)
     }
 }
 
-/// Appends a cause.
 fn put_cause(buffer: &mut Buffer, cause: Option<Cause>)
     requires { HasRoom origin_room buffer.old }
     ensures { Puts origin_room (cause_words cause) buffer.old buffer.new }
@@ -87,7 +83,6 @@ fn put_cause(buffer: &mut Buffer, cause: Option<Cause>)
     }
 }
 
-/// Appends what an item follows.
 fn put_origin(buffer: &mut Buffer, chains: &Chains, item: Item)
     requires { HasRoom origin_room buffer.old }
     ensures { Puts origin_room (origin_words chains.now item) buffer.old buffer.new }

@@ -31,7 +31,6 @@ impl Page {
     }
 }
 
-/// Writes what waits.
 pub(crate) fn turn<W: ByteSink>(writer: &mut W, waits: &mut Vec<u8>) -> Result<(), Device>
     ensures goes { WritesOn W.puts W.failed [] writer.old writer.new
         waits.old.items waits.new.items result }

@@ -35,7 +35,6 @@ fn put_verdict(buffer: &mut Buffer, verdict: &Verdict)
     }
 }
 
-/// Appends the reason against an event of this process.
 fn put_reason(buffer: &mut Buffer, pid: Pid, reason: &Reason)
     requires { HasRoom reason_room buffer.old }
     ensures { Puts reason_room (reason_words pid reason.now) buffer.old buffer.new }
@@ -54,7 +53,6 @@ fn put_reason(buffer: &mut Buffer, pid: Pid, reason: &Reason)
     }
 }
 
-/// Appends the line that names the place and the reason.
 fn put_unfit(buffer: &mut Buffer, pid: Pid, index: u64, reason: &Reason)
     requires { HasRoom line_room buffer.old }
     ensures { buffer.new.items ≡ buffer.old.items ++ unfit_line pid index reason.now }
@@ -87,7 +85,6 @@ fn put_back(buffer: &mut Buffer, event: Option<Event>)
     put_bytes(buffer, b"\n");
 }
 
-/// Writes the line that names the place and the reason.
 fn write_unfit_line<W: ByteSink>(
     writer: &mut W,
     buffer: &mut Buffer,
