@@ -3,9 +3,9 @@
 use Rattle.std.proofs.Common.{◌≡◌, ◌≢◌, ℕ, ◌+◌, ◌-◌, ◌<◌, ◌≤◌, ◌^◌, zero, suc, nat_lt, true, false}
 use Rattle.std.proofs.Common.{cond, List, [], ◌∷◌, ◌++◌, length, drop, get_or, Option, Some, None}
 use Rattle.std.proofs.Common.{option_and_then, slice_get, refl, sym, ◌∙◌, ap, subst, arith}
-use Rattle.std.proofs.Common.{append_assoc, append-nil, inl, inr}
+use Rattle.std.proofs.Common.{append_assoc, append-nil}
 use Rattle.std.specs.List.{AllByRecursion}
-use Rattle.std.proofs.lemmas.Bool.{cases_lt, false≢true, lt-ltb, ltb-true}
+use Rattle.std.proofs.lemmas.Bool.{lt-ltb, ltb-true}
 use Rattle.std.proofs.lemmas.List.{drop_all}
 use Rattle.std.proofs.lemmas.Option.{same_Some, none-some, cond_some}
 use Rattle.st_core.specs.declared.types.Pid.{Pid}
@@ -174,33 +174,11 @@ listed_at first (s ∷ streams) p f is =
           (suc rest.0, omega arith, rest.2)
     ] refl is
 
-not_less : (j k : ℕ) → j < k + 1 → nat_lt j k ≡ false → j ≡ k
-not_less j k less is = elim (cases_lt j k) [
-  | inl below ↦ absurd (false≢true (sym is ∙ lt-ltb j k below))
-  | inr above ↦ omega arith
-]
-
 -- no process up to a place has an event on the line
 abbrev pub NoneBefore : List Stream → ℕ → ℕ → Type 0
 NoneBefore streams n k =
     (j : ℕ) (q : Pid) → j < k → slice_get (pids_of streams) j ≡ Some q → (i : ℕ)
     → line_number_of streams q i ≢ Some n
-
-pub none_more : (streams : List Stream) (pids : List Pid) (n k : ℕ) (d : Pid)
-    → pids ≡ pids_of streams
-    → k < length pids → NoneBefore streams n k → ((i : ℕ)
-    → line_number_of streams (get_or pids k d) i ≢ Some n)
-    → NoneBefore streams n (k + 1)
-none_more streams pids n k d are within before here j q less at i =
-    elim (nat_lt j k) as (λ b. nat_lt j k ≡ b → line_number_of streams q i ≢ Some n) [
-      | true ↦ λ is. before j q (ltb-true j k is) at i
-      | false ↦ λ is.
-          let same : j ≡ k = not_less j k less is in
-          let who : get_or pids k d ≡ q = same_Some (get_or pids k d) q
-          (sym (at_get_or pids k d within) ∙ ap (λ (ps : List Pid). slice_get ps k) are
-          ∙ ap (slice_get (pids_of streams)) (sym same) ∙ at) in
-          subst (λ x. line_number_of streams x i ≢ Some n) who (here i)
-    ] refl
 
 -- if no process has one, nobody does
 pub none_at_all : (streams : List Stream) (pids : List Pid) (n k : ℕ) → pids ≡ pids_of streams

@@ -2,10 +2,10 @@
 -- by passing the processes before it. The lines of acts are no event's.
 use Rattle.std.proofs.Common.{◌≡◌, ℕ, ◌+◌, ◌-◌, ◌<◌, ◌≤◌, zero, suc, nat_lt, true, false, cond}
 use Rattle.std.proofs.Common.{List, [], ◌∷◌, ◌++◌, length, map, Option, Some, None, slice_get, refl}
-use Rattle.std.proofs.Common.{sym, ◌∙◌, ap, arith, append_assoc, inl, inr}
+use Rattle.std.proofs.Common.{option_map, sym, ◌∙◌, ap, arith, append_assoc, inl, inr}
 use Rattle.std.specs.List.{flat_map, list_any}
 use Rattle.std.proofs.lemmas.Bool.{cases_lt, lt-ltb}
-use Rattle.std.proofs.lemmas.Option.{same_Some, none-some, slice_get_within}
+use Rattle.std.proofs.lemmas.Option.{same_Some, none-some, slice_get_within, slice_get-map}
 use Rattle.st_core.specs.declared.types.Pid.{Pid}
 use Rattle.st_core.specs.declared.types.Act.{Act}
 use Rattle.st_core.specs.declared.types.Event.{Event}
@@ -100,12 +100,6 @@ event_on_line c p i e at =
 
 -- ACTS HAVE THEIR LINES
 
-act_in : (acts : List Act) (n : ℕ) (a : Act) → slice_get acts n ≡ Some a
-    → slice_get (map lines.Act acts) n ≡ Some (lines.Act a)
-act_in [] n a at = absurd (none-some a at)
-act_in (x ∷ acts) zero a at = ap (λ y. Some (lines.Act y)) (same_Some x a at)
-act_in (x ∷ acts) (suc n) a at = act_in acts n a at
-
 -- after all processes
 record IsBehind (first : ℕ) (streams : List Stream) (tail : List Line) : Type 0 where
   low : first ≤ line_behind first streams
@@ -145,7 +139,8 @@ act_on_line c acts n a are at =
     let last = line_behind 3 c.streams in
     let number : last + n - 1 ≡ suc (last - 3 + suc n) = omega arith in
     ap (slice_get (lines_of c)) number ∙ behind.tail_at (suc n)
-    ∙ ap (λ x. slice_get (act_lines x) (suc n)) are ∙ act_in acts n a at
+    ∙ ap (λ x. slice_get (act_lines x) (suc n)) are ∙ slice_get-map lines.Act acts n
+    ∙ ap (option_map lines.Act) at
 
 -- LINES HAVE THEIR EVENTS
 

@@ -11,6 +11,7 @@ use Rattle.st_commands.specs.Output.{no_acts, Output}
 use Rattle.st_commands.proofs.ForCallers.{fault_status_high, WasRead}
 use Rattle.node_check.specs.declared.verdict.NodeVerdict.{NodeVerdict}
 use Rattle.node_check.specs.declared.verdict.NodeVerdict.TheVariants as verdict
+use Rattle.node_check.specs.Verdict.{in_common, ShowsOnNode}
 use Rattle.seqtool_commands.specs.NodeCheck.{ChecksBundle, ChecksOnNode, Faulty, IsNodeChecked}
 use Rattle.seqtool_commands.specs.NodeCheck.{IsNodeJudged, Judged, Judges, Lacking, MeansNodeNo}
 use Rattle.seqtool_commands.specs.NodeCheck.{MeansNodeYes, node_judged, NoRoom, OfActs, OfNoActs}
@@ -60,35 +61,24 @@ node_yes_means bytes out (Lacking b n) e = absurd (omega arith)
 node_yes_means bytes out (Faulty b f is) e =
     let high = fault_status_high f in absurd (omega arith)
 
+-- a verdict that isn't a yes
+no_verdict : (bytes : List ℕ) (v : NodeVerdict) (j : IsNodeJudged bytes v)
+    → ¬ ShowsOnNode j.streams (in_common j.acts) → MeansNodeNo bytes (node_judged v)
+no_verdict bytes v j refuted = record {
+  streams = j.streams;
+  acts = j.acts;
+  verdict = v;
+  spelled = j.spelled;
+  refuted = refuted;
+  text = refl;
+  place = j.verdict;
+}
+
 judged_no : (bytes : List ℕ) (v : NodeVerdict) → IsNodeJudged bytes v
     → (node_judged v).status ≡ 1 → MeansNodeNo bytes (node_judged v)
-judged_no bytes (verdict.Stuck n) j e = record {
-  streams = j.streams;
-  acts = j.acts;
-  verdict = verdict.Stuck n;
-  spelled = j.spelled;
-  refuted = j.refutes;
-  text = refl;
-  place = j.verdict;
-}
-judged_no bytes (verdict.Differs n) j e = record {
-  streams = j.streams;
-  acts = j.acts;
-  verdict = verdict.Differs n;
-  spelled = j.spelled;
-  refuted = j.refutes;
-  text = refl;
-  place = j.verdict;
-}
-judged_no bytes (verdict.Left p) j e = record {
-  streams = j.streams;
-  acts = j.acts;
-  verdict = verdict.Left p;
-  spelled = j.spelled;
-  refuted = j.refutes;
-  text = refl;
-  place = j.verdict;
-}
+judged_no bytes (verdict.Stuck n) j e = no_verdict bytes (verdict.Stuck n) j j.refutes
+judged_no bytes (verdict.Differs n) j e = no_verdict bytes (verdict.Differs n) j j.refutes
+judged_no bytes (verdict.Left p) j e = no_verdict bytes (verdict.Left p) j j.refutes
 judged_no bytes verdict.Yes j e = absurd (omega arith)
 
 pub node_no_means : (bytes : List ℕ) (out : Output) → IsNodeChecked bytes out → out.status ≡ 1

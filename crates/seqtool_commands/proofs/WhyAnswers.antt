@@ -20,8 +20,7 @@ module _ (streams : List Stream) (q : Question) (x : Node) where
   abbrev line_by : Option Event → List ℕ
   line_by o = elim o [
     | None ↦ []
-    | Some e ↦
-        hop_line streams q.direction x.depth x.place.0 x.place.1 e
+    | Some e ↦ hop_line streams q.direction x.depth x.place.0 x.place.1 e
   ]
 
   pub line_of : (o : Option Event) → event_at streams x.place.0 x.place.1 ≡ o

@@ -103,8 +103,9 @@ runs_words =
 
 -- what a premise says
 abbrev pub premise_text : Premise → List ℕ
-premise_text premise.ReportsTakes = codes
-    "(1) if in between, or before a beginning, its process took no token whose receive wasn't reported"
+premise_text premise.ReportsTakes =
+    codes "(1) if in between, or before a beginning, its process took no token whose receive "
+    ++ codes "wasn't reported"
 premise_text premise.KeepsCounters = codes
     "(2) if there it put no token back, and spawned no process"
 premise_text premise.BeginsNothing = codes

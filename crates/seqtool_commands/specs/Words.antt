@@ -1,7 +1,7 @@
 -- The command line: which task a list of words asks for, and of which file. The words of a command
 -- come in one order; the file is last.
 use Rattle.std.specs.Prelude.{ℕ, Bool, false, List, [], ◌∷◌, Option, Some, None, option_map}
-use Rattle.std.specs.Prelude.{option_and_then, ◌==◌, if◌then◌else◌, codes}
+use Rattle.std.specs.Prelude.{option_and_then, ◌++◌, ◌==◌, if◌then◌else◌, codes}
 use Rattle.std.specs.Str.{bytes_eq}
 use Rattle.st_core.specs.declared.types.Pid.{Pid}
 use Rattle.st_text.specs.Parsing.{number_in, pid_in}
@@ -125,8 +125,9 @@ version_asked (program ∷ w ∷ x ∷ rest) = false
 -- ---- what is written of words that ask for no task
 
 abbrev pub tool_usage_words : List ℕ
-tool_usage_words = codes
-    "usage: seqtool audit|renumber [FILE], or check [--node] [FILE], or complete [--as added|streams|acts] [FILE], or why PID INDEX [--effects] [FILE]"
+tool_usage_words =
+    codes "usage: seqtool audit|renumber [FILE], or check [--node] [FILE], "
+    ++ codes "or complete [--as added|streams|acts] [FILE], or why PID INDEX [--effects] [FILE]"
 
 abbrev pub tool_version_words : List ℕ
 tool_version_words = codes "seqtool 1.0.0"

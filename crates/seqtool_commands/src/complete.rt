@@ -88,7 +88,6 @@ fn tell_acts<H: Threads + Sync, W: ByteSink>(
     }
 }
 
-/// Whether the completion has more processes than the reader takes.
 fn is_long(completion: &Completion) -> bool
     ensures { IsTrue result
         ↔ (MOST_PROCESSES < length (pids_of (all_streams completion.now.wholes))) }
@@ -96,7 +95,6 @@ fn is_long(completion: &Completion) -> bool
     completion.streams().pids().len() > MOST_PROCESSES
 }
 
-/// Writes a completion in this form.
 fn tell_completion<H: Threads + Sync, W: ByteSink>(
     rt: &H,
     alloc: Global,
@@ -124,7 +122,6 @@ fn tell_completion<H: Threads + Sync, W: ByteSink>(
     }
 }
 
-/// Writes what was found out about streams.
 fn tell_answer<H: Threads + Sync, W: ByteSink>(
     rt: &H,
     alloc: Global,

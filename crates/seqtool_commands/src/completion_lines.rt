@@ -52,7 +52,6 @@ fn write_added_of<W: ByteSink>(
     Ok(())
 }
 
-/// Writes a line for each added event of these processes.
 fn write_added_by<W: ByteSink>(
     writer: &mut W,
     buffer: &mut Buffer,
@@ -68,7 +67,6 @@ fn write_added_by<W: ByteSink>(
     Ok(())
 }
 
-/// Writes a line for each process that the streams don't list.
 fn write_unlisted<W: ByteSink>(
     writer: &mut W,
     buffer: &mut Buffer,

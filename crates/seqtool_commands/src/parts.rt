@@ -61,7 +61,6 @@ pub(crate) fn put_depth(buffer: &mut Buffer, direction: Direction, depth: u64)
     }
 }
 
-/// Appends what the event is.
 fn put_kind(buffer: &mut Buffer, event: &Event)
     requires { HasRoom item_word_room buffer.old }
     ensures { Puts item_word_room

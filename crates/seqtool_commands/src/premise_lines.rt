@@ -12,7 +12,6 @@ use node_hops::Node;
 use st_core::ByteSink;
 use st_text::{Buffer, Device, write_line};
 
-/// Whether the hop of the event at a node rests on a premise.
 fn rests_on(trace: &NumberedHops<'_>, premise: Premise, node: Node) -> bool
     ensures { result ≡ rests_on trace.now premise node }
 {
@@ -23,7 +22,6 @@ fn rests_on(trace: &NumberedHops<'_>, premise: Premise, node: Node) -> bool
     }
 }
 
-/// Whether the hop of one of these events rests on a premise.
 fn is_used(trace: &NumberedHops<'_>, premise: Premise, nodes: &[Node]) -> bool
     ensures { result ≡ list_any (rests_on trace.now premise) nodes.now }
 {

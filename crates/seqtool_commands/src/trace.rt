@@ -40,21 +40,18 @@ impl<'a> NumberedHops<'a> {
         Ok(NumberedHops { hops, numbers })
     }
 
-    /// The hops.
     pub(crate) fn hops(&self) -> &NodeHops<'a>
         ensures { result.now ≡ self.now }
     {
         &self.hops
     }
 
-    /// The lines.
     pub(crate) fn numbers(&self) -> &LineNumbers<'a>
         ensures { result.now ≡ self.now }
     {
         &self.numbers
     }
 
-    /// The event at this place, if there is one.
     pub(crate) fn event(&self, pid: Pid, index: u64) -> Option<Event>
         ensures { result ≡ event_at self.now pid index }
     {

@@ -47,7 +47,6 @@ fn write_node<W: ByteSink>(
     }
 }
 
-/// Writes the line of each node.
 fn write_nodes<W: ByteSink>(
     writer: &mut W,
     buffer: &mut Buffer,
@@ -79,7 +78,6 @@ fn write_answer<W: ByteSink>(
     write_last_lines(writer, buffer, trace, nodes)
 }
 
-/// Writes the whole answer.
 pub(crate) fn send_answer<W: ByteSink>(
     writer: &mut W,
     trace: &NumberedHops<'_>,

@@ -41,7 +41,6 @@ fn words_behind<'a, S: AsStr>(word: &str, words: &'a [S]) -> Option<&'a [S]>
     }
 }
 
-/// The form of this name.
 fn form_named(name: &str) -> Option<Form>
     ensures { result ≡ form_named name.now }
 {
@@ -92,7 +91,6 @@ fn check_asked<S: AsStr>(words: &[S]) -> (ToolTask, &[S])
     }
 }
 
-/// The direction that words begin with, and the words after it.
 fn direction_asked<S: AsStr>(words: &[S]) -> (Direction, &[S])
     ensures { (result.0, map S.text result.1.now) ≡ direction_asked (map S.text words.now) }
 {
@@ -148,7 +146,6 @@ fn task_named<'a, S: AsStr>(name: &str, words: &'a [S]) -> Option<(ToolTask, &'a
     None
 }
 
-/// Whether a word begins with a minus.
 fn begins_with_minus(word: &str) -> bool
     ensures { result ≡ begins_with_minus word.now }
 {

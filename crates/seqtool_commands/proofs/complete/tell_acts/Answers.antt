@@ -14,6 +14,5 @@ pub returns-in-Err : goal.returns-in-Err
 returns-in-Err g c = record {
   output = no_memory;
   owed = NoRoomToComplete;
-  delivered =
-      c.tell_fault.ensures;
+  delivered = c.tell_fault.ensures;
 }

@@ -17,6 +17,5 @@ pub returns-in-Err : goal.returns-in-Err
 returns-in-Err g c = record {
   output = no_memory;
   owed = NoRoomToRenumber;
-  delivered =
-      c.tell_fault.ensures;
+  delivered = c.tell_fault.ensures;
 }
