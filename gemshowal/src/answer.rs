@@ -39,8 +39,7 @@ impl Fits {
         }
     }
 
-    /// Returns whether this trace of the run has both ends of each message: as many sends as the run,
-    /// and as many receives.
+    /// Returns whether this trace has as many sends as the run, and as many receives.
     pub fn has_all_ends(&self, trace: &Trace) -> bool {
         let sent = self.acts().iter().filter(|act| matches!(act, Act::Send(..))).count();
         let reported = trace.events().filter(|(_, event)| event.kind == Kind::Send).count();
@@ -60,8 +59,7 @@ pub struct Unfit {
 }
 
 impl Unfit {
-    /// Returns the reason if no run without a reset reports the trace. Else [`complete`] decides
-    /// that.
+    /// Returns the reason if no run without a reset reports the trace; else [`complete`] decides.
     pub fn never(&self) -> Option<Never> {
         match self.reason {
             Reason::PrevNotBefore => Some(Never::PrevNotBefore),
@@ -114,7 +112,10 @@ pub fn audit(trace: &Trace) -> Result<Fits, AuditError> {
 /// The judge has accepted a completion: a run reports the trace with its additions, and each of
 /// them is needed. A reason means that no run without a reset reports the trace.
 pub fn complete(trace: &Trace) -> Result<Answer, CompleteError> {
-    trace.complete()
+    lack_decide::complete::<TOP>(Global, trace.streams()).map_err(|fault| match fault {
+        CompleteFault::Memory => OutOfMemory.into(),
+        CompleteFault::Uncompleted => CompleteError::Uncompleted,
+    })
 }
 
 /// An event on the way back from another: its process, its number there, and what it follows.
@@ -152,14 +153,6 @@ pub fn why(trace: &Trace, place: (Pid, u64)) -> Result<Vec<Because>, OutOfMemory
 }
 
 impl Trace {
-    /// Finds what the trace lacks, as [`complete`] says.
-    pub fn complete(&self) -> Result<Answer, CompleteError> {
-        lack_decide::complete::<TOP>(Global, self.streams()).map_err(|fault| match fault {
-            CompleteFault::Memory => OutOfMemory.into(),
-            CompleteFault::Uncompleted => CompleteError::Uncompleted,
-        })
-    }
-
     /// Returns the trace with each count replaced by its rank among all counts, and whether that
     /// changed any. If a run has these counts, one has the trace's own.
     pub fn renumbered(&self) -> Result<(Trace, bool), OutOfMemory> {
@@ -201,10 +194,7 @@ impl Trace {
             })
         };
         let mut listed: BTreeSet<Pid> = kept.keys().copied().collect();
-        for (pid, event) in events() {
-            listed
-                .extend([Some(event.from), event.to].into_iter().flatten().filter(|&it| it != pid));
-        }
+        listed.extend(events().flat_map(|(_, event)| [Some(event.from), event.to]).flatten());
         Trace::of_events(listed, events().map(|(pid, &event)| (pid, event)))
     }
 }

@@ -7,7 +7,6 @@ use crate::{
     signed, CertificateError, Event, Kind, NodeTrace, OutOfMemory, ReadError, Text, WRAPPED,
 };
 use node_check::{NodeAct, NodeVerdict};
-use serde::{Serialize, Serializer};
 use st_core::{Act, Want};
 use st_library::alloc::Global;
 use std::fmt::{self, Display, Formatter};
@@ -62,12 +61,6 @@ impl NodeTrace {
         }
         out.write_all(ACTS)?;
         acts.iter().try_for_each(|act| writeln!(out, "{}", Text(act)))
-    }
-}
-
-impl Serialize for Text<&NodeAct> {
-    fn serialize<S: Serializer>(&self, serializer: S) -> Result<S::Ok, S::Error> {
-        serializer.collect_str(self)
     }
 }
 

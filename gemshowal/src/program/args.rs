@@ -84,7 +84,6 @@ pub(crate) enum Command {
     Pieces(Pieces),
 }
 
-/// The inputs of a command.
 #[derive(clap::Args)]
 pub(crate) struct Inputs {
     /// Traces: NAME (of NAME.seqtrace), a file, or - for standard input, which is read without one
@@ -132,7 +131,6 @@ pub(crate) struct Complete {
     pub(crate) form: Form,
 }
 
-/// The form in which a completion is written.
 #[derive(Clone, Copy, Debug, PartialEq, Eq, ValueEnum)]
 pub(crate) enum Form {
     #[value(help = "the events that it adds, in words")]
@@ -181,7 +179,6 @@ pub(crate) struct Export {
     pub(crate) label: Option<String>,
 }
 
-/// The program for which a trace is written.
 #[derive(Clone, Copy, Debug, PartialEq, Eq, ValueEnum)]
 pub(crate) enum Target {
     #[value(help = "Perfetto: slices and flows")]
@@ -216,7 +213,6 @@ pub(crate) struct List {
     pub(crate) conditions: Conditions,
 }
 
-/// The conditions on an event.
 #[derive(clap::Args)]
 pub(crate) struct Conditions {
     /// Only events with this label, a number or a term
@@ -289,7 +285,7 @@ impl Conditions {
     pub(crate) fn kept(&self, trace: &Trace, names: &Names) -> Result<Kept, Failure> {
         let mut kept = Kept::new();
         let rows = trace.list(&self.filter(trace, names)?)?;
-        for row in rows.as_ref().iter().filter(|row| self.are_met(row, names)) {
+        for row in rows.iter().filter(|row| self.are_met(row, names)) {
             kept.entry(row.pid).or_default().push(row.index);
         }
         Ok(kept)
@@ -320,7 +316,6 @@ pub(crate) struct Page {
     pub(crate) label: Option<String>,
 }
 
-/// The event that is asked about, and how far to go from it.
 #[derive(clap::Args)]
 pub(crate) struct Why {
     /// The trace: NAME (of NAME.seqtrace), a file, or - for standard input
@@ -336,15 +331,8 @@ pub(crate) struct Why {
     #[arg(long)]
     pub(crate) across: bool,
     /// At most so many events back, or levels of the tree
-    #[arg(long, value_name = "N")]
-    depth: Option<u64>,
-}
-
-impl Why {
-    /// Returns the greatest number of events back, or of levels of the tree.
-    pub(crate) fn most(&self) -> u64 {
-        self.depth.unwrap_or(u64::MAX)
-    }
+    #[arg(long, value_name = "N", default_value_t = u64::MAX, hide_default_value = true)]
+    pub(crate) depth: u64,
 }
 
 #[derive(Subcommand)]

@@ -1,6 +1,6 @@
 //! The commands of the Erlang application, which this program hands over to it.
 
-use crate::output;
+use crate::Failure;
 use std::env;
 use std::ffi::OsString;
 use std::io;
@@ -13,22 +13,20 @@ const PROGRAM: &str = "seqaudit-node";
 const ASKED: &str = "GEMSHOWAL";
 
 /// Runs the application's command in place of this program, which the application asks in turn
-/// unless the variable says another. Returns the status only if there is none to run.
-pub(crate) fn hand_over(word: &str, words: impl Iterator<Item = OsString>) -> u8 {
+/// unless the variable says another. Returns only if there is none to run.
+pub(crate) fn hand_over(word: &str, words: impl Iterator<Item = OsString>) -> Failure {
     let Some(program) = find(PROGRAM) else {
-        output::complain(format_args!(
-            "error: {word} is a command of the Erlang application, and there is no {PROGRAM} \
-             beside this program or on the path: make -C erlang builds it\n"
+        return Failure::Program(format!(
+            "{word} is a command of the Erlang application, and there is no {PROGRAM} beside this \
+             program or on the path: make -C erlang builds it"
         ));
-        return 4;
     };
     let mut command = Command::new(&program);
     if let (None, Ok(own)) = (env::var_os(ASKED), env::current_exe()) {
         command.env(ASKED, own);
     }
     let reason = replace_by(command.arg(word).args(words));
-    output::complain(format_args!("error: {} can't be run: {reason}\n", program.display()));
-    4
+    Failure::Program(format!("{} can't be run: {reason}", program.display()))
 }
 
 #[cfg(unix)]

@@ -16,6 +16,9 @@ pub(crate) enum Status {
     Long = 5,
 }
 
+/// How a command ends on an input.
+pub(crate) type Ended = Result<Status, Failure>;
+
 /// The status of a program whose reader has gone, as a shell has it for one that a signal ended.
 pub(crate) const PIPE: u8 = 141;
 

@@ -3,15 +3,15 @@
 use crate::args::List;
 use crate::names::{Line, Names};
 use crate::object::kind_word;
-use crate::{Failure, Status, Task};
+use crate::{Ended, Status, Task};
 use gemshowal::{Kind, Paired, Partner, Pid, Row};
 
-pub(crate) fn run(args: &List, task: Task<'_>) -> Result<Status, Failure> {
+pub(crate) fn run(args: &List, task: Task<'_>) -> Ended {
     let Task { json, input, out, notes } = task;
     let (trace, names) = input.read(notes)?;
     let rows = trace.list(&args.conditions.filter(&trace, &names)?)?;
     let is_listed = |row: &&Row| args.conditions.are_met(row, &names);
-    let rows = || rows.as_ref().iter().filter(is_listed);
+    let rows = || rows.iter().filter(is_listed);
     let paired = Paired::if_possible(trace.streams())?;
     if paired.is_none() && rows().next().is_some() {
         notes.say(
@@ -43,11 +43,7 @@ fn put_row(line: &mut Line<'_>, row: &Row, partner: Partner, names: &Names) {
     });
     line.label(names, event.label).text(" ").serial(event.serial).text(" ");
     line.brief(names, event.value);
-    match (event.kind, event.to) {
-        (Kind::Send, Some(to)) => line.text(" to ").process(names, to),
-        (Kind::Receive, _) => line.text(" from ").process(names, event.from),
-        _ => line.text(""),
-    };
+    line.other_end(names, event);
     match partner {
         Partner::Receive(pid, index) => line.text(", received as ").event(names, (pid, index)),
         Partner::Send(pid, index) => line.text(", sent as ").event(names, (pid, index)),

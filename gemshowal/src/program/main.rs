@@ -37,7 +37,7 @@ mod why;
 mod words;
 
 use crate::args::{Args, Command};
-use crate::failure::{Failure, Status, PIPE};
+use crate::failure::{Ended, Failure, Status, PIPE};
 use crate::input::Input;
 use crate::output::{Notes, Output};
 use serde::Serialize;
@@ -62,7 +62,7 @@ struct Task<'a> {
     notes: &'a mut Notes,
 }
 
-fn run_on(command: &Command, task: Task<'_>) -> Result<Status, Failure> {
+fn run_on(command: &Command, task: Task<'_>) -> Ended {
     match command {
         Command::Audit(args) => audit::run(args, task),
         Command::Check(args) if args.node => check::run_on_node(task),
@@ -85,12 +85,7 @@ fn run_on(command: &Command, task: Task<'_>) -> Result<Status, Failure> {
 }
 
 /// Opens an input, and does the command on it. In place of a result JSON has an object too.
-fn run_on_path(
-    args: &Args,
-    path: &Path,
-    out: &mut Output,
-    notes: &mut Notes,
-) -> Result<Status, Failure> {
+fn run_on_path(args: &Args, path: &Path, out: &mut Output, notes: &mut Notes) -> Ended {
     let Args { command, json, .. } = args;
     let opened = Input::open(path);
     let name = opened.as_ref().map_or_else(|_| path.to_string_lossy(), |it| it.name().into());
@@ -105,21 +100,19 @@ fn run_on_path(
 }
 
 /// Writes in place of a result what there is to say of a failure.
-fn report(failure: Failure, is_json: bool, out: &mut Output) -> Result<Status, Failure> {
+fn report(failure: Failure, is_json: bool, out: &mut Output) -> Ended {
     out.forget();
-    match failure {
-        Failure::Never(no) => out.tell(is_json, "never", &no)?,
-        failure => {
-            if is_json && !matches!(failure, Failure::Unwritten(_)) {
-                let failed = Failed { status: failure.status(), error: failure.to_string() };
-                out.report("failed", &failed)?;
-            }
-            out.finish()?;
-            return Err(failure);
+    let ended = match failure {
+        Failure::Never(no) => out.tell(is_json, "never", &no).map(|()| Ok(Status::No))?,
+        failure if is_json && !matches!(failure, Failure::Unwritten(_)) => {
+            let failed = Failed { status: failure.status(), error: failure.to_string() };
+            out.report("failed", &failed)?;
+            Err(failure)
         }
-    }
+        failure => Err(failure),
+    };
     out.finish()?;
-    Ok(Status::No)
+    ended
 }
 
 /// Does the command on one input after the other. The status is that of the worst.
@@ -169,7 +162,7 @@ fn main() -> ExitCode {
     let mut words = env::args_os().skip(1);
     let first = words.next().unwrap_or_default();
     if let Some(word) = erlang::COMMANDS.into_iter().find(|word| first == *word) {
-        return ExitCode::from(erlang::hand_over(word, words));
+        return ExitCode::from(complain(&erlang::hand_over(word, words)));
     }
     ExitCode::from(match Args::read() {
         Ok((word, args)) => run(&word, &args).unwrap_or_else(|failure| complain(&failure)),

@@ -6,7 +6,7 @@ use crate::causes::{with_causes, Cause, Causes, Grade, Link, Links};
 use crate::object::{kind_word, object, Number};
 use crate::output::Output;
 use crate::view::View;
-use crate::{words, Failure, Status, Task};
+use crate::{words, Ended, Failure, Status, Task};
 use gemshowal::{Item, Kind, LineNumbers, Text};
 use serde::ser::{SerializeMap, Serializer};
 use serde::Serialize;
@@ -16,7 +16,7 @@ use std::io::{self, Write};
 /// The greatest number of hops that are indented: more would move a line off the screen.
 const INDENT: usize = 16;
 
-pub(crate) fn run(args: &Why, task: Task<'_>) -> Result<Status, Failure> {
+pub(crate) fn run(args: &Why, task: Task<'_>) -> Ended {
     let Task { json, input, out, notes } = task;
     let (trace, names) = input.read_node(notes)?;
     let place = names.find_event(trace.trace(), &args.event)?;
@@ -81,7 +81,7 @@ fn back(causes: &Causes<'_>, first: Item, args: &Why) -> Vec<Step> {
     let mut next = Some(first);
     let is_reached = |item: &Item| matches!(item, Item::Reported(..));
     while let Some(item) = next.filter(is_reached).filter(|&item| seen.insert(item)) {
-        if steps.len() as u64 >= args.most() {
+        if steps.len() as u64 >= args.depth {
             break;
         }
         let link = causes.link(item);
@@ -106,7 +106,7 @@ fn forth(causes: &Causes<'_>, first: Item, args: &Why) -> Vec<Step> {
             continue;
         }
         steps.push(Step { depth, item, link: causes.link(item) });
-        if (depth as u64) + 1 < args.most() {
+        if (depth as u64) + 1 < args.depth {
             let below = children.remove(&item).unwrap_or_default();
             waiting.extend(below.into_iter().rev().map(|item| (depth + 1, item)));
         }
@@ -125,8 +125,7 @@ struct Answer<'a> {
 }
 
 impl Answer<'_> {
-    /// Returns the lines that say on what the links rest. The first event of a tree is there
-    /// whatever it follows.
+    /// Says on what the links rest. The first event of a tree is there whatever it follows.
     fn rests_on(&self) -> Vec<String> {
         let said = self.steps.iter().skip(usize::from(!self.is_back));
         words::rests_on(said.map(|step| step.link))
@@ -164,8 +163,7 @@ impl Answer<'_> {
         self.write_moved(out)
     }
 
-    /// Says of the event that was asked about that its counters were moved, if its cause is known
-    /// nevertheless.
+    /// Says that the counters of the first event were moved, if its cause is known nevertheless.
     fn write_moved(&self, out: &mut Output) -> io::Result<()> {
         let Some(&Step { item, link, .. }) = self.steps.first() else { return Ok(()) };
         match (link.moved, link.cause) {
@@ -231,8 +229,7 @@ struct Object<'a> {
     rests_on: Vec<String>,
 }
 
-/// Says since which event of its process the counters of an event were moved unseen, or that it was
-/// since the beginning.
+/// The event of the process since which counters were moved unseen; none: since its beginning.
 #[derive(Serialize)]
 struct Moved {
     since: Option<String>,

@@ -2,7 +2,7 @@
 
 use super::Names;
 use crate::object::EXACT;
-use gemshowal::{Label, Pid, Serial, Text};
+use gemshowal::{Event, Kind, Label, Pid, Serial, Text};
 
 /// A line under way. Each method appends something.
 pub(crate) struct Line<'a>(pub(crate) &'a mut Vec<u8>);
@@ -21,11 +21,8 @@ impl Line<'_> {
 
     /// Appends a number as JSON: one that a reader may round is a string.
     pub(crate) fn json_number(&mut self, number: u64) -> &mut Self {
-        if number > EXACT {
-            self.text("\"").number(number).text("\"")
-        } else {
-            self.number(number)
-        }
+        let quote = if number > EXACT { "\"" } else { "" };
+        self.text(quote).number(number).text(quote)
     }
 
     pub(crate) fn pid(&mut self, pid: Pid) -> &mut Self {
@@ -52,6 +49,15 @@ impl Line<'_> {
         }
     }
 
+    /// Appends to whom a message went, or from whom it came.
+    pub(crate) fn other_end(&mut self, names: &Names, event: &Event) {
+        match (event.kind, event.to) {
+            (Kind::Send, Some(to)) => self.text(" to ").process(names, to),
+            (Kind::Receive, _) => self.text(" from ").process(names, event.from),
+            _ => self,
+        };
+    }
+
     pub(crate) fn event(&mut self, names: &Names, (pid, index): (Pid, u64)) -> &mut Self {
         self.process(names, pid).text("#").number(index)
     }
@@ -64,10 +70,9 @@ impl Line<'_> {
     }
 
     pub(crate) fn brief(&mut self, names: &Names, value: u64) -> &mut Self {
-        if names.has_value(value) {
-            self.text(&names.brief(value))
-        } else {
-            self.text("value ").number(value)
+        match names.has_value(value) {
+            true => self.text(&names.brief(value)),
+            false => self.text("value ").number(value),
         }
     }
 }
