@@ -7,37 +7,24 @@
 use crate::input::Input;
 use crate::object::Number;
 use crate::view::count;
-use crate::{Failure, Status, Task};
-use gemshowal::{
-    Act, Came, Event, Kind, LineNumbers, NodeAct, NodeTrace, NodeVerdict, OutOfMemory,
-};
-use gemshowal::{Pid, Rerun, State, Text, Token, Trace, Verdict};
+use crate::{Ended, Failure, Status, Task};
+use gemshowal::{Act, Came, Event, Kind, LineNumbers, NodeAct, NodeTrace, NodeVerdict};
+use gemshowal::{OutOfMemory, Pid, Rerun, Text, Token, Trace, Verdict};
 use serde::Serialize;
 use std::collections::VecDeque;
 use std::fmt::{self, Display, Formatter};
-use std::io::{ErrorKind, Write};
 
 /// The greatest number of a queue's messages that are shown.
 const SHOWN: usize = 10;
 
-pub(crate) fn run(task: Task<'_>) -> Result<Status, Failure> {
+pub(crate) fn run(task: Task<'_>) -> Ended {
     let Task { json, input, out, .. } = task;
     let trace = input.trace()?;
     let no_acts = || Failure::NoActs(input.line_name().into());
     let acts = trace.acts().ok_or_else(no_acts)?;
     let found = match trace.check()?.ok_or_else(no_acts)? {
         Verdict::Yes(pairs) => {
-            let pairs = pairs.as_slice();
-            if json {
-                out.report("yes", &Yes { pairs })?;
-            } else {
-                let receives = count(pairs.len() as u64, "reported receive");
-                writeln!(
-                    out,
-                    "yes: each process reports exactly its events in a run of these acts, with \
-                     {receives}"
-                )?;
-            }
+            out.tell(json, "yes", &Yes { pairs: pairs.as_slice() })?;
             return Ok(Status::Yes);
         }
         Verdict::Stuck(number) | Verdict::Differs(number) => {
@@ -47,47 +34,35 @@ pub(crate) fn run(task: Task<'_>) -> Result<Status, Failure> {
         }
         Verdict::Left(pid) => Found::of(&trace, acts, None, pid)?,
     };
-    if json {
-        out.report("no", &found.object())?;
-    } else {
-        write!(out, "{found}")?;
-    }
+    out.tell(json, "no", &found)?;
     Ok(Status::No)
 }
 
 /// Checks by the rules of a standard node, whose acts may be ends of spawns.
-pub(crate) fn run_on_node(task: Task<'_>) -> Result<Status, Failure> {
+pub(crate) fn run_on_node(task: Task<'_>) -> Ended {
     let Task { json, input, out, .. } = task;
     let (node, acts) = node_acts(input)?;
     let acts = acts.ok_or_else(|| Failure::NoActs(input.line_name().into()))?;
     let lines = node.trace().lines()?;
     let of_act = |number: u64| {
         let act = acts.get(number as usize);
-        let process = Text(act.map_or(NOBODY, NodeAct::actor));
-        let line = lines.act_line(number);
-        NodeRefusal { process, act: Some(number), line, text: act.map(Text) }
+        let text = act.map(|act| Text(act).to_string());
+        Refused::at(act.map_or(NOBODY, NodeAct::actor), text.map(|text| (number, text)), &lines)
     };
-    let refusal = match node.check(&acts)? {
-        NodeVerdict::Yes => None,
-        NodeVerdict::Stuck(number) | NodeVerdict::Differs(number) => Some(of_act(number)),
-        NodeVerdict::Left(pid) => {
-            Some(NodeRefusal { process: Text(pid), act: None, line: None, text: None })
+    let (refused, word, status) = match node.check(&acts)? {
+        NodeVerdict::Yes => (None, "yes", Status::Yes),
+        NodeVerdict::Stuck(number) | NodeVerdict::Differs(number) => {
+            (Some(of_act(number)), "no", Status::No)
         }
+        NodeVerdict::Left(pid) => (Some(Refused::at(pid, None, &lines)), "no", Status::No),
     };
-    let (word, status) = if refusal.is_none() { ("yes", Status::Yes) } else { ("no", Status::No) };
-    match refusal {
-        refusal if json => out.report(word, &OnNode { law: "node", refusal })?,
-        Some(refusal) => write!(out, "{refusal}")?,
-        None => writeln!(out, "yes: each process of a standard node reports exactly its events")?,
-    }
+    out.tell(json, word, &OnNode { law: "node", refused })?;
     Ok(status)
 }
 
-/// Reads a text of any version with its acts.
 fn node_acts(input: &mut Input) -> Result<(NodeTrace, Option<Vec<NodeAct>>), Failure> {
     if input.is_wrapped()? {
-        let read = NodeTrace::read_with_acts(input.bytes()?);
-        return read.map_err(|error| input.refused(error, |_| Err(ErrorKind::Unsupported.into())));
+        return input.read_wrapped(NodeTrace::read_with_acts);
     }
     let trace = input.trace()?;
     let acts = trace.acts().map(|acts| acts.iter().copied().map(NodeAct::Common).collect());
@@ -95,28 +70,48 @@ fn node_acts(input: &mut Input) -> Result<(NodeTrace, Option<Vec<NodeAct>>), Fai
 }
 
 #[derive(Serialize)]
-struct OnNode<'a> {
+struct OnNode {
     law: &'static str,
     #[serde(flatten)]
-    refusal: Option<NodeRefusal<'a>>,
+    refused: Option<Refused>,
 }
 
+impl Display for OnNode {
+    fn fmt(&self, f: &mut Formatter<'_>) -> fmt::Result {
+        let Some(refused) = &self.refused else {
+            return writeln!(f, "yes: each process of a standard node reports exactly its events");
+        };
+        write!(f, "{refused}")?;
+        if refused.act.is_some() {
+            let process = refused.process;
+            writeln!(f, "it reports something else than the next event of {process}")?;
+        }
+        Ok(())
+    }
+}
+
+/// The act that reports something else than the trace has, or the process that has events left.
 #[derive(Serialize)]
-struct NodeRefusal<'a> {
+struct Refused {
     process: Text<Pid>,
     act: Option<u64>,
     line: Option<u64>,
-    text: Option<Text<&'a NodeAct>>,
+    text: Option<String>,
 }
 
-impl Display for NodeRefusal<'_> {
+impl Refused {
+    fn at(pid: Pid, act: Option<(u64, String)>, lines: &LineNumbers<'_>) -> Refused {
+        let (act, text) = act.unzip();
+        Refused { process: Text(pid), act, line: act.and_then(|act| lines.act_line(act)), text }
+    }
+}
+
+impl Display for Refused {
     fn fmt(&self, f: &mut Formatter<'_>) -> fmt::Result {
-        let process = self.process;
-        let (Some(number), Some(text)) = (self.act, &self.text) else {
-            return writeln!(f, "no: the acts end, and {process} has events left");
-        };
-        writeln!(f, "no: act {number}{}: {text}", on_line(self.line))?;
-        writeln!(f, "it reports something else than the next event of {process}")
+        match (self.act, &self.text) {
+            (Some(act), Some(text)) => writeln!(f, "no: act {act}{}: {text}", on_line(self.line)),
+            _ => writeln!(f, "no: the acts end, and {} has events left", self.process),
+        }
     }
 }
 
@@ -124,6 +119,14 @@ impl Display for NodeRefusal<'_> {
 struct Yes<'a> {
     /// The numbers of the acts of each reported receive and of its send.
     pairs: &'a [(u64, u64)],
+}
+
+impl Display for Yes<'_> {
+    fn fmt(&self, f: &mut Formatter<'_>) -> fmt::Result {
+        let receives = count(self.pairs.len() as u64, "reported receive");
+        let run = "each process reports exactly its events in a run of these acts";
+        writeln!(f, "yes: {run}, with {receives}")
+    }
 }
 
 /// A process that no trace lists: a run has no state of it.
@@ -170,6 +173,25 @@ impl Run {
         self.made += 1;
         Ok(came)
     }
+
+    /// Says which messages are in the queue: the first ones, and the one that is due.
+    fn queue(&mut self, due: Option<Event>, lines: &LineNumbers<'_>) -> Vec<String> {
+        let lost = self.waiting.iter_mut().filter(|sent| sent.act < self.reset);
+        lost.for_each(|sent| sent.token = None);
+        let is_due = |sent: &Sent| due.is_some_and(|event| sent.is_due(&event));
+        let first = self.waiting.iter().position(is_due);
+        let waiting = self.waiting.iter().enumerate();
+        let shown = waiting.filter(|&(at, _)| at < SHOWN || Some(at) == first);
+        let said = |(place, sent): (usize, &Sent)| {
+            let Sent { act, from, value, token } = *sent;
+            let token = token.map(|token| format!(", count {}", token.serial.this));
+            let token = token.unwrap_or_else(|| ", without a token".into());
+            let (from, line) = (Text(from), on_line(lines.act_line(act)));
+            let due = if is_due(sent) { ": this one is due" } else { "" };
+            format!("place {place}: {value} from {from}{token}, sent by act {act}{line}{due}")
+        };
+        shown.map(said).collect()
+    }
 }
 
 impl Sent {
@@ -183,138 +205,88 @@ impl Sent {
     }
 }
 
-struct Found<'a> {
-    pid: Pid,
-    /// The act that reports something else, its number, and its report; none if the acts end.
-    refused: Option<(u64, Act, Came)>,
-    due: Option<(u64, Event)>,
-    state: Option<State>,
-    waiting: VecDeque<Sent>,
-    lines: LineNumbers<'a>,
-}
-
-impl<'a> Found<'a> {
-    fn of(
-        trace: &'a Trace,
-        acts: &[Act],
-        refused: Option<Act>,
-        pid: Pid,
-    ) -> Result<Found<'a>, OutOfMemory> {
-        let rerun = Rerun::new(trace.streams())?;
-        let mut run = Run { rerun, pid, made: 0, reported: 0, waiting: VecDeque::new(), reset: 0 };
-        for act in acts {
-            run.take(act)?;
-        }
-        let due = trace.streams().event(pid, run.reported).map(|event| (run.reported, event));
-        let state = run.rerun.state(pid);
-        let with_token =
-            |sent: &Sent| Sent { token: sent.token.filter(|_| sent.act >= run.reset), ..*sent };
-        let waiting = run.waiting.iter().map(with_token).collect();
-        let refused = match refused {
-            Some(act) => Some((acts.len() as u64, act, run.take(&act)?)),
-            None => None,
-        };
-        Ok(Found { pid, refused, due, state, waiting, lines: trace.lines()? })
-    }
-
-    /// Returns the messages of the queue that are shown, with their places: the first ones, and the
-    /// one that is due.
-    fn shown(&self) -> Vec<(usize, &Sent, bool)> {
-        let is_traced = self.state.is_some_and(|state| state.traced());
-        let receive = self.due.map(|(_, event)| event);
-        let receive = receive.filter(|event| is_traced && event.kind == Kind::Receive);
-        let is_due = |sent: &Sent| receive.is_some_and(|event| sent.is_due(&event));
-        let first = self.waiting.iter().position(is_due);
-        let all = self.waiting.iter().enumerate().map(|(at, sent)| (at, sent, is_due(sent)));
-        all.filter(|&(at, ..)| at < SHOWN || Some(at) == first).collect()
-    }
-
-    fn object(&self) -> Explained<'_> {
-        let (act, due) = (self.refused.as_ref(), self.due.as_ref());
-        let report = |came: &Came| match came {
-            Came::Step(report, _) => report.as_ref().map(|event| Text(event).to_string()),
-            Came::Stuck => None,
-        };
-        let token = self.state.and_then(|state| state.token());
-        Explained {
-            process: Text(self.pid),
-            act: act.map(|&(number, ..)| number),
-            line: act.and_then(|&(number, ..)| self.lines.act_line(number)),
-            text: act.map(|(_, act, _)| Text(act)),
-            came: act.and_then(|(.., came)| report(came)),
-            due: due.map(|(_, event)| Text(event)),
-            due_index: due.map(|&(index, _)| index),
-            due_line: due.and_then(|&(index, _)| self.lines.line(self.pid, index)),
-            token: token.as_ref().map(token_words),
-            clock: self.state.map(|state| Number(state.clock())),
-            last: self.state.map(|state| Number(state.last())),
-            messages: self.waiting.len(),
-        }
-    }
-}
-
 #[derive(Serialize)]
-struct Explained<'a> {
-    process: Text<Pid>,
-    act: Option<u64>,
-    line: Option<u64>,
-    text: Option<Text<&'a Act>>,
+struct Found {
+    #[serde(flatten)]
+    refused: Refused,
     came: Option<String>,
-    due: Option<Text<&'a Event>>,
+    #[serde(skip)]
+    is_stuck: bool,
+    due: Option<String>,
     due_index: Option<u64>,
     due_line: Option<u64>,
     token: Option<String>,
     clock: Option<Number>,
     last: Option<Number>,
+    #[serde(skip)]
+    is_traced: bool,
     messages: usize,
+    #[serde(skip)]
+    queue: Vec<String>,
 }
 
-impl Display for Found<'_> {
-    fn fmt(&self, f: &mut Formatter<'_>) -> fmt::Result {
-        match &self.refused {
-            Some((number, act, _)) => {
-                let line = on_line(self.lines.act_line(*number));
-                writeln!(f, "no: act {number}{line}: {}", Text(act))?;
-            }
-            None => writeln!(f, "no: the acts end, and {} has events left", Text(self.pid))?,
+impl Found {
+    fn of(trace: &Trace, acts: &[Act], last: Option<Act>, pid: Pid) -> Result<Found, OutOfMemory> {
+        let (lines, rerun) = (trace.lines()?, Rerun::new(trace.streams())?);
+        let mut run = Run { rerun, pid, made: 0, reported: 0, waiting: VecDeque::new(), reset: 0 };
+        for act in acts {
+            run.take(act)?;
         }
-        match &self.due {
-            Some((index, event)) => {
-                let line = on_line(self.lines.line(self.pid, *index));
-                writeln!(f, "due: event {index} of {}{line}\n  {}", Text(self.pid), Text(event))?;
-            }
-            None => writeln!(f, "due: nothing, all events of {} are reported", Text(self.pid))?,
-        }
-        match &self.refused {
-            Some((.., Came::Stuck)) => writeln!(f, "came: no step")?,
-            Some((.., Came::Step(None, _))) => writeln!(f, "came: no report")?,
-            Some((.., Came::Step(Some(event), _))) => writeln!(f, "came:\n  {}", Text(event))?,
-            None => {}
-        }
-        writeln!(f, "state of {}", Text(self.pid))?;
-        let Some(state) = &self.state else { return Ok(()) };
-        let token = state.token().as_ref().map_or("none".into(), token_words);
-        writeln!(f, "  token {token}\n  clock {}\n  last {}", state.clock(), state.last())?;
-        if !state.traced() {
-            writeln!(f, "  no tracer on its node")?;
-        }
-        self.write_queue(f)
+        let (index, state) = (run.reported, run.rerun.state(pid));
+        let due = trace.streams().event(pid, index);
+        let is_traced = state.is_some_and(|state| state.traced());
+        let receive = due.filter(|event| is_traced && event.kind == Kind::Receive);
+        let (queue, messages) = (run.queue(receive, &lines), run.waiting.len());
+        let (came, is_stuck) = match last.map(|act| run.take(&act)).transpose()? {
+            Some(Came::Step(report, _)) => (report.map(|event| Text(&event).to_string()), false),
+            came => (None, came.is_some()),
+        };
+        let act = last.map(|act| (acts.len() as u64, Text(&act).to_string()));
+        Ok(Found {
+            refused: Refused::at(pid, act, &lines),
+            came,
+            is_stuck,
+            due: due.map(|event| Text(&event).to_string()),
+            due_index: due.map(|_| index),
+            due_line: due.and_then(|_| lines.line(pid, index)),
+            token: state.and_then(|state| state.token()).as_ref().map(token_words),
+            clock: state.map(|state| Number(state.clock())),
+            last: state.map(|state| Number(state.last())),
+            is_traced,
+            messages,
+            queue,
+        })
     }
 }
 
-impl Found<'_> {
-    fn write_queue(&self, f: &mut Formatter<'_>) -> fmt::Result {
-        writeln!(f, "  messages in its queue {}", self.waiting.len())?;
-        let shown = self.shown();
-        for &(place, Sent { act, from, value, token }, is_due) in &shown {
-            let token = token.map(|token| format!(", count {}", token.serial.this));
-            let token = token.unwrap_or_else(|| ", without a token".into());
-            let (from, line) = (Text(*from), on_line(self.lines.act_line(*act)));
-            let due = if is_due { ": this one is due" } else { "" };
-            let sent = format!("sent by act {act}{line}{due}");
-            writeln!(f, "    place {place}: {value} from {from}{token}, {sent}")?;
+impl Display for Found {
+    fn fmt(&self, f: &mut Formatter<'_>) -> fmt::Result {
+        let Found { refused, queue, .. } = self;
+        let process = refused.process;
+        write!(f, "{refused}")?;
+        match (self.due_index, &self.due) {
+            (Some(index), Some(event)) => {
+                let line = on_line(self.due_line);
+                writeln!(f, "due: event {index} of {process}{line}\n  {event}")?;
+            }
+            _ => writeln!(f, "due: nothing, all events of {process} are reported")?,
         }
-        match self.waiting.len() - shown.len() {
+        match &self.came {
+            Some(event) => writeln!(f, "came:\n  {event}")?,
+            None if self.is_stuck => writeln!(f, "came: no step")?,
+            None if refused.act.is_some() => writeln!(f, "came: no report")?,
+            None => {}
+        }
+        writeln!(f, "state of {process}")?;
+        let Some((Number(clock), Number(last))) = self.clock.zip(self.last) else { return Ok(()) };
+        let token = self.token.as_deref().unwrap_or("none");
+        writeln!(f, "  token {token}\n  clock {clock}\n  last {last}")?;
+        if !self.is_traced {
+            writeln!(f, "  no tracer on its node")?;
+        }
+        writeln!(f, "  messages in its queue {}", self.messages)?;
+        queue.iter().try_for_each(|message| writeln!(f, "    {message}"))?;
+        match self.messages - queue.len() {
             0 => Ok(()),
             more => writeln!(f, "    and {more} more"),
         }

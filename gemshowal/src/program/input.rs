@@ -1,6 +1,6 @@
 //! An input: standard input, a file, or the file of a trace's name, packed by gzip or not.
 
-use crate::names::{self, Messages, Names};
+use crate::names::{self, Names};
 use crate::output::{own_file, Notes};
 use crate::{causes, lint, Failure};
 use flate2::read::MultiGzDecoder;
@@ -71,36 +71,28 @@ impl Input {
     /// names that the files next to it give it.
     pub(crate) fn read_node(&mut self, notes: &mut Notes) -> Result<(NodeTrace, Names), Failure> {
         if self.is_wrapped()? {
-            return self.read_wrapped(notes);
+            let trace = self.read_wrapped(NodeTrace::read)?;
+            let names = Names::beside(&self.path, trace.trace(), notes)?;
+            return Ok((trace, names));
         }
         let (trace, names) = self.read(notes)?;
         let answers = causes::answers(&trace, &names);
         Ok((NodeTrace::new(trace, answers), names))
     }
 
-    /// Reads a trace whose counters have wrapped, and the names that the files next to it give it.
-    pub(crate) fn read_wrapped(
+    pub(crate) fn read_wrapped<T>(
         &mut self,
-        notes: &mut Notes,
-    ) -> Result<(NodeTrace, Names), Failure> {
-        let text = self.bytes()?;
+        read: fn(Vec<u8>) -> Result<T, ReadError>,
+    ) -> Result<T, Failure> {
         // No other command knows this version, so lint has no words for its faults.
         let no_text = |_: &mut Input| Err(ErrorKind::Unsupported.into());
-        let trace = NodeTrace::read(text).map_err(|error| self.refused(error, no_text))?;
-        let names = Names::beside(&self.path, trace.trace(), notes)?;
-        Ok((trace, names))
+        read(self.bytes()?).map_err(|error| self.refused(error, no_text))
     }
 
-    /// Reads the trace, and the names that the files next to it give it.
     pub(crate) fn read(&mut self, notes: &mut Notes) -> Result<(Trace, Names), Failure> {
         let trace = self.trace()?;
         let names = Names::beside(&self.path, &trace, notes)?;
         Ok((trace, names))
-    }
-
-    /// Reads the whole texts of messages that the names have cut, if `is_wanted` is true for them.
-    pub(crate) fn messages(&self, is_wanted: impl Fn(u64) -> bool) -> Result<Messages, Failure> {
-        Messages::beside(&self.path, is_wanted)
     }
 
     pub(crate) fn title(&self) -> String {
@@ -123,7 +115,7 @@ impl Input {
         Err(self.refused(error, |_| kept.map(|_| bytes)))
     }
 
-    pub(crate) fn refused(
+    fn refused(
         &mut self,
         error: ReadError,
         text: impl FnOnce(&mut Input) -> io::Result<Vec<u8>>,
@@ -140,7 +132,6 @@ impl Input {
         }
     }
 
-    /// Takes the reader of its bytes, unpacked.
     pub(crate) fn take(&mut self) -> Box<dyn Read> {
         std::mem::replace(&mut self.reader, Box::new(io::empty()))
     }
@@ -159,10 +150,9 @@ impl Input {
         let mut bytes = Vec::new();
         let most = gemshowal::LIMITS.bytes;
         let read = self.reader.by_ref().take(most + 1).read_to_end(&mut bytes);
-        match read {
-            Err(reason) => Err(self.unread(reason)),
-            Ok(count) if count as u64 > most => Err(Failure::TooLarge(self.line_name().into())),
-            Ok(_) => Ok(bytes),
+        match read.map_err(|reason| self.unread(reason))? as u64 > most {
+            true => Err(Failure::TooLarge(self.line_name().into())),
+            false => Ok(bytes),
         }
     }
 
@@ -187,11 +177,10 @@ fn unpacked(mut reader: Box<dyn Read>) -> io::Result<Box<dyn Read>> {
     reader.by_ref().take(GZIP.len() as u64).read_to_end(&mut front)?;
     let is_packed = front == GZIP;
     let whole = Cursor::new(front).chain(reader);
-    if is_packed {
-        Ok(Box::new(Unpacking(MultiGzDecoder::new(BufReader::new(whole)))))
-    } else {
-        Ok(Box::new(whole))
-    }
+    Ok(match is_packed {
+        true => Box::new(Unpacking(MultiGzDecoder::new(BufReader::new(whole)))),
+        false => Box::new(whole),
+    })
 }
 
 /// A reader that unpacks, and says of an error that it is one of the packing.
@@ -201,10 +190,8 @@ impl<R: Read> Read for Unpacking<R> {
     fn read(&mut self, piece: &mut [u8]) -> io::Result<usize> {
         self.0.read(piece).map_err(|error| match error.kind() {
             ErrorKind::InvalidInput | ErrorKind::InvalidData | ErrorKind::UnexpectedEof => {
-                io::Error::new(
-                    ErrorKind::InvalidData,
-                    "it is packed by gzip, and damaged or cut short",
-                )
+                let words = "it is packed by gzip, and damaged or cut short";
+                io::Error::new(ErrorKind::InvalidData, words)
             }
             _ => error,
         })
@@ -212,15 +199,13 @@ impl<R: Read> Read for Unpacking<R> {
 }
 
 fn on_one_line(name: &str) -> &str {
-    if name.chars().any(char::is_control) {
-        "a file with a control character in its name"
-    } else {
-        name
+    match name.chars().any(char::is_control) {
+        true => "a file with a control character in its name",
+        false => name,
     }
 }
 
-/// The greatest number of bytes that are kept in memory. A longer text goes to a file that has no
-/// name any more.
+/// The most bytes that are kept in memory. A longer text goes to a file without a name.
 const IN_MEMORY: usize = 16_777_216;
 
 /// A reader that keeps what it reads. If that fails, it goes on, and the text is lost.
@@ -235,23 +220,19 @@ impl<R: Read> Spooled<R> {
         Spooled { reader, held: Vec::new(), file: Ok(None) }
     }
 
-    /// Returns a reader of all that was read.
     pub(crate) fn replay(&mut self) -> io::Result<impl Read + '_> {
         let file = self.file.as_mut().map_err(|error| {
             let words = format!("it can't be kept in {}: {error}", env::temp_dir().display());
             io::Error::new(error.kind(), words)
         })?;
-        let front: Box<dyn Read> = match file {
-            None => Box::new(io::empty()),
-            Some(file) => {
-                file.rewind()?;
-                Box::new(file)
-            }
-        };
+        let mut front: Box<dyn Read> = Box::new(io::empty());
+        if let Some(file) = file {
+            file.rewind()?;
+            front = Box::new(file);
+        }
         Ok(front.chain(&self.held[..]))
     }
 
-    /// Moves the bytes that are held to the file.
     fn pour(&mut self) -> io::Result<()> {
         if let Ok(file @ None) = &mut self.file {
             *file = Some(nameless()?);

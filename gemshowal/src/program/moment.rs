@@ -18,28 +18,25 @@ pub(crate) fn seconds(time: i64) -> String {
     format!("{sign}{whole}.{:06} s", rest / MICRO.unsigned_abs())
 }
 
+/// Returns the unit in which a time has few digits.
+fn unit(time: u64) -> (i64, &'static str) {
+    let units = [(1, "ns"), (MICRO, "us"), (MILLI, "ms")];
+    let fits = |(size, _): &(i64, _)| time < (FEW * size) as u64;
+    units.into_iter().find(fits).unwrap_or((SECOND, "s"))
+}
+
 /// Returns a time in the unit that shows it with few digits: `350 us`.
 pub(crate) fn span(time: i64) -> String {
-    let (size, unit) = match time.unsigned_abs() {
-        size if size < FEW as u64 => (1, "ns"),
-        size if size < (FEW * MICRO) as u64 => (MICRO, "us"),
-        size if size < (FEW * MILLI) as u64 => (MILLI, "ms"),
-        _ => (SECOND, "s"),
-    };
+    let (size, unit) = unit(time.unsigned_abs());
     format!("{} {unit}", time / size)
 }
 
-/// Returns times in the unit of the greatest, so that they can be compared at a glance.
+/// Returns times in one unit, that of the greatest: nanoseconds, microseconds or milliseconds.
 pub(crate) fn spans(times: &[i64]) -> Vec<String> {
     let greatest = times.iter().map(|time| time.unsigned_abs()).max().unwrap_or(0);
-    let (size, unit) = match greatest {
-        greatest if greatest < FEW as u64 => {
-            return times.iter().map(|time| format!("{time} ns")).collect()
-        }
-        greatest if greatest < (FEW * MICRO) as u64 => (MICRO, "us"),
-        _ => (MILLI, "ms"),
-    };
-    times.iter().map(|&time| format!("{:.3} {unit}", time as f64 / size as f64)).collect()
+    let (size, unit) = Some(unit(greatest)).filter(|it| it.0 < SECOND).unwrap_or((MILLI, "ms"));
+    let decimals = if size == 1 { 0 } else { 3 };
+    times.iter().map(|&time| format!("{:.decimals$} {unit}", time as f64 / size as f64)).collect()
 }
 
 /// Returns a time since 1970 as RFC 3339 writes it: `2026-11-27T01:22:18.123456Z`.
@@ -51,8 +48,7 @@ pub(crate) fn clock(since_1970: i64) -> String {
     format!("{year:04}-{month:02}-{day:02}T{hour:02}:{minute:02}:{second:02}.{micros:06}Z")
 }
 
-/// Returns the date of a day since 1970, by the Gregorian calendar: years are counted from March,
-/// so that a leap day ends one.
+/// Returns the date of a day since 1970. Years are counted from March: a leap day ends one.
 fn date(day: i64) -> (i64, i64, i64) {
     const FROM_MARCH_0000: i64 = 719_468;
     const ERA: i64 = 146_097;

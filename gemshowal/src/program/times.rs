@@ -6,7 +6,7 @@ use crate::moment::{clock, seconds, span, spans};
 use crate::names::{Names, Times};
 use crate::output::Output;
 use crate::view::{count, Place};
-use crate::{Failure, Status, Task};
+use crate::{words, Ended, Failure, Status, Task};
 use gemshowal::{Event, Label, Trace};
 use serde::Serialize;
 use std::cmp::Reverse;
@@ -21,25 +21,31 @@ const CELL: usize = 40;
 const MEANING: &str =
     "A message takes from its send until its receiver took it: waiting in the mailbox is in that.";
 
-pub(crate) fn run(task: Task<'_>) -> Result<Status, Failure> {
+pub(crate) fn run(task: Task<'_>) -> Ended {
     let Task { json, input, out, notes } = task;
     let (trace, names) = input.read(notes)?;
     let Some(times) = names.times().filter(|times| times.count() > 0) else {
         return Err(Failure::NoTimes);
     };
-    let tables = Tables::of(&trace, &names, times);
+    let tables = Tables {
+        first: times.begin().map(clock),
+        unit: "ns",
+        by_processes: by_processes(&trace, &names),
+        by_kind: by_kind(&trace, &names),
+        labels: by_label(&trace, &names, times),
+    };
     if json {
         out.report("timed", &tables)?;
     } else {
-        tables.write(&names, out)?;
+        words::losses(&names).try_for_each(|loss| writeln!(out, "{loss}"))?;
+        writeln!(out, "{}\n{MEANING}", summary(&trace, times))?;
+        tables.write(out)?;
     }
     Ok(Status::Yes)
 }
 
 #[derive(Serialize)]
 struct Tables {
-    #[serde(skip)]
-    summary: String,
     /// The time of the first event, in UTC.
     first: Option<String>,
     unit: &'static str,
@@ -49,24 +55,7 @@ struct Tables {
 }
 
 impl Tables {
-    fn of(trace: &Trace, names: &Names, times: &Times) -> Tables {
-        Tables {
-            summary: summary(trace, times),
-            first: times.begin().map(clock),
-            unit: "ns",
-            by_processes: by_processes(trace, names, times),
-            by_kind: by_kind(trace, names, times),
-            labels: by_label(trace, names, times),
-        }
-    }
-
-    fn write(&self, names: &Names, out: &mut Output) -> io::Result<()> {
-        names
-            .losses()
-            .iter()
-            .try_for_each(|loss| writeln!(out, "this trace isn't whole: {loss}"))?;
-        writeln!(out, "{}", self.summary)?;
-        writeln!(out, "{MEANING}")?;
+    fn write(&self, out: &mut Output) -> io::Result<()> {
         if self.by_processes.is_empty() {
             writeln!(out, "no message has a time for both its send and its receive")?;
         } else {
@@ -83,7 +72,9 @@ impl Tables {
 
 /// Says in a line over which time the events stretch, and how long messages took.
 pub(crate) fn summary(trace: &Trace, times: &Times) -> String {
-    let took = all(trace, times);
+    let took = |(place, _)| Some(times.of_message(place)?.1);
+    let mut took: Vec<i64> = trace.events().filter_map(took).collect();
+    took.sort_unstable();
     let messages = match took.last() {
         None => String::new(),
         Some(&slowest) => format!(
@@ -188,15 +179,10 @@ impl Durations {
 
 /// Sums up the messages of which both ends have a time, by what the function makes of their
 /// receive. Those with the slowest message come first.
-fn by(
-    trace: &Trace,
-    names: &Names,
-    times: &Times,
-    key: impl Fn(&Event) -> String,
-) -> Vec<Durations> {
+fn by(trace: &Trace, names: &Names, key: impl Fn(&Event) -> String) -> Vec<Durations> {
     let mut groups: HashMap<String, Vec<(i64, Place)>> = HashMap::new();
     for (place, event) in trace.events() {
-        if let Some((_, took)) = times.of_message(place) {
+        if let Some((_, took)) = names.times().and_then(|times| times.of_message(place)) {
             groups.entry(key(event)).or_default().push((took, place));
         }
     }
@@ -206,17 +192,17 @@ fn by(
     found
 }
 
-pub(crate) fn by_processes(trace: &Trace, names: &Names, times: &Times) -> Vec<Durations> {
+pub(crate) fn by_processes(trace: &Trace, names: &Names) -> Vec<Durations> {
     let to = |event: &Event| event.to.map(|to| names.process(to).into_owned()).unwrap_or_default();
-    by(trace, names, times, |event| format!("{} -> {}", names.process(event.from), to(event)))
+    by(trace, names, |event| format!("{} -> {}", names.process(event.from), to(event)))
 }
 
-pub(crate) fn by_kind(trace: &Trace, names: &Names, times: &Times) -> Vec<Durations> {
-    by(trace, names, times, |event| work::of_brief(&names.brief(event.value)))
+pub(crate) fn by_kind(trace: &Trace, names: &Names) -> Vec<Durations> {
+    by(trace, names, |event| work::of_brief(&names.brief(event.value)))
 }
 
 /// Returns the time of each label, the slowest first.
-pub(crate) fn by_label(trace: &Trace, names: &Names, times: &Times) -> Vec<LabelTime> {
+fn by_label(trace: &Trace, names: &Names, times: &Times) -> Vec<LabelTime> {
     let mut labels: BTreeMap<u32, (usize, i64, i64)> = BTreeMap::new();
     for (place, event) in trace.events() {
         if let Some(at) = times.of_event(place) {
@@ -233,11 +219,4 @@ pub(crate) fn by_label(trace: &Trace, names: &Names, times: &Times) -> Vec<Label
     let mut labels: Vec<LabelTime> = labels.into_iter().map(of).collect();
     labels.sort_by_key(|label| Reverse(label.took));
     labels
-}
-
-pub(crate) fn all(trace: &Trace, times: &Times) -> Vec<i64> {
-    let took = |(place, _)| Some(times.of_message(place)?.1);
-    let mut all: Vec<i64> = trace.events().filter_map(took).collect();
-    all.sort_unstable();
-    all
 }

@@ -20,7 +20,6 @@ const OPERATORS: &str =
     " ! != !== % %{} & && &&& * ** + ++ +++ - -- --- -> . .. ... / < <- << <<< \
     <<>> <<~ <= <> <|> <~ <~> = == === =~ > >= >>> @ ^ ^^^ {} | |> || ||| ~> ~>> ~~~ ";
 
-/// Returns whether the text of a legend names modules of Elixir.
 pub(super) fn is_elixir(text: &str) -> bool {
     text.contains(MODULE)
 }
@@ -53,7 +52,6 @@ pub(super) fn text(term: &str) -> String {
 }
 
 enum Term<'a> {
-    /// An atom by its name.
     Atom(Cow<'a, str>),
     /// A tuple of an atom that may be a key, by its name, and of a term, by its text.
     Pair(String, String),
@@ -64,8 +62,7 @@ enum Term<'a> {
 /// The parts between two brackets.
 struct Parts<T> {
     parts: Vec<T>,
-    /// The text behind the last part: the tail of an improper list, and the closing bracket unless
-    /// the text was cut.
+    /// The tail of an improper list, and the closing bracket unless the text was cut.
     end: Cow<'static, str>,
     is_proper: bool,
 }
@@ -76,7 +73,6 @@ struct Reader<'a> {
 }
 
 impl<'a> Reader<'a> {
-    /// Reads a term, if one begins here.
     fn term(&mut self) -> Option<Term<'a>> {
         if self.depth == DEPTH {
             return None;
@@ -155,7 +151,7 @@ impl<'a> Reader<'a> {
                 return Some(Term::Pair(key.into(), value.text().into()));
             }
         }
-        Some(Term::Text(format!("{{{}{end}", joined(&parts))))
+        Some(Term::Text(format!("{{{}{end}", separated(parts.iter().map(Term::text)))))
     }
 
     /// Reads a list: of small numbers that are the characters of a text, of pairs, or another.
@@ -178,7 +174,7 @@ impl<'a> Reader<'a> {
                 return Some(format!("[{}]", entries.join(", ")));
             }
         }
-        Some(format!("[{}{end}", joined(&parts)))
+        Some(format!("[{}{end}", separated(parts.iter().map(Term::text))))
     }
 
     fn map(&mut self) -> Option<String> {
@@ -200,7 +196,7 @@ impl<'a> Reader<'a> {
             }
         };
         let name = module.map_or(String::new(), atom);
-        Some(format!("%{name}{{{}{end}", shown().map(pair).collect::<Vec<_>>().join(", ")))
+        Some(format!("%{name}{{{}{end}", separated(shown().map(pair))))
     }
 
     /// Reads a key, and its value unless the text was cut before it.
@@ -325,7 +321,6 @@ const ESCAPED: [char; 10] =
     ['\0', '\x07', '\x08', '\x7F', '\x1B', '\x0C', '\n', '\r', '\t', '\x0B'];
 const LETTERS: [char; 10] = ['0', 'a', 'b', 'd', 'e', 'f', 'n', 'r', 't', 'v'];
 
-/// Returns the letter by which Elixir escapes a character.
 fn letter_of(c: char) -> Option<char> {
     ESCAPED.iter().position(|&escaped| escaped == c).map(|at| LETTERS[at])
 }
@@ -416,10 +411,9 @@ fn is_bare(name: &str) -> bool {
 }
 
 fn unquoted_if_bare(name: &str) -> String {
-    if is_bare(name) {
-        name.into()
-    } else {
-        format!("\"{}\"", escaped(name))
+    match is_bare(name) {
+        true => name.into(),
+        false => format!("\"{}\"", escaped(name)),
     }
 }
 
@@ -445,19 +439,14 @@ fn bytes(bytes: &[u8]) -> String {
 }
 
 fn characters(text: &str) -> String {
-    if is_of_characters(text) {
-        format!("~c\"{}\"", escaped(text))
-    } else {
-        format!("[{}]", separated(text.chars().map(u32::from)))
+    match is_of_characters(text) {
+        true => format!("~c\"{}\"", escaped(text)),
+        false => format!("[{}]", separated(text.chars().map(u32::from))),
     }
 }
 
 fn separated<T: ToString>(parts: impl IntoIterator<Item = T>) -> String {
     parts.into_iter().map(|it| it.to_string()).collect::<Vec<_>>().join(", ")
-}
-
-fn joined(parts: &[Term<'_>]) -> String {
-    parts.iter().map(Term::text).collect::<Vec<_>>().join(", ")
 }
 
 impl Term<'_> {

@@ -101,17 +101,14 @@ pub(super) fn losses(facts: &Path) -> Result<Vec<String>, Failure> {
 pub(crate) struct Messages(HashMap<u64, String>);
 
 impl Messages {
-    /// Reads the texts next to this trace for which `is_wanted` is true; none if there is no file.
-    pub(crate) fn beside(
-        trace: &Path,
-        is_wanted: impl Fn(u64) -> bool,
-    ) -> Result<Messages, Failure> {
+    /// Reads the texts next to this trace for which `wants` is true; none if there is no file.
+    pub(crate) fn beside(trace: &Path, wants: impl Fn(u64) -> bool) -> Result<Messages, Failure> {
         let mut messages = HashMap::new();
         let Some(file) = super::beside(trace, "messages") else { return Ok(Messages(messages)) };
         take(&file, "seqaudit messages 1", "an entry of NAME.messages", |line| {
             let (value, term) = line.strip_prefix("value\t")?.split_once('\t')?;
             let value = number(value)?;
-            messages.extend(is_wanted(value).then(|| (value, escaped(term).into_owned())));
+            messages.extend(wants(value).then(|| (value, escaped(term).into_owned())));
             Some(())
         })?;
         Ok(Messages(messages))
@@ -125,16 +122,11 @@ impl Messages {
     /// Returns the length to which the texts of these messages are cut so that they have this
     /// number of characters together: what the short ones leave is shared among the others. Returns
     /// `None` if all fit.
-    pub(crate) fn most(
-        &self,
-        values: &BTreeSet<u64>,
-        names: &Names,
-        limit: usize,
-    ) -> Option<usize> {
+    pub(crate) fn most(&self, values: &BTreeSet<u64>, names: &Names, room: usize) -> Option<usize> {
         let length = |&value: &u64| self.text(value, names).chars().count();
         let mut lengths: Vec<usize> = values.iter().map(length).collect();
         lengths.sort_unstable();
-        let mut left = limit;
+        let mut left = room;
         for (&length, others) in lengths.iter().zip((1..=lengths.len()).rev()) {
             if length.saturating_mul(others) > left {
                 return Some(left / others);

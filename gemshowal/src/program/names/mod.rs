@@ -30,12 +30,8 @@ const TRACE: &str = "seqtrace";
 /// Returns the file that a word of the command line names: `NAME.seqtrace` if there is one, else
 /// the file of the word itself. `-` is standard input, whatever files there are.
 pub(crate) fn trace_file(word: &Path) -> PathBuf {
-    let named = with_extension(word, TRACE);
-    if word != Path::new("-") && named.is_file() {
-        named
-    } else {
-        word.into()
-    }
+    let named = Some(with_extension(word, TRACE)).filter(|_| word != Path::new("-"));
+    named.filter(|file| file.is_file()).unwrap_or_else(|| word.into())
 }
 
 /// Appends an extension to a path, in place of nothing: `order.1` and `terms` give `order.1.terms`.
@@ -66,14 +62,11 @@ const SPAWN_REQUEST: &str = "spawn erts_internal:spawn_init/1";
 impl Names {
     /// Reads the files next to this file of a trace.
     pub(crate) fn beside(file: &Path, trace: &Trace, notes: &mut Notes) -> Result<Names, Failure> {
-        let mut names = Names::without_times(file, notes)?;
-        if let Some(times) = TimesFile::beside(file)? {
-            names.times = Times::read(&times, trace, notes)?;
-        }
-        Ok(names)
+        let names = Names::without_times(file, notes)?;
+        let Some(times) = TimesFile::beside(file)? else { return Ok(names) };
+        Ok(Names { times: Times::read(&times, trace, notes)?, ..names })
     }
 
-    /// Reads these files but for that of times.
     pub(crate) fn without_times(file: &Path, notes: &mut Notes) -> Result<Names, Failure> {
         let Some(file) = beside(file, "terms") else { return Ok(Names::default()) };
         let mut names = Names::default();
@@ -88,16 +81,10 @@ impl Names {
         Ok(names)
     }
 
-    /// Takes the names that the files next to another part of the trace give to processes and
-    /// labels.
+    /// Takes the names of processes and labels by the files next to another part of the trace.
     pub(crate) fn join(&mut self, other: Names, file: &Path) -> Result<(), Failure> {
-        match self.terms.join(other.terms) {
-            None => Ok(()),
-            Some(label) => {
-                let file = beside(file, "terms").unwrap_or_default();
-                Err(Failure::Unlike { file, label })
-            }
-        }
+        let Some(label) = self.terms.join(other.terms) else { return Ok(()) };
+        Err(Failure::Unlike { file: beside(file, "terms").unwrap_or_default(), label })
     }
 
     /// Returns the short name of a process, or its pid if it has none.
@@ -143,14 +130,12 @@ impl Names {
         }
     }
 
-    /// Returns the name of an event: its process's name, and its number among that process's
-    /// events.
+    /// Returns the name of an event: its process's, and its number among that process's events.
     pub(crate) fn event(&self, (pid, index): (Pid, u64)) -> String {
         format!("{}#{index}", self.process(pid))
     }
 
-    /// Returns whether two processes are surely on different nodes: a node with many processes has
-    /// further numbers.
+    /// Returns whether the nodes surely differ: one with many processes has further numbers.
     pub(crate) fn are_on_different_nodes(&self, one: Pid, other: Pid) -> bool {
         one.node() != other.node() && self.terms.further_nodes.is_empty()
     }
@@ -177,7 +162,6 @@ impl Names {
         is_spawn && !self.is_spawn_request(value)
     }
 
-    /// Returns whether a message asks for a process by `spawn_request`.
     pub(crate) fn is_spawn_request(&self, value: u64) -> bool {
         self.way(value).is_some_and(|way| way.starts_with(SPAWN_REQUEST))
     }
@@ -187,11 +171,10 @@ impl Names {
         self.terms.value(value).is_some_and(|it| it.starts_with("{'EXIT',"))
     }
 
-    /// Returns whether a message is a reply to an alias, which a caller that waits no longer
-    /// doesn't get.
+    /// Returns whether it is a reply to an alias, which a caller that waits no longer doesn't get.
     pub(crate) fn is_reply_to_alias(&self, value: u64) -> bool {
-        let is_to_alias = self.terms.value(value).is_some_and(|it| it.starts_with("{[alias|"));
-        is_to_alias && self.way(value).is_some_and(|way| way == "reply ")
+        self.terms.value(value).is_some_and(|it| it.starts_with("{[alias|"))
+            && self.way(value).is_some_and(|way| way == "reply ")
     }
 
     fn way(&self, value: u64) -> Option<Cow<'static, str>> {

@@ -41,17 +41,18 @@ impl Terms {
         Ok(is_there.then_some(terms))
     }
 
-    /// Adds the entry of a line; returns `None` if it isn't one, or a line before it said
-    /// otherwise.
+    /// Adds the entry of a line; returns `None` if it isn't one, or its subject isn't new.
     fn add(&mut self, line: &str) -> Option<()> {
         let mut parts = line.split('\t');
         let (kind, of) = (parts.next()?, parts.next()?);
         let text: Box<str> = escaped(parts.next()?).into();
         let is_new = match kind {
             "process" => {
-                let about = escaped(parts.next()?);
-                let process = Process { name: self.name(&text), about: self.name(&about) };
-                self.processes.insert(gemshowal::read_pid(of)?, process).is_none()
+                let (mut name, mut about): (_, Box<str>) = (text, escaped(parts.next()?).into());
+                if self.are_elixir {
+                    (name, about) = (elixir::name(&name).into(), elixir::name(&about).into());
+                }
+                self.processes.insert(gemshowal::read_pid(of)?, Process { name, about }).is_none()
             }
             "label" => {
                 let term = if self.are_elixir { elixir::text(&text).into() } else { text };
@@ -64,8 +65,7 @@ impl Terms {
         (is_new && parts.next().is_none()).then_some(())
     }
 
-    /// Takes the names of processes and labels that another part of the trace has, and returns a
-    /// label that is another one there.
+    /// Takes the names that another part has, and returns a label that is another one there.
     pub(super) fn join(&mut self, other: Terms) -> Option<u32> {
         self.are_elixir |= other.are_elixir;
         for (pid, process) in other.processes {
@@ -75,14 +75,6 @@ impl Terms {
             let known = self.labels.entry(label).or_insert_with(|| term.clone());
             (*known != term).then_some(label)
         })
-    }
-
-    fn name(&self, name: &str) -> Box<str> {
-        if self.are_elixir {
-            elixir::name(name).into()
-        } else {
-            name.into()
-        }
     }
 
     pub(super) fn is_empty(&self) -> bool {
@@ -95,12 +87,5 @@ impl Terms {
 
     pub(super) fn value(&self, value: u64) -> Option<&str> {
         self.values.get(&value).map(|term| &**term)
-    }
-
-    pub(super) fn processes_of(&self, name: &str) -> Vec<Pid> {
-        let named = self.processes.iter().filter(|(_, process)| &*process.name == name);
-        let mut pids: Vec<Pid> = named.map(|(&pid, _)| pid).collect();
-        pids.sort_unstable();
-        pids
     }
 }

@@ -31,7 +31,6 @@ pub(crate) struct Times {
 /// `NAME.times`, which is read line by line.
 pub(crate) struct TimesFile {
     pub(crate) file: PathBuf,
-    /// When the first event happened, since 1970; less than 0 if its node told no clock.
     pub(crate) begin: Time,
 }
 
@@ -43,23 +42,19 @@ enum Entry {
 
 impl Entry {
     fn read(line: &str) -> Option<Entry> {
-        let mut words = line.split(' ');
-        let kind = words.next()?;
-        let first = place(&mut words)?;
-        let entry = match kind {
-            "event" => Entry::Event(first, time(words.next()?)?),
-            "message" => {
-                let receive = place(&mut words)?;
-                Entry::Message { send: first, receive, time: time(words.next()?)? }
+        let place = |pid, index| Some((gemshowal::read_pid(pid)?, number(index)?));
+        match line.split(' ').collect::<Vec<_>>()[..] {
+            ["event", pid, index, at] => Some(Entry::Event(place(pid, index)?, time(at)?)),
+            ["message", from, sent, to, received, took] => {
+                let (send, receive) = (place(from, sent)?, place(to, received)?);
+                Some(Entry::Message { send, receive, time: time(took)? })
             }
-            _ => return None,
-        };
-        words.next().is_none().then_some(entry)
+            _ => None,
+        }
     }
 }
 
 impl TimesFile {
-    /// Opens the file next to that of a trace, if there is one.
     pub(crate) fn beside(trace: &Path) -> Result<Option<TimesFile>, Failure> {
         let Some(file) = super::beside(trace, "times") else { return Ok(None) };
         let Some(mut lines) = open_lines(&file, HEADER)? else { return Ok(None) };
@@ -82,13 +77,10 @@ impl TimesFile {
     }
 
     /// Returns the events that happened so much later than the first one that it is wanted.
-    pub(crate) fn events(
-        &self,
-        is_wanted: impl Fn(Time) -> bool,
-    ) -> Result<HashSet<Place>, Failure> {
+    pub(crate) fn events(&self, is: impl Fn(Time) -> bool) -> Result<HashSet<Place>, Failure> {
         let mut events = HashSet::new();
         self.each(|entry| match entry {
-            Entry::Event(place, time) if is_wanted(time) => events.insert(place),
+            Entry::Event(place, time) if is(time) => events.insert(place),
             _ => true,
         })?;
         Ok(events)
@@ -154,20 +146,12 @@ impl Times {
 }
 
 fn are_ends(send: &Event, receive: &Event) -> bool {
-    send.kind == Kind::Send
-        && receive.kind == Kind::Receive
-        && send.from == receive.from
-        && send.label == receive.label
-        && send.serial == receive.serial
-        && send.value == receive.value
+    (send.kind, receive.kind) == (Kind::Send, Kind::Receive)
+        && (send.from, send.label) == (receive.from, receive.label)
+        && (send.serial, send.value) == (receive.serial, receive.value)
 }
 
-fn place<'a>(words: &mut impl Iterator<Item = &'a str>) -> Option<Place> {
-    Some((gemshowal::read_pid(words.next()?)?, number(words.next()?)?))
-}
-
-/// Reads a number, with a minus or without. The least one is refused, so that each has its
-/// opposite.
+/// Reads a number, maybe with a minus. The least one is refused, so that each has its opposite.
 fn time(word: &str) -> Option<Time> {
     let size = number(word.strip_prefix('-').unwrap_or(word))?;
     let size = Time::try_from(size).ok()?;

@@ -10,7 +10,6 @@ use std::collections::BTreeSet;
 /// The greatest number of names that are listed if none is the one that was meant.
 const LISTED: usize = 20;
 
-/// Refuses a word that names nothing, or no one thing.
 fn not_found<T>(words: String) -> Result<T, Failure> {
     Err(Failure::NotFound(words))
 }
@@ -27,8 +26,7 @@ impl Names {
         self.find_event_among(streams.pids(), |pid| streams.len(pid), &joined)
     }
 
-    /// Finds the place of an event that is named by its process, one of these, each with this
-    /// number of events.
+    /// Finds the event that is named by its process, one of these, each with this number of events.
     pub(crate) fn find_event_among(
         &self,
         listed: &[Pid],
@@ -55,7 +53,9 @@ impl Names {
 
     /// Finds the process of this name or pid among the listed ones, which rise.
     pub(crate) fn find_process(&self, listed: &[Pid], word: &str) -> Result<Pid, Failure> {
-        let named = self.terms.processes_of(word);
+        let named = self.terms.processes.iter().filter(|(_, process)| &*process.name == word);
+        let mut named: Vec<Pid> = named.map(|(&pid, _)| pid).collect();
+        named.sort_unstable();
         let pid = gemshowal::read_pid(word).or_else(|| gemshowal::read_pid(format!("<{word}>")));
         let only = if let &[only] = &named[..] { Some(only) } else { None };
         let mut meant = [pid, only].into_iter().flatten();
@@ -71,13 +71,11 @@ impl Names {
         not_found(format!("there is no process {word}; the trace has {listed}"))
     }
 
-    /// Finds the label that is shown as this text, but for blanks, or has this number; without a
-    /// text the only label.
+    /// Finds the label that is shown so, but for blanks, or has this number; else the only label.
     pub(crate) fn find_label(&self, trace: &Trace, text: Option<&str>) -> Result<Label, Failure> {
         self.find_label_among(&trace.events().map(|(_, event)| event.label.0).collect(), text)
     }
 
-    /// Finds the label among these.
     pub(crate) fn find_label_among(
         &self,
         labels: &BTreeSet<u32>,
@@ -111,7 +109,6 @@ impl Names {
     }
 }
 
-/// Makes the error of a line on which there is no event.
 pub(crate) fn no_event_on(line: u64) -> Failure {
     Failure::NotFound(format!("there is no event on line {line}"))
 }
@@ -121,8 +118,7 @@ fn few(names: impl ExactSizeIterator<Item = String>) -> String {
     names.take(LISTED).collect::<Vec<_>>().join(", ") + more
 }
 
-/// Returns the text without the blanks that Erlang's syntax doesn't need: those after a comma, as
-/// far as that is no string.
+/// Returns the text without the blanks after commas, as far as that is no string.
 fn without_blanks(text: &str) -> String {
     text.split(", ").map(str::trim).collect::<Vec<_>>().join(",")
 }

@@ -32,7 +32,6 @@ pub(super) struct Data {
     /// The length to which messages are cut, if they are.
     most: Option<usize>,
     limit: usize,
-    /// The lines that say on what the causes rest.
     rests_on: Vec<String>,
     terms: Vec<Term>,
     /// The number of the only label that is shown at first.
@@ -70,16 +69,14 @@ struct Rows {
     lane: Vec<usize>,
     /// The lane at the other end; -1 of a print.
     other: Vec<i64>,
-    /// A letter an event: send, receive, print, or hidden, for a send that only its receive tells
-    /// of.
+    /// A letter an event: send, receive, print, or hidden, a send that only its receive tells of.
     kind: String,
     /// A digit an event: whether it was reported.
     plain: String,
     /// A letter an event, for what it follows: its send, a receive, another label, either of two;
     /// it begins; its counters moved; or nothing is known.
     how: String,
-    /// A sign an event: certain, perhaps, or which premises it rests on, mostly the last one's
-    /// number.
+    /// A sign an event: certain, perhaps, or its premises, mostly the last one's number.
     grade: String,
     label: Vec<usize>,
     /// The number of the message; -1 if nobody knows it.
@@ -95,7 +92,6 @@ struct Rows {
     time: Option<Vec<Option<i64>>>,
 }
 
-/// Things with their numbers.
 type Numbers<T> = HashMap<T, usize>;
 
 fn numbers<T: Eq + Hash>(things: impl IntoIterator<Item = T>) -> Numbers<T> {
@@ -117,8 +113,7 @@ impl Data {
         let (names, times) = (causes.names(), causes.names().times());
         let (lanes, rows) = lanes_and_rows(causes, events);
         let labels: BTreeSet<u32> = rows.iter().map(|row| row.event.label.0).collect();
-        let values: BTreeSet<u64> =
-            rows.iter().filter_map(|row| causes.message(row.item)).collect();
+        let values: BTreeSet<u64> = rows.iter().filter_map(|it| causes.message(it.item)).collect();
         let most = messages.most(&values, names, CHARACTERS);
         let places = numbers(labels.iter().copied());
         Data {
@@ -127,7 +122,7 @@ impl Data {
             fits: causes.never().is_none(),
             notes: words::losses(names).collect(),
             begin: times.and_then(Times::begin).map(|begin| begin / MICRO),
-            durations: times.map_or(vec![], |times| tables(causes.trace(), names, times)),
+            durations: tables(causes.trace(), names),
             most,
             limit: CHARACTERS,
             rests_on: words::rests_on(rows.iter().map(|row| row.link)),
@@ -161,12 +156,7 @@ impl Term {
 }
 
 impl Rows {
-    fn of(
-        causes: &Causes<'_>,
-        chart: &[Row],
-        labels: &Numbers<u32>,
-        values: &Numbers<u64>,
-    ) -> Rows {
+    fn of(causes: &Causes<'_>, chart: &[Row], labels: &Numbers<u32>, terms: &Numbers<u64>) -> Rows {
         let places = numbers(chart.iter().map(|row| row.item));
         let times = causes.names().times();
         let mut rows = Rows { time: times.map(|_| Vec::new()), ..Rows::default() };
@@ -179,7 +169,7 @@ impl Rows {
             rows.how.push(how(event.kind, link));
             rows.grade.push(grade(link.grade));
             rows.label.push(labels.get(&event.label.0).copied().unwrap_or_default());
-            rows.term.push(or_none(values, causes.message(item)));
+            rows.term.push(or_none(terms, causes.message(item)));
             rows.serial.push(format!("{},{}", event.serial.prev, event.serial.this));
             rows.at.push(causes.number(item));
             rows.cause.push(or_none(&places, link.follows()));
@@ -226,10 +216,10 @@ fn grade(grade: Grade) -> char {
     }
 }
 
-fn tables(trace: &Trace, names: &Names, times: &Times) -> Vec<Table> {
+fn tables(trace: &Trace, names: &Names) -> Vec<Table> {
     let tables = [
-        ("By processes", durations::by_processes(trace, names, times)),
-        ("By kind of message", durations::by_kind(trace, names, times)),
+        ("By processes", durations::by_processes(trace, names)),
+        ("By kind of message", durations::by_kind(trace, names)),
     ];
     let entry = |it: Durations| (it.of, it.count, it.median, it.percent_99, it.greatest);
     let table = |(title, entries): (&'static str, Vec<Durations>)| Table {

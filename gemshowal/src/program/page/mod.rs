@@ -9,9 +9,10 @@ mod data;
 
 use crate::args::Page as Args;
 use crate::causes::{with_causes, Links};
+use crate::names::Messages;
 use crate::output::keep;
 use crate::view::View;
-use crate::{Failure, Status, Task};
+use crate::{Ended, Status, Task};
 use data::Data;
 use std::collections::hash_map::RandomState;
 use std::hash::{BuildHasher, Hasher};
@@ -20,7 +21,7 @@ use std::io::Write;
 const FRAME: &str = include_str!("../../../page/page.html");
 const STYLE: &str = include_str!("../../../page/page.css");
 
-pub(crate) fn run(args: &Args, task: Task<'_>) -> Result<Status, Failure> {
+pub(crate) fn run(args: &Args, task: Task<'_>) -> Ended {
     let Task { input, out, notes, .. } = task;
     let (trace, names) = input.read(notes)?;
     let label = args.label.as_deref().map(|label| names.find_label(&trace, Some(label)));
@@ -28,7 +29,7 @@ pub(crate) fn run(args: &Args, task: Task<'_>) -> Result<Status, Failure> {
     let whole = View::whole(&trace, &names);
     let links = Links::of_view(&whole)?;
     with_causes(&whole, &links, |causes| {
-        let messages = input.messages(|value| names.has_value(value))?;
+        let messages = Messages::beside(input.path(), |value| names.has_value(value))?;
         let title = input.title();
         let data = Data::of(causes, causes.ordered()?, &title, label, &messages);
         let page = page(&title, &serde_json::to_string(&data)?);
@@ -40,8 +41,7 @@ pub(crate) fn run(args: &Args, task: Task<'_>) -> Result<Status, Failure> {
     })
 }
 
-/// Fills the frame, which has a word between two at signs for each text. Nothing is put into what
-/// was put in.
+/// Fills the frame, in which words between at signs stand for texts, but not those within texts.
 fn page(title: &str, data: &str) -> String {
     // Escapes what could end the element: only strings of JSON have these characters.
     let data = data.replace('<', "\\u003c").replace('>', "\\u003e").replace('&', "\\u0026");
@@ -57,8 +57,7 @@ fn page(title: &str, data: &str) -> String {
     parts.collect::<Vec<&str>>().concat()
 }
 
-/// Makes the word by which the policy lets a script run: nobody knew it when the messages were
-/// sent.
+/// Makes the word by which the policy lets a script run: nobody who sent a message knew it.
 fn nonce() -> String {
     // Draws on the random keys that each state has of its own.
     let number = |_| format!("{:016x}", RandomState::new().build_hasher().finish());
@@ -82,18 +81,17 @@ const HEAD: &str = "\"use strict\";
 
 macro_rules! modules {
     ($($name:literal),* $(,)?) => {
-        [$(($name, include_str!(concat!("../../../page/", $name, ".js")))),*]
+        [$(include_str!(concat!("../../../page/", $name, ".js"))),*]
     };
 }
 
-const MODULES: [(&str, &str); 12] = modules![
+const MODULES: [&str; 12] = modules![
     "elements", "trace", "layout", "choice", "drawing", "marks", "grid", "panel", "search",
     "drawers", "controls", "main",
 ];
 
 fn script() -> String {
-    let bodies: Vec<String> =
-        MODULES.iter().map(|(_, text)| without_words_of_modules(text)).collect();
+    let bodies: Vec<String> = MODULES.into_iter().map(without_words_of_modules).collect();
     format!("{HEAD}{}}})();\n", bodies.join("\n"))
 }
 
