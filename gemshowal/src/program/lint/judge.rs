@@ -95,8 +95,8 @@ impl<'a> Judge<'a> {
         self.found.add(mistake, is_named);
     }
 
-    /// Refuses a line that isn't one of those that may be there. The rest of a text that breaks off
-    /// within it can't be mended.
+    /// Refuses a line that isn't allowed there. If the text breaks off within it, it stays as it
+    /// is.
     fn refuse(&mut self, line: Line<'a>, scan: &Scan<'a>, wanted: Wanted) {
         let (above, at) = (self.above, scan.at);
         if !line.is_ended && wanted.begins_with(&line.bytes[at..]) {
@@ -264,12 +264,7 @@ pub(super) struct Mistake<'a> {
 
 impl<'a> Mistake<'a> {
     /// Makes a mistake for which the reader refuses the line, and which a person has to mend.
-    pub(super) fn new(
-        line: Line<'a>,
-        column: usize,
-        wanted: Wanted,
-        remedy: &'static str,
-    ) -> Mistake<'a> {
+    pub(super) fn new(line: Line<'a>, column: usize, wanted: Wanted, remedy: &'static str) -> Self {
         Mistake { line, column, wanted, remedy, is_by_fix: false, is_read: false }
     }
 

@@ -11,7 +11,7 @@ mod text;
 
 use crate::args::Lint;
 use crate::object::{object, Number};
-use crate::{Failure, Status, Task};
+use crate::{Ended, Status, Task};
 use arrayvec::ArrayVec;
 use gemshowal::{OutOfMemory, Pid, ReadError, Trace};
 use grammar::{Above, Sort};
@@ -20,7 +20,7 @@ use serde::ser::{SerializeMap, Serializer};
 use serde::Serialize;
 use std::fmt::{self, Display, Formatter};
 
-pub(crate) fn run(args: &Lint, task: Task<'_>) -> Result<Status, Failure> {
+pub(crate) fn run(args: &Lint, task: Task<'_>) -> Ended {
     let Task { json, input, out, notes } = task;
     let bytes = input.bytes()?;
     if args.fix {
@@ -47,7 +47,6 @@ pub(crate) fn first_refused(text: &[u8]) -> Option<String> {
     Some(format!(", {}; {}", mistake.place(), mistake.remedy))
 }
 
-/// The pids of a line.
 pub(crate) type Pids = ArrayVec<Pid, { grammar::MOST_PIDS }>;
 
 /// Reads an act, and returns its pids and how many of them, the first ones, have to be listed.
@@ -96,7 +95,6 @@ impl Display for Findings<'_> {
     }
 }
 
-/// The numbers of a text without mistakes.
 #[derive(Serialize)]
 struct Counts {
     processes: usize,
