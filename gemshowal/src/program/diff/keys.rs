@@ -70,33 +70,24 @@ pub(super) fn all_keys(sides: [&Side<'_>; 2], ranks: Option<&[Ranks; 2]>) -> Key
     keys
 }
 
+/// Returns the keys of processes by their own events: they tell which of them have the same process
+/// at the other end, but not yet which process.
 fn own_keys(side: &Side<'_>, ranks: Option<&Ranks>) -> Vec<u64> {
+    // For each process, the last one whose events name it, and the first of these events.
     let mut named = vec![(NOBODY, 0); side.len()];
-    (0..side.len()).map(|place| key_of_events(side, ranks, place, &mut named)).collect()
-}
-
-/// Returns the key of a process by its own events: it tells which of them have the same process at
-/// the other end, but not yet which process. For each process, `named` has the last one whose
-/// events name it, and the first of these events.
-fn key_of_events(
-    side: &Side<'_>,
-    ranks: Option<&Ranks>,
-    place: usize,
-    named: &mut [(u32, u64)],
-) -> u64 {
-    let events = side.events(place).iter().zip(&side.items[place]).zip(&side.peers[place]);
-    let mut key = 0;
-    for (index, ((event, &item), &peer)) in (0..).zip(events) {
-        let ranks = ranks.map_or([0, 0], |ranks| ranks.of_serial(event.serial));
-        key = [item.into(), ranks[0], ranks[1]].into_iter().fold(key, mix);
-        if let Some((by, first)) = named.get_mut(peer as usize) {
+    let key = |place: usize| {
+        let events = side.events(place).iter().zip(&side.items[place]).zip(&side.peers[place]);
+        (0..).zip(events).fold(0, |key, (index, ((event, &item), &peer))| {
+            let ranks = ranks.map_or([0, 0], |ranks| ranks.of_serial(event.serial));
+            let key = [item.into(), ranks[0], ranks[1]].into_iter().fold(key, mix);
+            let Some((by, first)) = named.get_mut(peer as usize) else { return key };
             if *by != place as u32 {
                 (*by, *first) = (place as u32, index);
             }
-            key = mix(key, 2 * *first + u64::from(peer as usize == place));
-        }
-    }
-    key
+            mix(key, 2 * *first + u64::from(peer as usize == place))
+        })
+    };
+    (0..side.len()).map(key).collect()
 }
 
 fn refined(side: &Side<'_>, keys: &[u64]) -> Vec<u64> {

@@ -14,21 +14,17 @@ use serde::Serialize;
 use std::collections::{HashMap, VecDeque};
 
 /// Finds the processes that are called alike: by one name, and then by one pid.
-pub(super) fn called_alike(
-    sides: [&Side<'_>; 2],
-    names: [&Names; 2],
-    has_names: bool,
-) -> Vec<Pair> {
+pub(super) fn called_alike(sides: [&Side<'_>; 2], names: Option<[&Names; 2]>) -> Vec<Pair> {
     let mut mates = Vec::new();
-    if has_names {
+    if let Some(names) = names {
         let [ones, others] = [0, 1].map(|it| by_name(sides[it], names[it]));
         let alike = ones.iter().filter_map(|(name, &one)| Some([one?, (*others.get(name)?)?]));
         mates.extend(alike.map(|places| Pair { places, ground: Ground::Name }));
         mates.sort_unstable_by_key(|mate| mate.places);
     }
     for (place, &pid) in sides[0].pids().iter().enumerate() {
-        let is_other = has_names && names[0].process(pid) != names[1].process(pid);
-        let other = sides[1].place_of(pid).filter(|_| !is_other);
+        let is_other = |[one, other]: [&Names; 2]| one.process(pid) != other.process(pid);
+        let other = sides[1].place_of(pid).filter(|_| !names.is_some_and(is_other));
         mates.extend(other.map(|other| Pair { places: [place, other], ground: Ground::Pid }));
     }
     mates
@@ -142,7 +138,7 @@ impl Search<'_> {
             };
             let [ones, others] = [0, 1].map(items);
             let peers = [0, 1].map(|it| &sides[it].peers[places[it]]);
-            for run in align(&ones, &others, &mut self.budget).runs {
+            for run in align(&ones, &others, &mut self.budget).0 {
                 let peers = peers[0][run.at[0]..].iter().zip(&peers[1][run.at[1]..]);
                 for (&one, &other) in peers.take(run.len) {
                     if one != NOBODY && other != NOBODY {
@@ -174,8 +170,7 @@ pub(super) enum Ground {
 }
 
 impl Ground {
-    /// Returns whether two processes of different parts may well be taken for the same on this
-    /// ground.
+    /// Returns whether processes of different parts may well be taken for the same on this ground.
     pub(super) fn is_guess(self) -> bool {
         !matches!(self, Ground::Name | Ground::Pid | Ground::Events)
     }
@@ -204,7 +199,6 @@ pub(super) struct Pair {
     pub(super) ground: Ground,
 }
 
-#[derive(Debug)]
 pub(super) struct Pairs {
     pub(super) all: Vec<Pair>,
     /// For each process of the two traces the number of its pair in `all`, or `NOBODY`.
@@ -212,7 +206,6 @@ pub(super) struct Pairs {
 }
 
 impl Pairs {
-    /// Returns the number of the pair of a process, or `NOBODY`.
     pub(super) fn number(&self, which: usize, place: usize) -> u32 {
         self.numbers[which].get(place).copied().unwrap_or(NOBODY)
     }

@@ -1,5 +1,4 @@
-//! The command `diff`: what is new, gone or elsewhere in the second of two traces, up to pids and
-//! counts.
+//! The command `diff`: what is new, gone or elsewhere in another trace, up to pids and counts.
 //!
 //! `matching` finds which process of the one trace has the part of which in the other, by names,
 //! pids, messages and `keys`. `align` pairs the events of two processes that are matched, and
@@ -13,7 +12,7 @@ mod report;
 mod side;
 
 use crate::input::Input;
-use crate::{Failure, Status, Task};
+use crate::{Ended, Status, Task};
 use changes::Changes;
 use keys::{all_keys, Keys, Ranks};
 use matching::{Ground, Pair, Pairs};
@@ -21,7 +20,7 @@ use report::{Moved, Report, Text};
 use side::{Side, Vocabulary};
 use std::cell::LazyCell;
 
-pub(crate) fn run(task: Task<'_>, mut other: Input) -> Result<Status, Failure> {
+pub(crate) fn run(task: Task<'_>, mut other: Input) -> Ended {
     let Task { json, input, out, notes } = task;
     let ((first, ones), (second, others)) = (input.read(notes)?, other.read(notes)?);
     let has_terms = ones.has_terms() && others.has_terms();
@@ -31,7 +30,8 @@ pub(crate) fn run(task: Task<'_>, mut other: Input) -> Result<Status, Failure> {
         .map(|(trace, names)| Side::new(trace, names, &mut vocabulary));
     drop(vocabulary);
     let sides = sides.each_ref();
-    let found = compare(sides, &matching::called_alike(sides, [&ones, &others], has_terms));
+    let names = has_terms.then_some([&ones, &others]);
+    let found = compare(sides, &matching::called_alike(sides, names));
     let texts = [
         Text { name: input.line_name(), names: &ones, lines: first.lines()? },
         Text { name: other.line_name(), names: &others, lines: second.lines()? },
@@ -45,7 +45,6 @@ pub(crate) fn run(task: Task<'_>, mut other: Input) -> Result<Status, Failure> {
     Ok(status)
 }
 
-#[derive(Debug)]
 struct Found {
     pairs: Pairs,
     changes: Changes,

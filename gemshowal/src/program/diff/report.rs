@@ -30,11 +30,8 @@ pub(super) struct Moved {
 
 impl Moved {
     /// Finds it in traces of which all processes are matched and no event is changed.
-    pub(super) fn find(
-        [first, second]: [&Side<'_>; 2],
-        [ones, others]: &[Ranks; 2],
-        pairs: &Pairs,
-    ) -> Option<Moved> {
+    pub(super) fn find(sides: [&Side<'_>; 2], ranks: &[Ranks; 2], pairs: &Pairs) -> Option<Moved> {
+        let ([first, second], [ones, others]) = (sides, ranks);
         let has_same_counts = ones == others;
         let moved = |pair: Pair| {
             let events = first.events(pair.places[0]).iter().zip(second.events(pair.places[1]));
@@ -69,11 +66,25 @@ struct Sums {
     counts: usize,
 }
 
-/// A line of the report: a process that is matched, or a difference.
+/// A line of the report: a process that is matched, or a difference, which is in JSON too.
+#[derive(Serialize)]
+#[serde(untagged)]
 enum Line<'a> {
+    #[serde(skip)]
     Matched(Pair),
-    Process { change: &'static str, pid: Pid, names: &'a Names },
-    Event { change: &'static str, row: Row<'a>, now: Option<Row<'a>> },
+    Process {
+        change: &'static str,
+        pid: gemshowal::Text<Pid>,
+        #[serde(skip)]
+        names: &'a Names,
+    },
+    Event {
+        change: &'static str,
+        #[serde(flatten)]
+        row: Row<'a>,
+        #[serde(skip_serializing_if = "Option::is_none")]
+        now: Option<Row<'a>>,
+    },
 }
 
 #[derive(Clone, Copy)]
@@ -93,7 +104,7 @@ impl<'a> Report<'a> {
     fn sums(&self) -> Sums {
         let [first, second] = self.sides;
         let (pairs, changes) = (&self.found.pairs.all, &self.found.changes);
-        let elsewhere = changes.elsewhere();
+        let elsewhere = changes.all[0].iter().filter(|it| it.elsewhere.is_some()).count();
         Sums {
             gone: changes.all[0].len() - elsewhere,
             new: changes.all[1].len() - elsewhere,
@@ -109,7 +120,8 @@ impl<'a> Report<'a> {
         let (pairs, changes) = (&self.found.pairs, &self.found.changes);
         let names = self.texts.each_ref().map(|text| text.names);
         let mut lines = Vec::new();
-        for (place, &pid) in self.sides[0].pids().iter().enumerate() {
+        let pids = |it: usize| self.sides[it].pids().iter().map(|&pid| gemshowal::Text(pid));
+        for (place, pid) in pids(0).enumerate() {
             let gone = of_process(&changes.all[0], place);
             let pair = pairs.of_first(place);
             let new = pair.map_or(&[][..], |pair| of_process(&changes.all[1], pair.places[1]));
@@ -120,7 +132,7 @@ impl<'a> Report<'a> {
             }
             self.add_in_order(&mut lines, gone, new);
         }
-        for (place, &pid) in self.sides[1].pids().iter().enumerate() {
+        for (place, pid) in pids(1).enumerate() {
             if pairs.is_free(1, place) {
                 lines.push(Line::Process { change: "new process", pid, names: names[1] });
                 self.add_in_order(&mut lines, &[], of_process(&changes.all[1], place));
@@ -133,8 +145,7 @@ impl<'a> Report<'a> {
         lines
     }
 
-    /// Adds the changes of two processes in the order of both. Those that are elsewhere are told
-    /// with the first trace's.
+    /// Adds the changes of two processes in their order; those elsewhere are told with the first's.
     fn add_in_order(&self, lines: &mut Vec<Line<'a>>, gone: &[Change], new: &[Change]) {
         let mut new = new.iter().peekable();
         let alone = |change: &Change| {
@@ -174,7 +185,7 @@ impl<'a> Report<'a> {
         match line {
             Line::Matched(pair) => self.write_match(f, *pair),
             Line::Process { change, pid, names } => {
-                writeln!(f, "{change} {}", names.process(*pid))
+                writeln!(f, "{change} {}", names.process(pid.0))
             }
             Line::Event { change, row, now: None } => writeln!(f, "{change} {row}"),
             Line::Event { change, row, now: Some(now) } => {
@@ -236,8 +247,7 @@ impl Display for Report<'_> {
 }
 
 impl Serialize for Report<'_> {
-    /// Serializes the processes that are matched, by rising pid of the first trace's, and then what
-    /// differs.
+    /// Serializes the matched processes, by rising pid in the first trace, and then what differs.
     fn serialize<S: Serializer>(&self, serializer: S) -> Result<S::Ok, S::Error> {
         let matched = |pair: Pair| {
             let [process, is] = self.pids(pair).map(gemshowal::Text);
@@ -245,12 +255,13 @@ impl Serialize for Report<'_> {
             Matched { process, is, because, guess: because.is_guess(), coarse }
         };
         let pairs = || (0..self.sides[0].len()).filter_map(|it| self.found.pairs.of_first(it));
+        let is_difference = |line: &Line<'_>| !matches!(line, Line::Matched(_));
         let object = Object {
             other: self.texts[1].name,
             certain: self.is_same() || self.found.is_certain,
             sums: self.sums(),
             processes: Sequence::of(move || pairs().map(matched)),
-            changes: Sequence::of(|| self.lines().into_iter().filter_map(Difference::of)),
+            changes: Sequence::of(|| self.lines().into_iter().filter(is_difference)),
         };
         object.serialize(serializer)
     }
@@ -294,7 +305,7 @@ struct Object<'a> {
     #[serde(flatten)]
     sums: Sums,
     processes: Sequence<'a, Matched>,
-    changes: Sequence<'a, Difference>,
+    changes: Sequence<'a, Line<'a>>,
 }
 
 #[derive(Serialize)]
@@ -308,17 +319,6 @@ struct Matched {
 }
 
 #[derive(Serialize)]
-struct Difference {
-    change: &'static str,
-    #[serde(skip_serializing_if = "Option::is_none")]
-    pid: Option<gemshowal::Text<Pid>>,
-    #[serde(flatten)]
-    row: Option<Placed>,
-    #[serde(skip_serializing_if = "Option::is_none")]
-    now: Option<Placed>,
-}
-
-#[derive(Serialize)]
 struct Placed {
     line: u64,
     #[serde(flatten)]
@@ -327,18 +327,10 @@ struct Placed {
     event: Fields,
 }
 
-impl Difference {
-    fn of(line: Line<'_>) -> Option<Difference> {
-        let placed = |Row { names, line, place, event }: Row<'_>| Placed {
-            line,
-            place: Place::new(names, place),
-            event: Fields::new(names, event),
-        };
-        let (change, pid, row, now) = match line {
-            Line::Matched(_) => return None,
-            Line::Process { change, pid, .. } => (change, Some(gemshowal::Text(pid)), None, None),
-            Line::Event { change, row, now } => (change, None, Some(row), now),
-        };
-        Some(Difference { change, pid, row: row.map(placed), now: now.map(placed) })
+impl Serialize for Row<'_> {
+    fn serialize<S: Serializer>(&self, serializer: S) -> Result<S::Ok, S::Error> {
+        let &Row { names, line, place, event } = self;
+        let (place, event) = (Place::new(names, place), Fields::new(names, event));
+        Placed { line, place, event }.serialize(serializer)
     }
 }

@@ -18,7 +18,6 @@ enum Word<'a> {
     Term(Cow<'a, str>),
 }
 
-#[derive(Debug)]
 pub(super) struct Vocabulary<'a> {
     /// Label and kind, and value. Label and value are numbers of the traces, or of `words`.
     items: HashMap<(u64, u64), Item>,
@@ -64,8 +63,7 @@ pub(super) fn term(name: Cow<'_, str>) -> Option<&str> {
     }
 }
 
-/// Returns a term without what differs from run to run: the numbers of its references, pids and
-/// ports.
+/// Returns a term without the numbers of its references, pids and ports, which differ by run.
 fn without_numbers(term: &str) -> Cow<'_, str> {
     let is_number = |text: &str| text.bytes().all(|byte| byte.is_ascii_digit() || byte == b'.');
     let mut parts = term.split('<');
@@ -83,24 +81,18 @@ fn without_numbers(term: &str) -> Cow<'_, str> {
     Cow::Owned(bare)
 }
 
-#[derive(Debug)]
 pub(super) struct Side<'a> {
     trace: &'a Trace,
     /// The items of each process.
     pub(super) items: Vec<Vec<Item>>,
-    /// For each event of each process the place of the process at the other end of its message, or
-    /// `NOBODY`.
+    /// For each event of each process the place of the process at its other end, or `NOBODY`.
     pub(super) peers: Vec<Vec<u32>>,
 }
 
 impl<'a> Side<'a> {
-    pub(super) fn new(
-        trace: &'a Trace,
-        names: &'a Names,
-        vocabulary: &mut Vocabulary<'a>,
-    ) -> Side<'a> {
+    pub(super) fn new(trace: &'a Trace, names: &'a Names, words: &mut Vocabulary<'a>) -> Side<'a> {
         let mut process = |(_, events): (Pid, &[Event])| -> (Vec<Item>, Vec<u32>) {
-            let item = |event| (vocabulary.item_of(event, names), peer_of(trace, event));
+            let item = |event| (words.item_of(event, names), peer_of(trace, event));
             events.iter().map(item).unzip()
         };
         let (items, peers) = trace.processes().map(&mut process).unzip();
@@ -132,8 +124,7 @@ impl<'a> Side<'a> {
         events.map(|(&item, &peer)| u64::from(item) << 32 | u64::from(of_peer(peer))).collect()
     }
 
-    /// Returns the places of the processes by when they first report something; those that report
-    /// nothing come last.
+    /// Returns the places of processes by when they first report something; silent ones come last.
     pub(super) fn order(&self) -> Vec<usize> {
         let mut order = Vec::from_iter(0..self.len());
         order.sort_by_key(|&place| {
