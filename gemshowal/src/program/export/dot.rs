@@ -8,14 +8,13 @@ use crate::output::Output;
 use gemshowal::{Event, Partner, Pid};
 use std::io::{self, Write};
 
-/// The style of an edge between a send and its receive.
 const MESSAGE: &str = " [color=blue]";
 const OPEN_MESSAGE: &str = " [color=blue, style=dashed]";
 
 pub(super) fn write(scene: &Scene<'_>, out: &mut Output) -> io::Result<()> {
     writeln!(out, "digraph trace {{\n    newrank=true;\n    node [shape=box];")?;
-    for (pid, events) in scene.trace.processes().filter(|&(pid, _)| scene.lane(pid) > 0) {
-        write_process(scene, out, pid, events)?;
+    for &pid in &scene.lanes {
+        write_process(scene, out, pid)?;
     }
     for (place, event) in scene.events() {
         write_message(scene, out, place, event)?;
@@ -23,12 +22,8 @@ pub(super) fn write(scene: &Scene<'_>, out: &mut Output) -> io::Result<()> {
     writeln!(out, "}}")
 }
 
-fn write_process(
-    scene: &Scene<'_>,
-    out: &mut Output,
-    pid: Pid,
-    events: &[Event],
-) -> io::Result<()> {
+fn write_process(scene: &Scene<'_>, out: &mut Output, pid: Pid) -> io::Result<()> {
+    let events = scene.trace.streams().events(pid);
     let (lane, name) = (scene.lane(pid), quoted(&scene.names.process(pid)));
     writeln!(out, "    subgraph cluster_{lane} {{\n        label=\"{name}\";")?;
     let mut before: Option<u64> = None;
@@ -43,17 +38,11 @@ fn write_process(
     writeln!(out, "    }}")
 }
 
-/// Writes the edge of the message that an event received, or that it sent if nobody reported the
-/// receive.
-fn write_message(
-    scene: &Scene<'_>,
-    out: &mut Output,
-    (pid, index): Place,
-    event: &Event,
-) -> io::Result<()> {
-    let own = scene.lane(pid);
+/// Writes the edge of a received message, or of a sent one whose receive nobody reported.
+fn write_message(scene: &Scene<'_>, out: &mut Output, at: Place, event: &Event) -> io::Result<()> {
+    let (own, index) = (scene.lane(at.0), at.1);
     let (node, open) = (format!("e{own}_{index}"), format!("u{own}_{index}"));
-    match scene.partner((pid, index), event) {
+    match scene.partner(at, event) {
         Partner::Nobody | Partner::Receive(..) => Ok(()),
         Partner::Send(from, sent) => {
             writeln!(out, "    e{}_{sent} -> {node}{MESSAGE};", scene.lane(from))

@@ -17,7 +17,7 @@ use crate::causes::{Causes, Links};
 use crate::output::{Notes, Output};
 use crate::reason::{paired, Against};
 use crate::view::View;
-use crate::{Failure, Status, Task};
+use crate::{Ended, Failure, Status, Task};
 use gemshowal::Never;
 use scene::Scene;
 use std::fmt::Display;
@@ -25,7 +25,7 @@ use std::fmt::Display;
 /// The greatest number of messages in a drawing that is easily read.
 const READABLE: usize = 300;
 
-pub(crate) fn run(args: &Export, task: Task<'_>) -> Result<Status, Failure> {
+pub(crate) fn run(args: &Export, task: Task<'_>) -> Ended {
     let Task { input, out, notes, .. } = task;
     let (trace, names) = input.read(notes)?;
     let name = input.line_name();
@@ -62,7 +62,7 @@ fn write(
     name: &str,
     out: &mut Output,
     notes: &mut Notes,
-) -> Result<Status, Failure> {
+) -> Ended {
     let messages = scene.count_messages();
     if matches!(target, Target::Mermaid | Target::Dot) && messages > READABLE {
         notes.say(format_args!(

@@ -12,17 +12,12 @@ use crate::names::Line;
 use crate::output::{Notes, Output};
 use crate::view::short;
 use crate::words::{self, PREMISES};
-use crate::{Failure, Status};
+use crate::{Ended, Status};
 use gemshowal::{Event, Item, Kind, Label, Partner, Pid, Text};
 use std::collections::BTreeMap;
 use std::io::{self, Write};
 
-pub(super) fn write(
-    scene: &Scene<'_>,
-    name: &str,
-    out: &mut Output,
-    notes: &mut Notes,
-) -> Result<Status, Failure> {
+pub(super) fn write(scene: &Scene<'_>, name: &str, out: &mut Output, notes: &mut Notes) -> Ended {
     let no = |words: &str, notes| Ok(nothing(notes, format_args!("no: {name}: {words}")));
     let begin = match scene.names.times().map(|times| times.begin()) {
         None => return no("no event has a time, which spans need; trace with --times", notes),
@@ -114,12 +109,12 @@ impl Writer<'_> {
     fn name(&self, span: &Span, event: &Event) -> String {
         let scene = self.spans.scene;
         match span.about {
-            About::Label => match scene.has_terms() {
+            About::Label => match scene.names.has_terms() {
                 true => format!("trace {}", kind::sort(&scene.names.label(event.label))),
                 false => "trace".into(),
             },
             About::Message | About::Call => kind::sent(scene, event.value),
-            About::Work | About::Service => kind::handled(scene, event.value),
+            About::Work | About::Service => kind::with_sort(scene, "handle", event.value),
         }
     }
 
@@ -138,7 +133,7 @@ impl Writer<'_> {
             put_attribute(line, ",", "erlang.to", &scene.names.process(to));
         }
         put_attribute(line, ",", "erlang.pid", &Text(place.0).to_string());
-        put_attribute(line, ",", "seqaudit.event", &scene.name(place));
+        put_attribute(line, ",", "seqaudit.event", &scene.names.event(place));
         match scene.partner(place, event) {
             Partner::NoSend => put_flag(line, "seqaudit.send_reported", false),
             Partner::NoReceive => put_flag(line, "seqaudit.receive_reported", false),
@@ -148,10 +143,10 @@ impl Writer<'_> {
             put_cause(line, scene, place);
         }
         if span.about == About::Call {
-            let reply = self.spans.calls.reply(place);
+            let reply = self.spans.calls.replies.get(&place).copied();
             put_flag(line, "seqaudit.reply_reported", reply.is_some());
             if let Some(reply) = reply {
-                put_attribute(line, ",", "seqaudit.reply", &scene.name(reply));
+                put_attribute(line, ",", "seqaudit.reply", &scene.names.event(reply));
             }
         }
     }
@@ -165,10 +160,10 @@ impl Writer<'_> {
         for &(_, place) in of_span {
             let Some((event, time)) = scene.event(place).zip(scene.time(place)) else { continue };
             line.text(before).text("\"timeUnixNano\":\"").number(self.time(time));
-            line.text("\",\"name\":").string(&kind::printed(scene, event.value));
+            line.text("\",\"name\":").string(&kind::with_sort(scene, "print", event.value));
             line.text(",\"attributes\":[");
             put_attribute(line, "", "erlang.message", &short(&scene.names.value(event.value)));
-            put_attribute(line, ",", "seqaudit.event", &scene.name(place));
+            put_attribute(line, ",", "seqaudit.event", &scene.names.event(place));
             put_cause(line, scene, place);
             before = "]},{";
         }

@@ -6,14 +6,14 @@
 
 use super::scene::{Place, Scene, Table};
 use super::work as kind;
-use super::work::{Calls, Works};
+use super::work::{Calls, Work, Works};
 use crate::names::Line;
 use crate::object::kind_word;
 use crate::output::Output;
 use crate::view::short;
 use crate::Failure;
 use gemshowal::{Event, Kind, OutOfMemory, Partner, Pid};
-use std::collections::{BTreeMap, BTreeSet, HashMap};
+use std::collections::{BTreeSet, HashMap};
 use std::io::{self, Write};
 
 /// The part of a unit by which the slice of a work begins before its first event and ends after its
@@ -28,11 +28,7 @@ const LONGEST: f64 = 1_000.0;
 pub(super) fn write(scene: &Scene<'_>, out: &mut Output) -> Result<(), Failure> {
     let clock = Clock::of(scene)?;
     let calls = Calls::of(scene);
-    let works = Works::of(scene, &calls);
-    let mut of_process = BTreeMap::<Pid, Vec<(u64, u64)>>::new();
-    for (request, reply) in calls.all() {
-        of_process.entry(request.0).or_default().push((request.1, reply.1));
-    }
+    let mut enclosing = enclosing(&Works::of(scene, &calls), &calls);
     let mut next = 0;
     let process = |(pid, events): (Pid, &[Event])| {
         let mut quoted = serde_json::Value::from(scene.names.process(pid)).to_string();
@@ -50,38 +46,46 @@ pub(super) fn write(scene: &Scene<'_>, out: &mut Output) -> Result<(), Failure> 
         if nodes.insert(pid.node()) {
             out.put(|line| writer.put_node(line.text(comma), pid))?;
         }
-        let calls = of_process.remove(&pid).unwrap_or_default();
-        writer.write_process(out, Lane { pid, thread }, events, enclosing(&works, pid, calls))?;
+        let times = writer.clock.times.of_process(scene, pid);
+        let lane = Lane { pid, thread, events, times };
+        writer.write_process(out, lane, enclosing.remove(&pid).unwrap_or_default())?;
     }
     Ok(out.write_all(b"\n]}\n")?)
 }
 
+/// A process with its events and their times, and the number of its thread.
 #[derive(Clone, Copy, Debug)]
-struct Lane {
+struct Lane<'a> {
     pid: Pid,
     thread: u64,
+    events: &'a [Event],
+    times: &'a [Option<i64>],
 }
 
-#[derive(Clone, Copy, Debug)]
 struct Enclosing {
     first: u64,
     last: u64,
     is_call: bool,
 }
 
-/// Returns the slices around the events of a process, the outer ones first. One that began within
-/// another ends no later, as slices of a thread have to.
-fn enclosing(works: &Works, pid: Pid, calls: Vec<(u64, u64)>) -> Vec<Enclosing> {
-    let work = |first, last| Enclosing { first, last, is_call: false };
-    let call = |(first, last)| Enclosing { first, last, is_call: true };
-    let mut all: Vec<_> = works.of_process(pid).map(|it| work(it.receive.1, it.last)).collect();
-    all.extend(calls.into_iter().map(call));
-    all.sort_by_key(|it| (it.first, std::cmp::Reverse(it.last)));
-    let mut open: Vec<u64> = Vec::new();
-    for slice in &mut all {
-        open.retain(|&last| last >= slice.first);
-        slice.last = open.last().map_or(slice.last, |&last| slice.last.min(last));
-        open.push(slice.last);
+/// Returns the slices around the events of each process, the outer ones first. One that began
+/// within another ends no later, as slices of a thread have to.
+fn enclosing(works: &Works, calls: &Calls) -> HashMap<Pid, Vec<Enclosing>> {
+    let mut all = HashMap::<Pid, Vec<Enclosing>>::new();
+    for &Work { receive: (pid, first), last, .. } in &works.all {
+        all.entry(pid).or_default().push(Enclosing { first, last, is_call: false });
+    }
+    for (&(pid, first), &(_, last)) in &calls.replies {
+        all.entry(pid).or_default().push(Enclosing { first, last, is_call: true });
+    }
+    for own in all.values_mut() {
+        own.sort_by_key(|it| (it.first, std::cmp::Reverse(it.last)));
+        let mut open: Vec<u64> = Vec::new();
+        for slice in own {
+            open.retain(|&last| last >= slice.first);
+            slice.last = open.last().map_or(slice.last, |&last| slice.last.min(last));
+            open.push(slice.last);
+        }
     }
     all
 }
@@ -118,8 +122,7 @@ impl Writer<'_> {
     fn write_process(
         &self,
         out: &mut Output,
-        lane: Lane,
-        events: &[Event],
+        lane: Lane<'_>,
         enclosing: Vec<Enclosing>,
     ) -> io::Result<()> {
         out.put(|line| {
@@ -129,48 +132,34 @@ impl Writer<'_> {
             self.put_process(line, lane.pid);
             line.text("\"}}");
         })?;
-        let times = self.clock.times.of_process(self.scene, lane.pid);
         let mut enclosing = enclosing.into_iter().peekable();
-        for (index, event) in (0..).zip(events) {
+        for index in 0..lane.events.len() as u64 {
             while let Some(slice) = enclosing.next_if(|slice| slice.first == index) {
-                out.put(|line| self.put_enclosing(line, lane, slice, event, times))?;
+                out.put(|line| self.put_enclosing(line, lane, &slice))?;
             }
-            if let Some(span) = self.span(times, index) {
-                let place = (lane.pid, index);
-                let partner = self.scene.partner(place, event);
-                out.put(|line| {
-                    self.put_event(line, lane, index, event, span, partner);
-                    self.put_flow(line, lane, place, partner, span.0);
-                })?;
+            if let Some(span) = self.span(lane, index) {
+                out.put(|line| self.put_event(line, lane, index, span))?;
             }
         }
         Ok(())
     }
 
-    fn span(&self, times: &[Option<i64>], index: u64) -> Option<Span> {
-        let time = (*times.get(index as usize)?)?;
-        let next = times.get(index as usize + 1).copied().flatten();
+    fn span(&self, lane: Lane<'_>, index: u64) -> Option<Span> {
+        let time = (*lane.times.get(index as usize)?)?;
+        let next = lane.times.get(index as usize + 1).copied().flatten();
         let gap = next.map_or(LONGEST, |next| (next - time) as f64 / 2.0);
         let longest = if self.clock.is_measured { LONGEST } else { 0.5 };
         Some((time as f64, gap.clamp(0.5, longest)))
     }
 
-    fn put_enclosing(
-        &self,
-        line: &mut Line<'_>,
-        lane: Lane,
-        slice: Enclosing,
-        event: &Event,
-        times: &[Option<i64>],
-    ) {
-        let (around, cat) =
-            if slice.is_call { (AROUND_CALL, "call") } else { (AROUND_WORK, "work") };
-        let first = self.span(times, slice.first);
-        let last = (slice.first..=slice.last).rev().find_map(|it| self.span(times, it));
+    fn put_enclosing(&self, line: &mut Line<'_>, lane: Lane<'_>, slice: &Enclosing) {
+        let first = self.span(lane, slice.first);
+        let last = (slice.first..=slice.last).rev().find_map(|index| self.span(lane, index));
         let Some(((start, _), (end, len))) = first.zip(last) else { return };
-        let name = match slice.is_call {
-            true => kind::sent(self.scene, event.value),
-            false => kind::handled(self.scene, event.value),
+        let value = lane.events[slice.first as usize].value;
+        let (around, cat, name) = match slice.is_call {
+            true => (AROUND_CALL, "call", kind::sent(self.scene, value)),
+            false => (AROUND_WORK, "work", kind::with_sort(self.scene, "handle", value)),
         };
         line.text(",\n{\"ph\":\"X\",\"name\":").string(&name);
         let span = (start - around, end + len - start + 2.0 * around);
@@ -178,9 +167,8 @@ impl Writer<'_> {
         line.text("\"}}");
     }
 
-    /// Appends what each slice has: its kind, where it is, and the name of its event without the
-    /// last quote.
-    fn put_slice(&self, line: &mut Line<'_>, lane: Lane, cat: &str, span: Span, index: u64) {
+    /// Appends a slice's kind, where it is, and the name of its event without the last quote.
+    fn put_slice(&self, line: &mut Line<'_>, lane: Lane<'_>, cat: &str, span: Span, index: u64) {
         line.text(",\"cat\":\"").text(cat).text("\"");
         put_lane(line, lane);
         line.text(",\"ts\":");
@@ -192,19 +180,12 @@ impl Writer<'_> {
         line.text("#").number(index);
     }
 
-    /// Appends the slice of an event, with what else the trace tells of it. A reader of JSON may
-    /// round numbers, so they are strings.
-    fn put_event(
-        &self,
-        line: &mut Line<'_>,
-        lane: Lane,
-        index: u64,
-        event: &Event,
-        span: Span,
-        partner: Partner,
-    ) {
-        let (kind, names, has_terms) =
-            (kind_word(event.kind), self.scene.names, self.scene.has_terms());
+    /// Appends the slice of an event, with what else the trace tells of it, and its end of an
+    /// arrow. A reader of JSON may round numbers, so they are strings.
+    fn put_event(&self, line: &mut Line<'_>, lane: Lane<'_>, index: u64, span: Span) {
+        let event = &lane.events[index as usize];
+        let (kind, names) = (kind_word(event.kind), self.scene.names);
+        let has_terms = names.has_terms();
         line.text(",\n{\"ph\":\"X\",\"name\":");
         if has_terms {
             line.string(&format!("{kind} {}", short(&names.brief(event.value))));
@@ -225,34 +206,33 @@ impl Writer<'_> {
             self.put_process(line, to);
             line.text("\"");
         }
+        let partner = self.scene.partner((lane.pid, index), event);
         line.text(match partner {
             Partner::NoReceive => ",\"receive\":\"not reported\"}}",
             Partner::NoSend => ",\"send\":\"not reported\"}}",
             _ => "}}",
         });
+        let is_drawn = |end: &Place| self.clock.times.get(self.scene, *end).is_some();
+        if partner.place().filter(is_drawn).is_some() {
+            self.put_flow(line, lane, index, partner, span.0);
+        }
     }
 
-    /// Appends an end of the arrow of a message, if both ends are drawn.
-    fn put_flow(&self, line: &mut Line<'_>, lane: Lane, place: Place, partner: Partner, time: f64) {
-        let has_time = |other| self.clock.times.get(self.scene, other).is_some();
-        let (phase, sent, end) = match partner {
-            Partner::Receive(pid, index) if has_time((pid, index)) => ("s", place, "}"),
-            Partner::Send(pid, index) if has_time((pid, index)) => {
-                ("f", (pid, index), ",\"bp\":\"e\"}")
-            }
-            _ => return,
+    fn put_flow(&self, line: &mut Line<'_>, lane: Lane<'_>, index: u64, to: Partner, time: f64) {
+        let (phase, (pid, sent), end) = match to {
+            Partner::Send(pid, sent) => ("f", (pid, sent), ",\"bp\":\"e\"}"),
+            _ => ("s", (lane.pid, index), "}"),
         };
         line.text(",\n{\"ph\":\"").text(phase);
         line.text("\",\"name\":\"message\",\"cat\":\"message\",\"id\":");
-        line.number(self.process(sent.0).map_or(0, |(_, first)| first + sent.1));
+        line.number(self.process(pid).map_or(0, |(_, first)| first + sent));
         put_lane(line, lane);
         line.text(",\"ts\":");
         self.put_micros(line, time);
         line.text(end);
     }
 
-    /// Appends a time in microseconds, with up to four decimals. A unit of ranks is shown as a
-    /// microsecond.
+    /// Appends microseconds, with up to four decimals. A unit of ranks is shown as one.
     fn put_micros(&self, line: &mut Line<'_>, time: f64) {
         let micros = if self.clock.is_measured { time / 1_000.0 } else { time };
         let parts = (micros * 10_000.0).round() as i64;
@@ -264,7 +244,7 @@ impl Writer<'_> {
     }
 }
 
-fn put_lane(line: &mut Line<'_>, lane: Lane) {
+fn put_lane(line: &mut Line<'_>, lane: Lane<'_>) {
     line.text(",\"pid\":").number(process(lane.pid)).text(",\"tid\":").number(lane.thread);
 }
 
@@ -280,7 +260,6 @@ fn process(pid: Pid) -> u64 {
 ///
 /// With measured ones: nanoseconds after the first event, and at least one more than the event
 /// before in its process, so that two of one time are still told apart.
-#[derive(Debug)]
 struct Clock {
     /// The time of each event; none if it has no time or isn't drawn.
     times: Table<i64>,
@@ -296,10 +275,13 @@ impl Clock {
         counts.dedup();
         let (mut times, mut last) = (Table::of(scene), HashMap::<Pid, i64>::new());
         for (place, event) in scene.in_order()? {
-            let time = match is_measured {
-                true => scene.time(place),
-                false => Some(by_counts(scene, &times, place, event, &counts)),
+            let by_count = || {
+                let rank = counts.partition_point(|&other| other < event.serial.this) as i64;
+                let sent = scene.partner(place, event).place();
+                let sent = sent.and_then(|sent| times.get(scene, sent)).map_or(0, |sent| sent + 1);
+                sent.max(2 * rank + i64::from(event.kind == Kind::Receive))
             };
+            let time = if is_measured { scene.time(place) } else { Some(by_count()) };
             let Some(time) = time else { continue };
             let last = last.entry(place.0).or_insert(i64::MIN);
             *last = time.max(last.saturating_add(1));
@@ -307,20 +289,4 @@ impl Clock {
         }
         Ok(Clock { times, is_measured })
     }
-}
-
-/// Returns the time of an event by counts, but for what its process did before.
-fn by_counts(
-    scene: &Scene<'_>,
-    times: &Table<i64>,
-    place: Place,
-    event: &Event,
-    counts: &[u64],
-) -> i64 {
-    let rank = counts.partition_point(|&other| other < event.serial.this) as i64;
-    let sent = match scene.partner(place, event) {
-        Partner::Send(pid, index) => times.get(scene, (pid, index)),
-        _ => None,
-    };
-    (2 * rank + i64::from(event.kind == Kind::Receive)).max(sent.map_or(0, |sent| sent + 1))
 }

@@ -79,18 +79,14 @@ impl<'a> Scene<'a> {
     /// Returns the term of an event in short, or its value and its counts.
     pub(super) fn content(&self, event: &Event) -> String {
         let label = match self.names_labels {
-            true if self.has_terms() => format!(" {}", self.names.label(event.label)),
+            true if self.names.has_terms() => format!(" {}", self.names.label(event.label)),
             true => format!(" label {}", event.label.0),
             false => String::new(),
         };
-        if self.has_terms() {
+        if self.names.has_terms() {
             return format!("{}{label}", short(&self.names.brief(event.value)));
         }
         format!("{} {}{label}", event.value, gemshowal::Text(event.serial))
-    }
-
-    pub(super) fn has_terms(&self) -> bool {
-        self.names.has_terms()
     }
 
     /// Returns the name of a process's node, or its number if that isn't known.
@@ -99,17 +95,12 @@ impl<'a> Scene<'a> {
         name.map_or_else(|| format!("node {}", pid.node()), str::to_owned)
     }
 
-    pub(super) fn name(&self, place: Place) -> String {
-        self.names.event(place)
-    }
-
     pub(super) fn time(&self, place: Place) -> Option<i64> {
         self.names.times()?.of_event(place)
     }
 }
 
 /// A value for some events of a scene, by process.
-#[derive(Debug)]
 pub(super) struct Table<T>(Vec<Vec<Option<T>>>);
 
 impl<T: Copy> Table<T> {

@@ -5,8 +5,8 @@ use super::scene::{Place, Scene};
 use crate::names::Line;
 use crate::object::kind_word;
 use crate::output::{Notes, Output};
-use crate::{Failure, Status};
-use gemshowal::{Event, Kind, Partner, Pid, Text};
+use crate::{Ended, Status};
+use gemshowal::{Event, Partner, Pid, Text};
 use std::collections::HashMap;
 use std::io;
 
@@ -16,12 +16,7 @@ const MOST_COUNTS: usize = 100_000_000;
 /// The number of events of each process that has any, by rising place of the process.
 type Clock = Vec<(usize, u64)>;
 
-pub(super) fn write(
-    scene: &Scene<'_>,
-    name: &str,
-    out: &mut Output,
-    notes: &mut Notes,
-) -> Result<Status, Failure> {
+pub(super) fn write(scene: &Scene<'_>, name: &str, out: &mut Output, notes: &mut Notes) -> Ended {
     let order = scene.in_order()?;
     if order.len().saturating_mul(scene.lanes.len()) > MOST_COUNTS {
         notes.say(format_args!(
@@ -82,17 +77,13 @@ fn count_of(clock: &mut Clock, lane: usize) -> &mut u64 {
 fn put_words(line: &mut Line<'_>, scene: &Scene<'_>, event: &Event) {
     let names = scene.names;
     line.text(kind_word(event.kind)).text(" ");
-    if scene.has_terms() {
+    if scene.names.has_terms() {
         line.brief(names, event.value);
     } else {
         line.number(event.value);
     }
     line.text(" ").serial(event.serial).text(" label ").label(names, event.label);
-    match (event.kind, event.to) {
-        (Kind::Send, Some(to)) => line.text(" to ").process(names, to),
-        (Kind::Receive, _) => line.text(" from ").process(names, event.from),
-        _ => line.text(""),
-    };
+    line.other_end(names, event);
 }
 
 /// Names a process in a word without blanks or quotes: by its name and its pid.

@@ -119,16 +119,16 @@ impl<'a> Spans<'a> {
             Partner::Receive(pid, index) => Some((pid, index)),
             _ => None,
         };
-        if receive.is_some_and(|receive| self.calls.request(receive).is_some()) {
+        if receive.is_some_and(|receive| self.calls.requests.contains_key(&receive)) {
             return None;
         }
         let got = receive.and_then(|receive| self.scene.time(receive));
         let start = self.scene.time(place).or(got)?;
         let work = receive.and_then(|receive| self.works.at(self.scene, receive));
-        let follower = || self.scene.time(self.works.follower(place)?);
+        let follower = || self.scene.time(*self.works.followers.get(&place)?);
         let done = work.and_then(|work| self.end(work)).or(got).or_else(follower);
         let is_call = matches!(role(self.scene, event.value), Some(Role::Request(_)));
-        let reply = self.calls.reply(place).and_then(|reply| self.scene.time(reply));
+        let reply = self.calls.replies.get(&place).and_then(|&reply| self.scene.time(reply));
         let about = if is_call { About::Call } else { About::Message };
         Some((about, start, reply.or(done).unwrap_or(start).max(start)))
     }
@@ -143,8 +143,7 @@ impl<'a> Spans<'a> {
         Some((about, start, end.unwrap_or(start).max(start)))
     }
 
-    /// Returns the time at which a process was done with a message: when it replied, or by the last
-    /// stamp.
+    /// Returns when a process was done with a message: when it replied, or by the last stamp.
     fn end(&self, work: &Work) -> Option<i64> {
         let (pid, receive) = work.receive;
         let last = work.reply.unwrap_or(work.last);

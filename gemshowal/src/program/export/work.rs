@@ -6,7 +6,7 @@
 
 use super::scene::{Place, Scene, Table};
 use crate::causes::Cause;
-use gemshowal::{Item, Kind, Pid};
+use gemshowal::{Item, Kind};
 use std::borrow::Cow;
 use std::collections::HashMap;
 
@@ -19,12 +19,11 @@ pub(super) struct Work {
     pub(super) reply: Option<u64>,
 }
 
-#[derive(Debug)]
 pub(super) struct Works {
     pub(super) all: Vec<Work>,
     of: Table<u32>,
     /// For each send whose receive wasn't reported the last send or print that follows its message.
-    followers: HashMap<Place, Place>,
+    pub(super) followers: HashMap<Place, Place>,
 }
 
 impl Works {
@@ -42,8 +41,8 @@ impl Works {
 
     /// Finds the work that a receive belongs to. It begins one, unless it is a reply.
     fn at_receive(&mut self, scene: &Scene<'_>, calls: &Calls, receive: Place) -> Option<u32> {
-        match calls.request(receive) {
-            Some(request) => self.of.get(scene, request),
+        match calls.requests.get(&receive) {
+            Some(&request) => self.of.get(scene, request),
             None => {
                 self.all.push(Work { receive, last: receive.1, reply: None });
                 u32::try_from(self.all.len() - 1).ok()
@@ -62,28 +61,17 @@ impl Works {
         let work = self.all.get_mut(number as usize)?;
         work.last = index;
         let request = scene.event(work.receive).and_then(|event| role(scene, event.value));
-        if let (Some(Role::Request(one)), Some(Role::Reply(other))) = (request, role(scene, value))
-        {
-            if one == other {
+        match (request, role(scene, value)) {
+            (Some(Role::Request(one)), Some(Role::Reply(other))) if one == other => {
                 work.reply = Some(index);
             }
+            _ => {}
         }
         Some(number)
     }
 
-    /// Returns the last send or print that follows the message of this send, if its receive wasn't
-    /// reported.
-    pub(super) fn follower(&self, send: Place) -> Option<Place> {
-        self.followers.get(&send).copied()
-    }
-
     pub(super) fn at(&self, scene: &Scene<'_>, place: Place) -> Option<&Work> {
         self.all.get(self.of.get(scene, place)? as usize)
-    }
-
-    pub(super) fn of_process(&self, pid: Pid) -> impl Iterator<Item = &Work> {
-        let start = self.all.partition_point(|work| work.receive.0 < pid);
-        self.all.iter().skip(start).take_while(move |work| work.receive.0 == pid)
     }
 }
 
@@ -95,7 +83,7 @@ pub(super) enum Role<'a> {
 
 /// Returns the part of a message in a call, or `None` if it has none, or there are no terms.
 pub(super) fn role<'a>(scene: &Scene<'a>, value: u64) -> Option<Role<'a>> {
-    if !scene.has_terms() {
+    if !scene.names.has_terms() {
         return None;
     }
     // A term that the trace's file has is borrowed.
@@ -117,9 +105,9 @@ fn reference(text: &str) -> Option<&str> {
 #[derive(Debug, Default)]
 pub(super) struct Calls {
     /// For each request's send the reply's receive.
-    replies: HashMap<Place, Place>,
+    pub(super) replies: HashMap<Place, Place>,
     /// For each reply's receive the request's send.
-    requests: HashMap<Place, Place>,
+    pub(super) requests: HashMap<Place, Place>,
 }
 
 impl Calls {
@@ -142,25 +130,11 @@ impl Calls {
         }
         calls
     }
-
-    /// Returns the receive of the reply to the request that was sent at this place.
-    pub(super) fn reply(&self, request: Place) -> Option<Place> {
-        self.replies.get(&request).copied()
-    }
-
-    /// Returns the send of the request whose reply was received at this place.
-    pub(super) fn request(&self, reply: Place) -> Option<Place> {
-        self.requests.get(&reply).copied()
-    }
-
-    pub(super) fn all(&self) -> impl Iterator<Item = (Place, Place)> + '_ {
-        self.replies.iter().map(|(&request, &reply)| (request, reply))
-    }
 }
 
 /// Says what was done by sending a message, and what sort it is.
 pub(super) fn sent(scene: &Scene<'_>, value: u64) -> String {
-    if !scene.has_terms() {
+    if !scene.names.has_terms() {
         return "send".into();
     }
     let brief = scene.names.brief(value);
@@ -172,16 +146,9 @@ pub(super) fn sent(scene: &Scene<'_>, value: u64) -> String {
     }
 }
 
-pub(super) fn handled(scene: &Scene<'_>, value: u64) -> String {
-    with_sort(scene, "handle", value)
-}
-
-pub(super) fn printed(scene: &Scene<'_>, value: u64) -> String {
-    with_sort(scene, "print", value)
-}
-
-fn with_sort(scene: &Scene<'_>, word: &str, value: u64) -> String {
-    if !scene.has_terms() {
+/// Says what was done with a message by this word, and what sort it is.
+pub(super) fn with_sort(scene: &Scene<'_>, word: &str, value: u64) -> String {
+    if !scene.names.has_terms() {
         return word.into();
     }
     let brief = scene.names.brief(value);
