@@ -46,7 +46,6 @@ struct Run<'a> {
     put_back: HashMap<Place, Token>,
     /// The send of each receive, and the event that had a token which is handed over.
     causes: HashMap<Place, Place>,
-    /// The processes that wait for an event.
     waiting: HashMap<Place, Vec<Pid>>,
     processes: HashMap<Pid, Process>,
     /// The numbers of sent messages, counted for each receiver.
@@ -58,7 +57,6 @@ struct Run<'a> {
 struct Process {
     /// The index of the event that it reports next.
     next: u64,
-    /// The label of its token, if it has one.
     label: Option<Label>,
     queue: Queue,
 }

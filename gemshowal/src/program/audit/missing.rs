@@ -1,5 +1,4 @@
-//! Unreported events of a trace that fits, as far as its pairing, its hops and its counts tell of
-//! them.
+//! Unreported events of a trace that fits, as far as its pairs, hops and counts tell of them.
 
 use crate::names::Names;
 use crate::view::{Place, Shown};
@@ -66,21 +65,18 @@ struct Finder<'a> {
     added: Vec<(Turn, Lack)>,
     sends: Vec<(Turn, Lack)>,
     receives: Vec<(bool, Turn, Lack)>,
-    open: Vec<(Turn, Place)>,
+    open: Vec<Turn>,
     counters: Vec<(Pid, Counter)>,
 }
 
 impl Missing {
     /// Finds them by the pairs, unless both ends of each message were reported.
-    pub(super) fn find(
-        shown: &Shown<'_>,
-        paired: Option<&Paired<'_>>,
-    ) -> Result<Missing, OutOfMemory> {
+    pub(super) fn find(shown: &Shown<'_>, pairs: Option<&Paired<'_>>) -> Result<Self, OutOfMemory> {
         let is_plain = shown.processes().all(|(_, events)| goes_by_receives(events));
         let hops = (!is_plain).then(|| NodeHops::of(shown.streams)).transpose()?;
         let mut finder = Finder {
             shown,
-            paired,
+            paired: pairs,
             hops,
             unreceived: HashMap::new(),
             hidden: HashMap::new(),
@@ -90,7 +86,7 @@ impl Missing {
             open: Vec::new(),
             counters: Vec::new(),
         };
-        for (pid, events) in shown.processes().filter(|_| paired.is_some()) {
+        for (pid, events) in shown.processes().filter(|_| pairs.is_some()) {
             finder.note_ends(pid, events);
         }
         for (pid, events) in shown.processes() {
@@ -158,8 +154,7 @@ impl Finder<'_> {
                 counter.receive(event);
                 continue;
             }
-            let turn = (height, false, pid, index);
-            let send = self.stamp(event, (pid, index), turn, newest);
+            let send = self.stamp(event, (height, false, pid, index), newest);
             if !self.is_invented_send(event, (pid, index)) {
                 let hidden = self.hidden.get(&pid).unwrap_or(&nothing);
                 counter.stamp(event, send.is_some(), hidden, self.shown.view.names);
@@ -176,15 +171,9 @@ impl Finder<'_> {
             && self.known(event, self.partner(event, place)) == Known::Invented
     }
 
-    /// Notes what a send or print follows, if nobody reported that, and returns the send whose
-    /// receive it is.
-    fn stamp(
-        &mut self,
-        event: &Event,
-        place: Place,
-        turn: Turn,
-        newest: Option<u64>,
-    ) -> Option<Place> {
+    /// Notes which unreported event a send or print follows; returns the send of such a receive.
+    fn stamp(&mut self, event: &Event, turn: Turn, newest: Option<u64>) -> Option<Place> {
+        let place = place_of(turn);
         let is_moved = |hops: &NodeHops<'_>| matches!(hops.hop(place, event), NodeHop::Moved(_));
         if !self.hops.as_ref().is_some_and(is_moved) {
             return None;
@@ -199,7 +188,7 @@ impl Finder<'_> {
                 let lack = Lack::Unreceived(send, Before::Event(place));
                 self.receives.push((false, turn, lack));
             }
-            None if self.shown.is_reported(place) => self.open.push((turn, place)),
+            None if self.shown.is_reported(place) => self.open.push(turn),
             None => {}
         }
         send
@@ -240,21 +229,19 @@ impl Finder<'_> {
         self.receives.sort_by_key(|(is_of_hidden, turn, _)| (*is_of_hidden, *turn));
         self.open.sort_unstable();
         let mut followed = HashSet::new();
-        let mut lacks: Vec<Lack> =
-            self.added.into_iter().chain(self.sends).map(|(_, lack)| lack).collect();
-        for (_, _, lack) in self.receives {
-            if let Lack::Unreceived(send, _) = lack {
-                if followed.insert(send) {
-                    lacks.push(lack);
-                }
-            }
-        }
-        let mut waiting: Vec<Turn> =
-            self.unreceived.into_values().flatten().map(|(_, turn)| turn).collect();
+        let is_new = |lack: &Lack| match *lack {
+            Lack::Unreceived(send, _) => followed.insert(send),
+            Lack::Added(..) | Lack::Hidden(_) => true,
+        };
+        let lacks = self.added.into_iter().chain(self.sends).map(|(_, lack)| lack);
+        let receives = self.receives.into_iter().map(|(.., lack)| lack);
+        let lacks = lacks.chain(receives).filter(is_new).collect();
+        let waiting = self.unreceived.into_values().flatten();
+        let mut waiting: Vec<Turn> = waiting.map(|(_, turn)| turn).collect();
         waiting.sort_unstable();
         let waiting = waiting.into_iter().map(place_of).filter(|send| !followed.contains(send));
         let waiting = waiting.collect();
-        let open = self.open.into_iter().map(|(_, place)| place).collect();
+        let open = self.open.into_iter().map(place_of).collect();
         Missing { lacks, waiting, open, counters: self.counters }
     }
 }
@@ -283,8 +270,7 @@ pub(super) struct Counter {
     has_stamped: bool,
     /// The counts and messages received since the last send or print; one may be a spawn's answer.
     received: Vec<(u64, u64)>,
-    /// The number of counts that no event has: of prints, or of sends whose receives weren't
-    /// reported either.
+    /// The number of counts that no event has: of prints, or of sends without reported receives.
     pub(super) silent: u64,
     /// The number of times that the counter was higher than any reported event shows.
     pub(super) jumps: u64,

@@ -20,8 +20,8 @@ use crate::input::Input;
 use crate::names::Names;
 use crate::output::Output;
 use crate::times::summary;
-use crate::view::{Kept, View};
-use crate::{causes, Failure, Status, Task};
+use crate::view::{Kept, Shown, View};
+use crate::{causes, Ended, Failure, Status, Task};
 use gemshowal::{
     in_common, CertificateError, MessageContent, NodeAct, NodeTrace, OutOfMemory, Trace,
 };
@@ -30,41 +30,36 @@ use missing::Missing;
 use others::Comparison;
 use outcome::{Outcome, Said};
 use report::Part;
-use sentences::{write_losses, Sentences};
+use sentences::{write_losses, NodeSentences, Sentences};
 use std::collections::HashSet;
 use std::fs::File;
 use std::io::{BufWriter, Write};
 use std::path::Path;
 
-/// The greatest number of parts that is told: a counter that goes back more often was hardly reset
-/// each time.
+/// The most parts that are told: a counter that goes back more often was hardly reset each time.
 const PARTS: usize = 100;
 
-pub(crate) fn run(args: &Audit, task: Task<'_>) -> Result<Status, Failure> {
+pub(crate) fn run(args: &Audit, task: Task<'_>) -> Ended {
     let Task { json, input, out, notes } = task;
     let (node, names) = input.read_node(notes)?;
     let whole = View::whole(node.trace(), &names);
     let kept = region::kept(&args.conditions, &whole)?;
-    let part = kept.as_ref().map(|kept| node.trace().part(kept)).transpose()?;
-    let cut = kept.as_ref().map(|kept| region::note(&whole, kept)).transpose()?;
-    let view = match (&part, &kept) {
-        (Some(part), Some(kept)) => whole.part(part, kept, true),
-        _ => whole,
+    let kept = kept.as_ref();
+    let part = kept.map(|kept| node.trace().part(kept)).transpose()?;
+    let cut = kept.map(|kept| region::note(&whole, kept)).transpose()?;
+    let view = match part.as_ref().zip(kept) {
+        Some((part, kept)) => whole.part(part, kept, true),
+        None => whole,
     };
-    let (kept, word) = (kept.as_ref(), input.word());
-    let judge = Judge::new(&node, &names);
+    let (judge, word) = (Judge::new(&node, &names), input.word());
     Auditor { args, json, cut, view: &view, node: &node, kept, judge, input, word }.run(out)
 }
 
 /// Returns the first line of the judgement by the rules of a standard node, and whether it says
 /// that no run of the node has the trace.
-pub(crate) fn headline_of_node(
-    trace: &NodeTrace,
-    names: &Names,
-) -> Result<(String, bool), Failure> {
-    let judged = Judged::of(trace, names)?;
-    let view = View::whole(trace.trace(), names);
-    let headline = sentences::of_node(trace, &view, &judged).headline();
+pub(crate) fn headline_of_node(node: &NodeTrace, names: &Names) -> Result<(String, bool), Failure> {
+    let (judged, view) = (&Judged::of(node, names)?, &View::whole(node.trace(), names));
+    let headline = NodeSentences { node, view, judged }.headline();
     Ok((headline, judged.verdict() == Verdict::Never))
 }
 
@@ -137,11 +132,11 @@ pub(crate) fn parts(view: &View<'_>) -> Result<Vec<(Kept, Trace)>, OutOfMemory> 
 }
 
 impl Auditor<'_> {
-    fn run(&self, out: &mut Output) -> Result<Status, Failure> {
+    fn run(&self, out: &mut Output) -> Ended {
         if self.args.each_label {
             return report::write_each(self, out);
         }
-        let outcome = self.outcome(self.view.trace, self.kept)?;
+        let outcome = Outcome::of(self.view.trace, &self.judge, self.kept)?;
         let acts = self.node_acts(&outcome);
         if let Some(path) = &self.args.acts {
             self.write_acts(&outcome, acts.as_deref(), path)?;
@@ -162,10 +157,6 @@ impl Auditor<'_> {
         })
     }
 
-    fn outcome(&self, trace: &Trace, kept: Option<&Kept>) -> Result<Outcome, Failure> {
-        Outcome::of(trace, &self.judge, kept)
-    }
-
     fn audited<'a>(&self, outcome: &'a Outcome) -> Result<Audited<'a>, Failure> {
         let missing = outcome.missing(&outcome.shown(self.view))?;
         let resets = match (&outcome.said, &outcome.judged, &self.cut) {
@@ -179,8 +170,7 @@ impl Auditor<'_> {
         Ok(Audited { outcome, missing, resets })
     }
 
-    /// Finds resets between which each part fits by itself, with fewer tokens put back than in the
-    /// whole.
+    /// Finds resets between which each part fits, with fewer tokens put back than in the whole.
     fn resets(&self, judged: &Judged) -> Result<Resets, Failure> {
         let whole = match judged.verdict() {
             Verdict::Fits => Some(judged.put_backs.len()),
@@ -204,7 +194,7 @@ impl Auditor<'_> {
 
     fn part(&self, trace: &Trace, kept: &Kept) -> Result<Part, Failure> {
         let view = self.view.part(trace, kept, true);
-        let outcome = self.outcome(trace, Some(kept))?;
+        let outcome = Outcome::of(trace, &self.judge, Some(kept))?;
         let shown = outcome.shown(&view);
         let missing = outcome.missing(&shown)?;
         Ok(Part::new(&self.sentences(&outcome, &shown, &missing)))
@@ -229,31 +219,24 @@ impl Auditor<'_> {
         acts: Option<&[NodeAct]>,
         path: &Path,
     ) -> Result<(), Failure> {
+        if acts.is_none() && matches!(outcome.said, Said::Never(_) | Said::Nothing) {
+            return Ok(());
+        }
         let unkept = |reason| Failure::Unkept(path.display().to_string(), reason);
-        let file = || File::create(path).map(BufWriter::new).map_err(unkept);
-        let failed = |error| match error {
+        let mut file = File::create(path).map(BufWriter::new).map_err(unkept)?;
+        let trace = outcome.ranked.as_ref().unwrap_or(self.view.trace);
+        let written = match (&outcome.said, acts) {
+            (_, Some(acts)) => self.node.write_acts(&mut file, acts),
+            (Said::Fits(fits), None) => Ok(trace.write_fits(&mut file, fits).map_err(unkept)?),
+            (Said::Completed(completion), None) => {
+                self.view.trace.write_acts(&mut file, completion).map(drop)
+            }
+            (Said::Never(_) | Said::Nothing, None) => Ok(()),
+        };
+        written.map_err(|error| match error {
             CertificateError::Io(reason) => unkept(reason),
             error => Failure::of_acts(error, self.input.line_name()),
-        };
-        let mut file = match (&outcome.said, acts) {
-            (Said::Never(_) | Said::Nothing, None) => return Ok(()),
-            (_, Some(acts)) => {
-                let mut file = file()?;
-                self.node.write_acts(&mut file, acts).map_err(failed)?;
-                file
-            }
-            (Said::Fits(fits), None) => {
-                let trace = outcome.ranked.as_ref().unwrap_or(self.view.trace);
-                let mut file = file()?;
-                trace.write_fits(&mut file, fits).map_err(unkept)?;
-                file
-            }
-            (Said::Completed(completion), None) => {
-                let mut file = file()?;
-                self.view.trace.write_acts(&mut file, completion).map_err(failed)?;
-                file
-            }
-        };
+        })?;
         file.flush().map_err(unkept)
     }
 
@@ -273,12 +256,11 @@ impl Auditor<'_> {
         sentences.write_resets(&audited.resets, out)?;
         let no_acts = self.no_acts(audited.outcome);
         if let Some(reason) = no_acts.filter(|_| self.args.acts.is_some()) {
-            match audited.outcome.said {
-                Said::Completed(_) => {
-                    writeln!(out, "The acts are of the run that lacks receives: {reason}.")?
-                }
-                _ => writeln!(out, "No acts are written: {reason}.")?,
-            }
+            let acts = match audited.outcome.said {
+                Said::Completed(_) => "The acts are of the run that lacks receives",
+                _ => "No acts are written",
+            };
+            writeln!(out, "{acts}: {reason}.")?;
         }
         write_losses(self.view.names.losses(), out)?;
         if let (Some(times), None) = (self.view.names.times(), &self.cut) {
@@ -297,7 +279,7 @@ impl Auditor<'_> {
     fn sentences<'a>(
         &'a self,
         outcome: &'a Outcome,
-        shown: &'a crate::view::Shown<'a>,
+        shown: &'a Shown<'a>,
         missing: &'a Missing,
     ) -> Sentences<'a> {
         let is_lossy = !self.view.names.losses().is_empty();

@@ -56,8 +56,7 @@ impl Outcome {
         Ok(Outcome { said, ranked, judged })
     }
 
-    /// Counts that begin high are replaced by their ranks, and what needs events that nobody
-    /// reported is completed.
+    /// Replaces counts that begin high by their ranks, and completes what needs unreported events.
     fn by_machine(trace: &Trace) -> Result<(Said, Option<Trace>), CompleteError> {
         match gemshowal::audit(trace) {
             Ok(fits) => return Ok((Said::Fits(fits), None)),

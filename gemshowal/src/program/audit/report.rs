@@ -11,7 +11,7 @@ use crate::object::{Number, Place as PlaceObject};
 use crate::output::Output;
 use crate::reason::Refused;
 use crate::view::{count, grouped, short, Kept, Place, Shown, View};
-use crate::{Failure, Status};
+use crate::{Ended, Failure, Status};
 use gemshowal::{Label, Pid};
 use serde::Serialize;
 use std::collections::BTreeMap;
@@ -276,7 +276,7 @@ struct OfLabel {
     part: Part,
 }
 
-pub(super) fn write_each(auditor: &Auditor<'_>, out: &mut Output) -> Result<Status, Failure> {
+pub(super) fn write_each(auditor: &Auditor<'_>, out: &mut Output) -> Ended {
     let mut by_label: BTreeMap<u32, Kept> = BTreeMap::new();
     for ((pid, index), event) in auditor.view.trace.events() {
         by_label.entry(event.label.0).or_default().entry(pid).or_default().push(index);

@@ -11,8 +11,7 @@ use crate::view::{count, grouped, Place, Shown, View};
 use gemshowal::{signed, Event, Kind, NodeTrace, Pid, COUNTS};
 use std::io::{self, Write};
 
-/// The greatest number of events, processes or messages of a kind that are listed; the rest are
-/// counted.
+/// The most events, processes or messages of a kind that are listed; the rest are counted.
 const LISTED: usize = 20;
 const EMPTY: &str = "nothing to audit: the trace has no events";
 /// The premise of what no run has: an unreported send can stand for an alike one.
@@ -38,11 +37,14 @@ impl Sentences<'_> {
 
     /// Returns the words for a trace that was cut on purpose, or those for a whole one.
     fn cut_or(&self, cut: &'static str, whole: &'static str) -> &'static str {
-        if self.is_cut() {
-            cut
-        } else {
-            whole
+        match self.is_cut() {
+            true => cut,
+            false => whole,
         }
+    }
+
+    fn of_node<'a>(&'a self, judged: &'a Judged) -> NodeSentences<'a> {
+        NodeSentences { node: self.node, view: self.shown.view, judged }
     }
 
     pub(super) fn headline(&self) -> String {
@@ -50,9 +52,7 @@ impl Sentences<'_> {
             (Said::Never(against), _) if self.outcome.is_never() => {
                 against.headline(self.shown.view)
             }
-            (_, Some(judged)) => {
-                of_node(self.node, self.shown.view, judged).headline() + &self.or_not_received()
-            }
+            (_, Some(judged)) => self.of_node(judged).headline() + &self.or_not_received(),
             _ if self.shown.view.trace.streams().total() == 0 => EMPTY.into(),
             _ => format!("fits: {}{}", size(self.shown.view), self.left_out()),
         }
@@ -61,10 +61,7 @@ impl Sentences<'_> {
     /// Says of a trace in which tokens were put back how many receives may be missing instead.
     fn or_not_received(&self) -> String {
         let is_receive = |lack: &&Lack| match **lack {
-            Lack::Added((pid, index), _) => {
-                let event = self.shown.streams.event(pid, index);
-                event.is_some_and(|event| event.kind == Kind::Receive)
-            }
+            Lack::Added(place, _) => self.is_receive(place),
             Lack::Unreceived(..) => true,
             Lack::Hidden(_) => false,
         };
@@ -136,15 +133,17 @@ impl Sentences<'_> {
 
     /// Counts the messages of unlisted processes in the completion.
     fn strangers(&self) -> u64 {
-        let is_from_stranger = |lack: &&Lack| match **lack {
-            Lack::Added((pid, index), _) => {
-                self.shown.streams.event(pid, index).is_some_and(|it| {
-                    it.kind == Kind::Receive && self.shown.stranger(it.from).is_some()
-                })
+        let stranger = |lack: &Lack| match *lack {
+            Lack::Added(place, _) if self.is_receive(place) => {
+                self.shown.stranger(self.shown.streams.event(place.0, place.1)?.from)
             }
-            _ => false,
+            _ => None,
         };
-        self.missing.lacks.iter().filter(is_from_stranger).count() as u64
+        self.missing.lacks.iter().filter_map(stranger).count() as u64
+    }
+
+    fn is_receive(&self, (pid, index): Place) -> bool {
+        self.shown.streams.event(pid, index).is_some_and(|event| event.kind == Kind::Receive)
     }
 
     /// Says how many events nobody reported: the certain ones, and the others of listed processes.
@@ -155,10 +154,7 @@ impl Sentences<'_> {
                 Lack::Hidden(_) | Lack::Added(_, Known::Certain) => certain[0] += 1,
                 Lack::Unreceived(..) => supposed[1] += 1,
                 Lack::Added((pid, _), _) if self.shown.stranger(pid).is_some() => {}
-                Lack::Added((pid, index), _) => {
-                    let kind = self.shown.streams.event(pid, index).map(|event| event.kind);
-                    supposed[usize::from(kind == Some(Kind::Receive))] += 1;
-                }
+                Lack::Added(place, _) => supposed[usize::from(self.is_receive(place))] += 1,
             }
         }
         let more = if certain[0] > 0 && supposed[0] > 0 { "more " } else { "" };
@@ -183,7 +179,7 @@ impl Sentences<'_> {
 
     pub(super) fn write_details(&self, out: &mut Output) -> io::Result<()> {
         if let Some(judged) = &self.outcome.judged {
-            let node = of_node(self.node, self.shown.view, judged);
+            let node = self.of_node(judged);
             let against = self.outcome.against();
             let refused = against.map(|it| it.refused(self.shown.view, true).to_string());
             let refused = refused.unwrap_or_default();
@@ -202,7 +198,7 @@ impl Sentences<'_> {
         }
         self.write_lacks(out)?;
         if !self.missing.waiting.is_empty() {
-            let messages = listed(&self.missing.waiting, |&send| self.message(send), "more");
+            let messages = listed(&self.missing.waiting, |&send| self.message(send));
             let here = self.cut_or("receive here", "reported receive");
             writeln!(out, "Messages without a {here}: {messages}.")?;
         }
@@ -222,22 +218,18 @@ impl Sentences<'_> {
 
     /// Lists what wasn't reported if no token was put back.
     fn write_instead(&self, out: &mut Output) -> io::Result<()> {
-        let lacks: Vec<&Lack> = self.missing.lacks.iter().collect();
         let nobody = self.what_nobody_reported();
         let heading = format!("{nobody} if no token was put back, in the run that was found");
-        self.write_list(out, &heading, &lacks)
+        self.write_list(out, &heading, &self.missing.lacks)
     }
 
     fn write_lacks(&self, out: &mut Output) -> io::Result<()> {
-        let (certain, supposed): (Vec<&Lack>, Vec<&Lack>) = self
-            .missing
-            .lacks
-            .iter()
-            .partition(|lack| matches!(lack, Lack::Hidden(_) | Lack::Added(_, Known::Certain)));
+        let lacks = &self.missing.lacks;
+        let is_certain = |it: &Lack| matches!(it, Lack::Hidden(_) | Lack::Added(_, Known::Certain));
+        let (certain, supposed): (Vec<_>, Vec<_>) = lacks.iter().copied().partition(is_certain);
         if let Said::Completed(_) = self.outcome.said {
-            let lacks = self.missing.lacks.iter().collect::<Vec<_>>();
             let heading = format!("{}, in the run that was found", self.what_nobody_reported());
-            self.write_list(out, &heading, &lacks)?;
+            self.write_list(out, &heading, lacks)?;
             if !supposed.is_empty() {
                 self.write_in_place_of(out, !certain.is_empty())?;
             }
@@ -261,7 +253,7 @@ impl Sentences<'_> {
         self.cut_or("What nobody reported, or what the cut took away", "What nobody reported")
     }
 
-    fn write_list(&self, out: &mut Output, heading: &str, lacks: &[&Lack]) -> io::Result<()> {
+    fn write_list(&self, out: &mut Output, heading: &str, lacks: &[Lack]) -> io::Result<()> {
         if lacks.is_empty() {
             return Ok(());
         }
@@ -272,14 +264,14 @@ impl Sentences<'_> {
     fn write_in_place_of(&self, out: &mut Output, is_some_certain: bool) -> io::Result<()> {
         let present = self.cut_or("is here", "was reported");
         if is_some_certain {
-            writeln!(
+            write!(
                 out,
-                "Of this only the sends whose receive {present} are certain; in place of the rest \
-                 a process may have {ANEW}."
-            )
+                "Of this only the sends whose receive {present} are certain; in place of the rest"
+            )?;
         } else {
-            writeln!(out, "In place of this a process may have {ANEW}.")
+            write!(out, "In place of this")?;
         }
+        writeln!(out, " a process may have {ANEW}.")
     }
 
     pub(super) fn lack(&self, lack: &Lack) -> String {
@@ -407,7 +399,7 @@ impl Sentences<'_> {
     /// Writes which events have no known cause, and how to ask what it may be.
     fn write_open(&self, out: &mut Output) -> io::Result<()> {
         let Some(&first) = self.missing.open.first() else { return Ok(()) };
-        let events = listed(&self.missing.open, |&place| self.shown.event(place), "more");
+        let events = listed(&self.missing.open, |&place| self.shown.event(place));
         writeln!(
             out,
             "The cause isn't known of {events}; this says what it may be: gemshowal why {} {}",
@@ -425,7 +417,6 @@ impl Sentences<'_> {
         }
     }
 
-    /// Finds the receive that an event would follow if its process hadn't reported it only later.
     fn overtaken(&self, (pid, index): Place) -> Option<Place> {
         let event = self.shown.streams.event(pid, index)?;
         let later = self.shown.streams.events(pid).iter().zip(0..).find(|&(other, at)| {
@@ -440,17 +431,9 @@ impl Sentences<'_> {
 
 /// The sentences about what the rules of a standard node say.
 pub(super) struct NodeSentences<'a> {
-    node: &'a NodeTrace,
-    view: &'a View<'a>,
-    judged: &'a Judged,
-}
-
-pub(super) fn of_node<'a>(
-    node: &'a NodeTrace,
-    view: &'a View<'a>,
-    judged: &'a Judged,
-) -> NodeSentences<'a> {
-    NodeSentences { node, view, judged }
+    pub(super) node: &'a NodeTrace,
+    pub(super) view: &'a View<'a>,
+    pub(super) judged: &'a Judged,
 }
 
 impl NodeSentences<'_> {
@@ -498,11 +481,8 @@ impl NodeSentences<'_> {
         if counts > 0 {
             said.push(format!("{} that no event here has", count(counts, "count")));
         }
-        if said.is_empty() {
-            String::new()
-        } else {
-            format!(", with {}", said.join(", "))
-        }
+        let with = if said.is_empty() { "" } else { ", with " };
+        format!("{with}{}", said.join(", "))
     }
 
     fn beginnings(&self) -> String {
@@ -631,19 +611,14 @@ impl NodeSentences<'_> {
             Some(of) => format!("the token of {}", self.event(of)),
             None => format!("a token that it had made, {},", serial_text(token)),
         };
-        let place_name = match is_hidden {
-            true => format!("the send of {}", self.event(place)),
-            false => self.event(place),
-        };
-        if before == place {
-            format!("{place_name}: {token} was put back")
-        } else {
-            format!("{place_name}: {token} was put back before {}", self.event(before))
-        }
+        let send_of = if is_hidden { "the send of " } else { "" };
+        let before = (before != place).then(|| format!(" before {}", self.event(before)));
+        let before = before.unwrap_or_default();
+        format!("{send_of}{}: {token} was put back{before}", self.event(place))
     }
 
     fn listed(&self, places: &[Place]) -> String {
-        listed(places, |&place| self.event(place), "more")
+        listed(places, |&place| self.event(place))
     }
 }
 
@@ -686,11 +661,7 @@ fn by_kind([sends, receives]: [u64; 2], more: &str) -> String {
 }
 
 /// Writes a line for each of these, and how many more there are.
-pub(super) fn write_all<T>(
-    out: &mut Output,
-    all: &[T],
-    line: impl Fn(&T) -> String,
-) -> io::Result<()> {
+fn write_all<T>(out: &mut Output, all: &[T], line: impl Fn(&T) -> String) -> io::Result<()> {
     for one in all.iter().take(LISTED) {
         writeln!(out, "  {}", line(one))?;
     }
@@ -700,17 +671,16 @@ pub(super) fn write_all<T>(
     }
 }
 
-pub(super) fn listed<T>(things: &[T], say: impl Fn(&T) -> String, more: &str) -> String {
+fn listed<T>(things: &[T], say: impl Fn(&T) -> String) -> String {
     let mut said: Vec<String> = things.iter().take(LISTED).map(say).collect();
     if let Some(rest) = things.len().checked_sub(LISTED).filter(|rest| *rest > 0) {
-        said.push(format!("and {} {more}", grouped(rest as u64)));
+        said.push(format!("and {} more", grouped(rest as u64)));
     }
     said.join(", ")
 }
 
-/// Says of the messages of these sends, of which no receive was reported, what may have become of
-/// them.
-pub(super) fn not_received(names: &Names, sends: &[Event]) -> String {
+/// Says what may have become of the messages of these sends, whose receives weren't reported.
+fn not_received(names: &Names, sends: &[Event]) -> String {
     let to_port = |send: &Event| send.to.is_some_and(|to| names.is_port(to));
     let is_late = |send: &Event| names.is_reply_to_alias(send.value);
     let is_exit = |send: &Event| names.is_exit(send.value);
@@ -732,7 +702,7 @@ pub(super) fn not_received(names: &Names, sends: &[Event]) -> String {
 }
 
 /// Writes where the counters of these processes stood before the trace.
-pub(super) fn write_counters(before: &[(String, String)], out: &mut Output) -> io::Result<()> {
+fn write_counters(before: &[(String, String)], out: &mut Output) -> io::Result<()> {
     let Some(((first, stood), rest)) = before.split_first() else { return Ok(()) };
     let rest = rest.iter().map(|(name, stood)| format!("that of {name} {stood}"));
     let was: Vec<String> = [format!("{first} was {stood}")].into_iter().chain(rest).collect();
@@ -746,9 +716,9 @@ pub(super) fn write_counters(before: &[(String, String)], out: &mut Output) -> i
 }
 
 pub(super) fn of_processes<T>(things: &[T], say: impl Fn(&T) -> String) -> String {
-    let more = things.len().saturating_sub(LISTED);
-    let said = listed(things.get(..things.len() - more).unwrap_or_default(), say, "");
-    match more as u64 {
+    let (first, more) = things.split_at(things.len().min(LISTED));
+    let said = listed(first, say);
+    match more.len() as u64 {
         0 => said,
         more => format!("{said}, and so of {} more processes", grouped(more)),
     }
