@@ -117,8 +117,7 @@ impl Kept {
         })
     }
 
-    /// Returns the places that were asked for, each with the event's index in what is kept and its
-    /// line there.
+    /// Returns the places that were asked for, each with its index and its line in what is kept.
     pub(super) fn places(&self) -> impl Iterator<Item = (Pid, u64, u64, u64)> + '_ {
         self.places.iter().map(|(&(pid, index), &now)| {
             // The header and the process lines up to this one come before the event, too.

@@ -1,5 +1,4 @@
-//! The command `cut`: the text of the events that meet conditions, of a trace of any size in one
-//! file or many.
+//! The command `cut`: the text of the events that meet conditions, of a trace of any size.
 //!
 //! The parts are read three times: for what there is to choose from, for the messages of the chosen
 //! events, and for what is written. In memory are the processes, the names, and what is written.
@@ -15,9 +14,9 @@ use self::selection::{NamedEvent, Selection};
 use self::survey::Survey;
 use crate::args::Cut;
 use crate::view::{count, grouped};
-use crate::{Failure, Status, Task};
+use crate::{Ended, Status, Task};
 
-pub(crate) fn run(args: &Cut, task: Task<'_>) -> Result<Status, Failure> {
+pub(crate) fn run(args: &Cut, task: Task<'_>) -> Ended {
     let Task { input, out, notes, .. } = task;
     let mut parts = Parts::new(input, &args.names)?;
     let named = args.around.iter().map(|word| NamedEvent::read(word, &parts));

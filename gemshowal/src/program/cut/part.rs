@@ -10,8 +10,7 @@ use std::collections::{BTreeMap, HashMap};
 use std::io::{self, BufReader, Read};
 use std::path::{Path, PathBuf};
 
-/// The most bytes of a text in which a mistake is described as `lint` describes it. Of a longer
-/// text the line is named.
+/// The most bytes of a text whose mistakes `lint` describes. Of a longer one the line is named.
 const DESCRIBED: u64 = 67_108_864;
 
 pub(super) struct Part {

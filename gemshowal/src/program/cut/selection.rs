@@ -1,6 +1,6 @@
 //! The events that are chosen: those that meet all conditions.
 
-use super::part::{Line, Parts};
+use super::part::{Line, Part, Parts};
 use super::survey::Survey;
 use crate::args::{Conditions, Cut};
 use crate::names::{no_event_on, Names, Time, TimesFile};
@@ -46,11 +46,10 @@ impl<'a> NamedEvent<'a> {
 }
 
 pub(super) struct Selection<'a> {
-    conditions: &'a Conditions,
+    args: &'a Cut,
     filter: Filter,
     /// The events near which others are chosen, and so the other ends of their messages.
     pub(super) places: Vec<Place>,
-    near: u64,
     times: Option<Times>,
 }
 
@@ -66,11 +65,8 @@ struct Times {
 
 impl Times {
     fn new(parts: &Parts) -> Result<Times, Failure> {
-        let files: Result<Vec<TimesFile>, Failure> = parts
-            .iter()
-            .map(|part| TimesFile::beside(&part.path)?.ok_or(Failure::NoTimes))
-            .collect();
-        let parts = files?;
+        let file = |part: &Part| TimesFile::beside(&part.path)?.ok_or(Failure::NoTimes);
+        let parts = parts.iter().map(file).collect::<Result<Vec<_>, _>>()?;
         let first = parts.iter().map(|part| part.begin).min().unwrap_or(0);
         if parts.len() > 1 && first < 0 {
             return Err(Failure::NoDate);
@@ -79,18 +75,13 @@ impl Times {
     }
 
     /// Returns whether an event happened in the span. The parts come in order.
-    fn take(
-        &mut self,
-        conditions: &Conditions,
-        part: usize,
-        place: Place,
-    ) -> Result<bool, Failure> {
+    fn take(&mut self, asked: &Conditions, part: usize, place: Place) -> Result<bool, Failure> {
         if self.part != Some(part) {
             self.end()?;
             self.part = Some(part);
             let file = &self.parts[part];
             let later = file.begin - self.first;
-            self.events = file.events(|time| conditions.cover(time.saturating_add(later)))?;
+            self.events = file.events(|time| asked.cover(time.saturating_add(later)))?;
         }
         Ok(self.events.remove(&place))
     }
@@ -119,7 +110,7 @@ impl<'a> Selection<'a> {
         let filter = conditions.filter_among(names, || survey.labels.clone(), &survey.pids())?;
         let places = named.iter().map(|event| event.find(survey, names));
         let places = places.collect::<Result<_, _>>()?;
-        Ok(Selection { conditions, filter, places, near: args.near, times })
+        Ok(Selection { args, filter, places, times })
     }
 
     /// Returns whether the event on a line meets all conditions. The lines come in order.
@@ -132,9 +123,10 @@ impl<'a> Selection<'a> {
         let &Reported { pid, index, ref event, .. } = reported;
         let is_in_time = match &mut self.times {
             None => true,
-            Some(times) => times.take(self.conditions, line.0, (pid, index))?,
+            Some(times) => times.take(&self.args.conditions, line.0, (pid, index))?,
         };
-        let is_near = |&(of, at): &Place| of == pid && at.abs_diff(before + index) <= self.near;
+        let near = self.args.near;
+        let is_near = |&(of, at): &Place| of == pid && at.abs_diff(before + index) <= near;
         Ok(self.filter.chooses(pid, line.1, event)
             && (self.places.is_empty() || self.places.iter().any(is_near))
             && is_in_time)

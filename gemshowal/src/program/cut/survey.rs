@@ -2,7 +2,7 @@
 
 use super::part::{Line, Parts};
 use super::selection::NamedEvent;
-use crate::pieces::Entry;
+use crate::pieces::{Entry, Reported};
 use crate::view::Place;
 use crate::Failure;
 use gemshowal::{Pid, ReadFault};
@@ -28,38 +28,32 @@ impl Survey {
         let mut lines = HashMap::new();
         let mut label = None;
         let processes = parts.walk(|line, before, entry| {
-            let reported = match entry {
-                Entry::Process(_) => return Ok(()),
-                Entry::Act(pids) => {
-                    for &pid in pids {
-                        lines.entry(pid).or_insert(line);
-                    }
-                    return Ok(());
-                }
-                Entry::Event(reported) => reported,
-            };
-            let event = &reported.event;
-            let others = [Some(event.from), event.to].into_iter().flatten();
-            for pid in others.filter(|&pid| pid != reported.pid) {
+            let mut name = |pid: Pid| {
                 lines.entry(pid).or_insert(line);
+            };
+            match entry {
+                Entry::Process(_) => {}
+                Entry::Act(pids) => pids.iter().copied().for_each(name),
+                Entry::Event(Reported { pid, index, event, .. }) => {
+                    let others = [Some(event.from), event.to].into_iter().flatten();
+                    others.filter(|&other| other != pid).for_each(&mut name);
+                    if label.replace(event.label.0) != Some(event.label.0) {
+                        survey.labels.insert(event.label.0);
+                    }
+                    if is_asked(line) {
+                        survey.on_lines.insert(line, (pid, before + index));
+                    }
+                    survey.events += 1;
+                }
             }
-            if label.replace(event.label.0) != Some(event.label.0) {
-                survey.labels.insert(event.label.0);
-            }
-            if is_asked(line) {
-                survey.on_lines.insert(line, (reported.pid, before + reported.index));
-            }
-            survey.events += 1;
             Ok(())
         })?;
         survey.processes = processes;
         let unlisted = lines.into_iter().filter(|(pid, _)| !survey.processes.contains_key(pid));
-        match unlisted.map(|(_, line)| line).min() {
-            None => Ok(survey),
-            Some((part, line)) => {
-                Err(parts.describe(part, format!(": {}", ReadFault::Unknown(line))))
-            }
-        }
+        let first = unlisted.map(|(_, line)| line).min();
+        first.map_or(Ok(survey), |(part, line)| {
+            Err(parts.describe(part, format!(": {}", ReadFault::Unknown(line))))
+        })
     }
 
     pub(super) fn pids(&self) -> Vec<Pid> {

@@ -4,7 +4,7 @@ use super::record::{Counts, Place, Rest};
 use super::walk_sorted;
 use crate::reason::Against;
 use crate::view::count;
-use crate::{Failure, Status};
+use crate::{Ended, Failure, Status};
 use gemshowal::{first_of, Never, Pid, PlacedReason, Text};
 use std::collections::BTreeMap;
 use std::io::{BufRead, Write};
@@ -32,11 +32,7 @@ struct Gathered {
 }
 
 /// Reads sorted lines of `judge`, and writes the verdict as `seqtool complete` begins it.
-pub(super) fn gather(
-    name: &str,
-    input: impl BufRead,
-    out: &mut impl Write,
-) -> Result<Status, Failure> {
+pub(super) fn gather(name: &str, input: impl BufRead, out: &mut impl Write) -> Ended {
     let mut gathered = Gathered::default();
     walk_sorted(name, input, "judge", |line, _| Ok(gathered.take(Rest(line))))?;
     gathered.verdict(name, out)
@@ -93,7 +89,7 @@ impl Gathered {
         Some(())
     }
 
-    fn verdict(&self, name: &str, out: &mut impl Write) -> Result<Status, Failure> {
+    fn verdict(&self, name: &str, out: &mut impl Write) -> Ended {
         if let Some(pid) = self.unlisted {
             let words = format!("{} is named by an event, and no text lists it", Text(pid));
             return Err(Failure::Torn(words));
@@ -112,7 +108,7 @@ impl Gathered {
         Ok(Status::Yes)
     }
 
-    fn write_never(&self, found: &Found, out: &mut impl Write) -> Result<Status, Failure> {
+    fn write_never(&self, found: &Found, out: &mut impl Write) -> Ended {
         let PlacedReason { pid, index, never } = found.reason;
         let word = Against::by_complete(pid, index, never).word();
         let place = |&(pid, place, _): &_| format!(" {} {}", Text(pid), self.index(pid, place));

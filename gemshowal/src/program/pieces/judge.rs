@@ -76,8 +76,7 @@ impl Piece {
         Piece { pid, parts: vec![], events: vec![], places: vec![], receipts: vec![] }
     }
 
-    /// Takes the next line of the process, and returns its kind; none if it isn't as `scatter` and
-    /// a sort would have it.
+    /// Takes the next line, and returns its kind; none if it isn't one of `scatter`, sorted.
     fn take(&mut self, mut rest: Rest<'_>, is_repeated: bool) -> Option<u8> {
         rest.skip(b'\t')?;
         let kind = rest.byte()?;

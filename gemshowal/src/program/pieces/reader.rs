@@ -63,18 +63,12 @@ pub(crate) fn walk(
 impl Text {
     fn begin(&mut self, header: &[u8]) -> Result<(), ReadFault> {
         self.is_wide = header == b"seqtrace 2";
-        match header {
-            b"seqtrace 1" | b"seqtrace 2" => Ok(()),
-            _ => Err(ReadFault::Line(1)),
-        }
+        (self.is_wide || header == b"seqtrace 1").then_some(()).ok_or(ReadFault::Line(1))
     }
 
     /// Refuses a needless header of several nodes.
     fn end(&self) -> Result<(), ReadFault> {
-        match (self.is_wide, self.is_remote) {
-            (true, false) => Err(ReadFault::Line(1)),
-            _ => Ok(()),
-        }
+        (self.is_remote || !self.is_wide).then_some(()).ok_or(ReadFault::Line(1))
     }
 
     fn entry<'a>(&mut self, number: u64, line: &'a [u8]) -> Result<Entry<'a>, ReadFault> {
@@ -110,10 +104,7 @@ impl Text {
     /// Refuses a pid of another node under the header of one node.
     fn name(&mut self, number: u64, pid: Pid) -> Result<(), ReadFault> {
         self.is_remote |= pid.node() > 0;
-        if pid.node() > 0 && !self.is_wide {
-            return Err(ReadFault::Line(number));
-        }
-        Ok(())
+        (self.is_wide || pid.node() == 0).then_some(()).ok_or(ReadFault::Line(number))
     }
 }
 

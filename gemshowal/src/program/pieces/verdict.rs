@@ -5,7 +5,7 @@ use super::scatter::Scatter;
 use super::{gather, open, parts, BUFFER};
 use crate::args::Verdict;
 use crate::view::count;
-use crate::{output, Failure, Status};
+use crate::{output, Ended, Failure};
 use std::ffi::OsStr;
 use std::io::{BufReader, BufWriter, Write};
 use std::process::{Child, ChildStdin, ChildStdout, Command, Stdio};
@@ -17,7 +17,7 @@ const SMALL: &str = "64M";
 /// The time between two lines of progress. What is done before the first says nothing.
 const PAUSE: Duration = Duration::from_secs(10);
 
-pub(super) fn verdict(args: &Verdict, out: &mut impl Write) -> Result<Status, Failure> {
+pub(super) fn verdict(args: &Verdict, out: &mut impl Write) -> Ended {
     let mut said = Instant::now();
     let mut events = Sort::start(&args.memory)?;
     let mut scatter = Scatter::new(BufWriter::with_capacity(BUFFER, events.input()?));
