@@ -5,8 +5,7 @@ use crate::view::Place;
 use gemshowal::{added, is_sent, shows_loss, Completion, Event, Kind, Pid, Serial, Streams};
 use std::collections::{BTreeSet, HashMap, HashSet};
 
-/// The answer of a spawn leaves the counters of a standard node at 16 T + 15, T its count, which no
-/// message need have.
+/// The answer of a spawn of count T leaves the counters of a standard node at 16 T + 15.
 const SPAWN_FACTOR: u64 = 16;
 const SPAWN_TAG: u64 = 15;
 
@@ -24,8 +23,7 @@ pub(crate) struct Certain {
     /// The added sends of messages whose receives were reported, and the added receives that are
     /// there: of a message of this count, between these two reported events.
     pub(crate) added: HashSet<Place>,
-    /// The other added receives that are there on a standard node, if the process put no token
-    /// back.
+    /// The other added receives that happened on a standard node, if no token was put back.
     pub(crate) added_on_a_node: HashSet<Place>,
     /// The sends and prints before which a message of their prev's count was received on such a
     /// node, though the completion adds none.
@@ -75,7 +73,6 @@ impl Certain {
         }
     }
 
-    /// Adds the receive before this stamp, which is at this place of the completion.
     fn add_receive_before(&mut self, walk: &Walk<'_>, stamp: Stamp, place: Place) {
         let receive = walk.added.filter(|&(_, count)| count == stamp.serial.prev);
         match receive.map(|(index, _)| (walk.pid, index)) {
@@ -93,8 +90,7 @@ impl Certain {
     }
 }
 
-/// Returns the reported receives of the messages that a completion adds the sends of, by sender and
-/// count.
+/// Returns the reported receives of the messages whose sends are added, by sender and count.
 fn receives_of_added(streams: &Streams, completion: &Completion) -> HashMap<(Pid, u64), Place> {
     let sends = added(completion).filter(|(.., event)| event.kind == Kind::Send);
     let sent: HashSet<_> = sends.map(|(pid, _, event)| (pid, event.serial.this)).collect();
@@ -109,7 +105,6 @@ fn receives_of_added(streams: &Streams, completion: &Completion) -> HashMap<(Pid
     keyed.filter(|(message, _)| sent.contains(message)).collect()
 }
 
-/// A walk along the events of a process.
 struct Walk<'a> {
     streams: &'a Streams,
     pid: Pid,

@@ -1,12 +1,11 @@
-//! The command `chart`: the messages of a label, with what each event follows, as rows of text and
-//! as a drawing.
+//! The command `chart`: the messages of a label, with what each event follows, as text or drawn.
 
 use crate::args::Chart as Args;
 use crate::causes::{with_each, Causes, Link};
 use crate::object::{kind_letter, kind_word};
 use crate::output::Output;
 use crate::view::{ends, View};
-use crate::{moment, svg, words, Failure, Status, Task};
+use crate::{moment, svg, words, Ended, Failure, Status, Task};
 use gemshowal::{Event, Item, Label, Pid};
 use std::collections::BTreeMap;
 use std::io::{self, Write};
@@ -34,7 +33,7 @@ pub(crate) struct Chart {
     pub(crate) rows: Vec<Row>,
 }
 
-pub(crate) fn run(args: &Args, task: Task<'_>) -> Result<Status, Failure> {
+pub(crate) fn run(args: &Args, task: Task<'_>) -> Ended {
     let Task { input, out, notes, .. } = task;
     let (trace, names) = input.read(notes)?;
     let label = match (&args.label, &args.svg) {
@@ -108,8 +107,7 @@ impl Chart {
         Ok(events.into_iter().map(chart).collect())
     }
 
-    /// Writes the rows as text: a mark for each lane, the event's name, what it is and what it
-    /// follows.
+    /// Writes the rows: a mark for each lane, the event's name, what it is and what it follows.
     fn write(&self, causes: &Causes<'_>, out: &mut Output) -> io::Result<()> {
         writeln!(out, "label {}", causes.names().label(self.label))?;
         for (&pid, number) in self.lanes.iter().zip(1..) {

@@ -3,11 +3,10 @@
 use crate::args::{Complete, Form};
 use crate::certain::Certain;
 use crate::object::{Fields, Number, Place as PlaceObject, Sequence};
-use crate::output::Output;
 use crate::reason::Against;
 use crate::view::{count, short, Place, Shown, View};
-use crate::{Failure, Status, Task};
-use gemshowal::{Answer, Completion, Event, Kind, Pid, Trace};
+use crate::{Ended, Failure, Status, Task};
+use gemshowal::{Answer, Completion, Event, Kind, Pid};
 use serde::Serialize;
 use std::collections::{BTreeSet, HashSet};
 use std::fmt::{self, Display, Formatter};
@@ -20,7 +19,6 @@ const LOST_ON_A_NODE: &str =
     "Not added, and certainly so on a node: before each of these its process received a message \
      of this count, and didn't report that:";
 
-/// Tells how certain it is that an added event happened.
 #[derive(Clone, Copy, PartialEq, Eq, PartialOrd, Ord, Serialize)]
 #[serde(rename_all = "snake_case")]
 enum Certainty {
@@ -54,22 +52,12 @@ impl Certainty {
     }
 }
 
-pub(crate) fn run(args: &Complete, task: Task<'_>) -> Result<Status, Failure> {
+pub(crate) fn run(args: &Complete, task: Task<'_>) -> Ended {
     let Task { json, input, out, notes } = task;
     let (trace, names) = input.read(notes)?;
     let view = View::whole(&trace, &names);
-    match gemshowal::complete(&trace)? {
-        Answer::Whole(completion) => {
-            if args.form == Form::Added {
-                let lacks = Lacks::of(&view, &completion);
-                out.tell(json, "completed", &lacks.completed())?;
-            } else if !write_text(args.form, &trace, &completion, input.line_name(), out)? {
-                notes.say(
-                    "note: seqaudit doesn't read so much; seqtool check and gemshowal check do",
-                );
-            }
-            Ok(Status::Yes)
-        }
+    let completion = match gemshowal::complete(&trace)? {
+        Answer::Whole(completion) => completion,
         Answer::Never(pid, index, never) => {
             let no = Against::by_complete(pid, index, never).no(&view);
             if json || args.form == Form::Added {
@@ -77,31 +65,29 @@ pub(crate) fn run(args: &Complete, task: Task<'_>) -> Result<Status, Failure> {
             }
             // No other program is to take the sentence for a text.
             notes.say(no.headline);
-            Ok(Status::No)
+            return Ok(Status::No);
         }
-    }
-}
-
-/// Writes a text of the completion; returns whether `seqaudit` reads that.
-fn write_text(
-    form: Form,
-    trace: &Trace,
-    completion: &Completion,
-    name: &str,
-    out: &mut Output,
-) -> Result<bool, Failure> {
-    if completion.streams().pids().len() > gemshowal::LIMITS.processes as usize {
-        return Err(Failure::TooLong(name.into()));
-    }
-    match form {
+    };
+    let (streams, name) = (completion.streams(), input.line_name());
+    let is_too_long = streams.pids().len() > gemshowal::LIMITS.processes as usize;
+    let is_standard = match args.form {
+        Form::Added => {
+            out.tell(json, "completed", &Lacks::of(&view, &completion).completed())?;
+            true
+        }
+        Form::Streams | Form::Acts if is_too_long => return Err(Failure::TooLong(name.into())),
+        Form::Streams => gemshowal::write_streams(out, streams)?,
         Form::Acts => {
-            trace.write_acts(out, completion).map_err(|error| Failure::of_acts(error, name))
+            let written = trace.write_acts(out, &completion);
+            written.map_err(|error| Failure::of_acts(error, name))?
         }
-        Form::Streams | Form::Added => Ok(gemshowal::write_streams(out, completion.streams())?),
+    };
+    if !is_standard {
+        notes.say("note: seqaudit doesn't read so much; seqtool check and gemshowal check do");
     }
+    Ok(Status::Yes)
 }
 
-/// The events that a completion adds, and which of them are certain.
 struct Lacks<'a> {
     completion: &'a Completion,
     shown: Shown<'a>,

@@ -147,7 +147,6 @@ fn examples() -> Vec<Example> {
     paths.iter().filter(|path| is_trace(path)).map(|path| Example::of(path)).collect()
 }
 
-/// The bytes that a command writes.
 #[derive(Clone, Default)]
 struct Written(Rc<RefCell<Vec<u8>>>);
 
@@ -161,7 +160,6 @@ impl Write for Written {
     }
 }
 
-/// Reads a command line about the text of this file.
 fn command(words: &str, folder: &Path, it: &str) -> Args {
     let it_last = (!words.contains("IT")).then_some("IT");
     let path = |word| match word {
@@ -173,8 +171,7 @@ fn command(words: &str, folder: &Path, it: &str) -> Args {
     Args::try_parse_from(words.map(path)).unwrap()
 }
 
-/// Does a command, and returns whether the status is a yes. An object is whole, whatever the
-/// result.
+/// Does a command, and returns whether the status is a yes. Any object is whole.
 fn run(word: &str, args: &Args) -> bool {
     let written = Written::default();
     let mut out = Output::new(Box::new(written.clone()), word, false);

@@ -24,10 +24,9 @@ pub(crate) struct Number(pub(crate) u64);
 
 impl Serialize for Number {
     fn serialize<S: Serializer>(&self, serializer: S) -> Result<S::Ok, S::Error> {
-        if self.0 > EXACT {
-            serializer.collect_str(&self.0)
-        } else {
-            serializer.serialize_u64(self.0)
+        match self.0 > EXACT {
+            true => serializer.collect_str(&self.0),
+            false => serializer.serialize_u64(self.0),
         }
     }
 }

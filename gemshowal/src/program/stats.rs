@@ -1,18 +1,17 @@
-//! The command `stats`: the numbers of events and messages in a trace, by process, by pair of
-//! processes and by label.
+//! The command `stats`: the numbers of events and messages by process, pair and label.
 
 use crate::names::Names;
 use crate::object::Number;
 use crate::reason::paired;
 use crate::view::View;
-use crate::{Failure, Status, Task};
+use crate::{Ended, Status, Task};
 use gemshowal::{Event, Kind, Label, NodeHop, NodeHops, OutOfMemory, Paired, Partner};
 use gemshowal::{Pid, Text, Trace};
 use serde::Serialize;
 use std::collections::{BTreeMap, HashMap};
 use std::fmt::{self, Display, Formatter};
 
-pub(crate) fn run(task: Task<'_>) -> Result<Status, Failure> {
+pub(crate) fn run(task: Task<'_>) -> Ended {
     let Task { json, input, out, notes } = task;
     let (trace, names) = input.read(notes)?;
     let paired = paired(&View::whole(&trace, &names))?;
@@ -40,8 +39,7 @@ struct Process {
     sends: u64,
     receives: u64,
     prints: u64,
-    /// The sum, over all sends and prints, of the counts between the greatest count before and
-    /// their own.
+    /// The counts between the greatest one before a send or print and its own, of all these.
     skipped: Number,
 }
 
@@ -56,7 +54,7 @@ struct Pair {
     unsent: u64,
 }
 
-#[derive(Serialize)]
+#[derive(Default, Serialize)]
 struct LabelStats {
     label: u32,
     term: String,
@@ -117,19 +115,16 @@ impl Process {
 /// both ends reported is counted at its send.
 fn pairs(trace: &Trace, paired: &Paired<'_>, names: &Names) -> Vec<Pair> {
     let mut pairs = BTreeMap::<_, [u64; 3]>::new();
-    for ((pid, index), event) in trace.events() {
+    for (place, event) in trace.events() {
         let Some(to) = event.to else { continue };
-        let [messages, unreceived, unsent] = pairs.entry((event.from, to)).or_default();
-        let other = match paired.partner((pid, index), event.kind) {
+        let counts = match paired.partner(place, event.kind) {
             Partner::Nobody | Partner::Send(..) => continue,
-            Partner::Receive(..) => None,
-            Partner::NoReceive => Some(unreceived),
-            Partner::NoSend => Some(unsent),
+            Partner::Receive(..) => [1, 0, 0],
+            Partner::NoReceive => [1, 1, 0],
+            Partner::NoSend => [1, 0, 1],
         };
-        *messages += 1;
-        if let Some(count) = other {
-            *count += 1;
-        }
+        let sums = pairs.entry((event.from, to)).or_default();
+        sums.iter_mut().zip(counts).for_each(|(sum, count)| *sum += count);
     }
     let pair = |((from, to), [messages, unreceived, unsent]): (_, [u64; 3])| Pair {
         from: names.process(from).into_owned(),
@@ -144,20 +139,20 @@ fn pairs(trace: &Trace, paired: &Paired<'_>, names: &Names) -> Vec<Pair> {
 }
 
 fn labels(trace: &Trace, names: &Names) -> Result<Vec<LabelStats>, OutOfMemory> {
-    let mut labels = BTreeMap::<u32, (u64, u64, u64)>::new();
+    let mut labels = BTreeMap::<u32, LabelStats>::new();
     for (_, event) in trace.events() {
-        labels.entry(event.label.0).or_default().0 += 1;
+        labels.entry(event.label.0).or_default().events += 1;
     }
     for ((label, depth), number) in widths(trace)? {
-        let (_, deepest, widest) = labels.entry(label).or_default();
-        *deepest = (*deepest).max(depth);
-        *widest = (*widest).max(number);
+        let of = labels.entry(label).or_default();
+        (of.depth, of.width) = (of.depth.max(depth), of.width.max(number));
     }
-    let stats = |(label, (events, depth, width))| {
-        let term = names.label(Label(label)).into_owned();
-        LabelStats { label, term, events, depth, width }
+    let named = |(label, stats)| LabelStats {
+        label,
+        term: names.label(Label(label)).into_owned(),
+        ..stats
     };
-    Ok(labels.into_iter().map(stats).collect())
+    Ok(labels.into_iter().map(named).collect())
 }
 
 /// Counts each label's messages by their depth: one more than that of the message whose receive the

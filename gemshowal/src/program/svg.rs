@@ -115,8 +115,7 @@ impl<'a> Drawing<'a> {
         used.map(|(line, _)| format!("{line}\n")).collect()
     }
 
-    /// Shades every other five rows of the ground, so that the eye keeps the height across many
-    /// lanes.
+    /// Shades every other five rows, so that the eye keeps the height across many lanes.
     fn ground(&self, width: usize, height: usize) -> String {
         let shades = (5..self.chart.rows.len()).step_by(10).map(|first| {
             let (y, height) = (y(first) - ROW / 2, 5 * ROW);
@@ -165,8 +164,7 @@ impl<'a> Drawing<'a> {
         self.causes.reported(row.item).is_some()
     }
 
-    /// Returns whether it isn't sure what an event follows. A receive that nobody reported follows
-    /// its send.
+    /// Returns whether what an event follows isn't sure. An unreported receive follows its send.
     fn is_doubtful(&self, row: &Row) -> bool {
         let may_follow = self.is_reported(row) || row.event.kind == Kind::Send;
         let causes = matches!(row.link.cause, Cause::Either(..) | Cause::Moved(_) | Cause::Unknown);

@@ -119,8 +119,7 @@ impl<'a> Shown<'a> {
         format!("{}#{}", self.process(place.0), self.number(place))
     }
 
-    /// Returns the number of an event in its name. An added event is counted from the reported one
-    /// that it comes before: `3~1`.
+    /// Returns the number in an event's name. An added one counts from the next reported: `3~1`.
     pub(crate) fn number(&self, (pid, index): Place) -> String {
         if self.completion.is_none() {
             return self.view.number(pid, index).to_string();
@@ -140,7 +139,6 @@ impl<'a> Shown<'a> {
         self.sentence_of(event, &short(&self.view.names.brief(event.value)))
     }
 
-    /// Describes what happened at an event whose message nobody knows.
     pub(crate) fn sentence_of_unknown(&self, event: &Event) -> String {
         self.sentence_of(event, "an unknown message")
     }

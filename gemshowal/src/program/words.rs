@@ -39,10 +39,8 @@ impl Grade {
 
     /// Returns the numbers of the premises, to be put after what rests on them.
     pub(crate) fn numbers(self) -> String {
-        match self.list() {
-            none if none.is_empty() => none,
-            list => format!(" ({list})"),
-        }
+        let list = Some(self.list()).filter(|list| !list.is_empty());
+        list.map(|list| format!(" ({list})")).unwrap_or_default()
     }
 
     pub(crate) fn perhaps(self) -> &'static str {
@@ -59,19 +57,16 @@ pub(crate) fn rests_on(links: impl Iterator<Item = Link>) -> Vec<String> {
     let rests_on = |premise| grades.iter().any(|grade| grade.premises().contains(&premise));
     let premises = (1..).zip(PREMISES).filter(|&(premise, _)| rests_on(premise));
     let premises = premises.map(|(premise, line)| format!("({premise}) {line}"));
-    let tested = rests_on(TESTED)
-        .then(|| format!("the law behind ({TESTED}) is proved; the code that goes by it is only tested"));
+    let tested = rests_on(TESTED).then(|| {
+        format!("the law behind ({TESTED}) is proved; the code that goes by it is only tested")
+    });
     let perhaps = grades.contains(&Grade::Perhaps).then(|| PERHAPS.to_owned());
     [RUNS.to_owned()].into_iter().chain(premises).chain(tested).chain(perhaps).collect()
 }
 
 /// Returns what is said after the name of an event that wasn't reported.
 pub(crate) fn unreported(causes: &Causes<'_>, item: Item) -> &'static str {
-    if causes.reported(item).is_some() {
-        ""
-    } else {
-        ", which wasn't reported"
-    }
+    causes.reported(item).map_or(", which wasn't reported", |_| "")
 }
 
 /// Returns what is said after the send of a message that an event follows.
@@ -140,7 +135,6 @@ pub(crate) fn moved(causes: &Causes<'_>, item: Item, since: Option<Item>) -> Str
     )
 }
 
-/// Says when a reported event happened.
 pub(crate) fn time(causes: &Causes<'_>, item: Item) -> Option<String> {
     let (times, place) = causes.names().times().zip(causes.place(item))?;
     Some(moment(times, times.of_event(place)?))
@@ -169,8 +163,8 @@ pub(crate) fn headline(causes: &Causes<'_>) -> String {
     let how = if causes.may_have_put_back() { "perhaps" } else { "probably" };
     let probable = (!probable.is_empty()).then(|| format!("{how} {}", probable.join(" and ")));
     let added: Vec<String> = certain.into_iter().chain(probable).collect();
-    let with = if added.is_empty() { "" } else { ", with " };
-    let behind = if added.is_empty() { "" } else { " that nobody reported" };
+    let (with, behind) =
+        if added.is_empty() { ("", "") } else { (", with ", " that nobody reported") };
     format!("fits: {events} of {processes}{with}{}{behind}", added.join(" and "))
 }
 
