@@ -50,7 +50,7 @@ impl<'a> Vocabulary<'a> {
             return self.item(event.kind, label, value);
         }
         let label = self.word(term(names.label(event.label)), label);
-        let value = self.word(term(names.value(event.value)), value);
+        let value = self.word(names.term(event.value), value);
         self.item(event.kind, label, value)
     }
 }

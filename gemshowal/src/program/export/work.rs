@@ -7,7 +7,6 @@
 use super::scene::{Place, Scene, Table};
 use crate::causes::Cause;
 use gemshowal::{Item, Kind};
-use std::borrow::Cow;
 use std::collections::HashMap;
 
 #[derive(Clone, Copy, Debug)]
@@ -83,11 +82,7 @@ pub(super) enum Role<'a> {
 
 /// Returns the part of a message in a call, or `None` if it has none, or there are no terms.
 pub(super) fn role<'a>(scene: &Scene<'a>, value: u64) -> Option<Role<'a>> {
-    if !scene.names.has_terms() {
-        return None;
-    }
-    // A term that the trace's file has is borrowed.
-    let Cow::Borrowed(term) = scene.names.value(value) else { return None };
+    let term = scene.names.term(value)?;
     if let Some(caller) = term.strip_prefix("{'$gen_call',{") {
         return Some(Role::Request(reference(caller.split_once(',')?.1)?));
     }

@@ -81,7 +81,7 @@ impl<'a> Reader<'a> {
             '{' => return self.tuple(),
             '[' => self.list()?,
             '#' if self.rest.starts_with("#{") => self.map()?,
-            '#' => self.reference().or_else(|| self.identified_fun())?,
+            '#' => self.identified().or_else(|| self.identified_fun())?,
             '<' => self.binary().or_else(|| self.pid())?,
             '"' => self.quoted('"').map_or_else(|| self.cut(), |text| characters(&text)),
             '\'' => match self.quoted('\'') {
@@ -205,8 +205,13 @@ impl<'a> Reader<'a> {
         Some((key, if self.strip(" => ") { self.term() } else { None }))
     }
 
-    fn reference(&mut self) -> Option<String> {
-        self.strip("#Ref<").then(|| "#Reference<".into())
+    /// Reads a reference or a port.
+    fn identified(&mut self) -> Option<String> {
+        let known = [("#Ref<", "#Reference<"), ("#Port<", "#Port<")];
+        let (_, name) = known.into_iter().find(|(open, _)| self.strip(open))?;
+        let numbers = self.take_while(|c| c.is_alphanumeric() || "_@.-".contains(c));
+        let close = if self.strip(">") { ">" } else { "" };
+        Some(format!("{name}{numbers}{close}"))
     }
 
     fn identified_fun(&mut self) -> Option<String> {

@@ -70,9 +70,9 @@ impl Line<'_> {
     }
 
     pub(crate) fn brief(&mut self, names: &Names, value: u64) -> &mut Self {
-        match names.has_value(value) {
-            true => self.text(&names.brief(value)),
-            false => self.text("value ").number(value),
+        match names.term(value) {
+            Some(_) => self.text(&names.brief(value)),
+            None => self.text("value ").number(value),
         }
     }
 }

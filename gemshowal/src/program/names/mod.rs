@@ -114,8 +114,9 @@ impl Names {
         }
     }
 
-    pub(crate) fn has_value(&self, value: u64) -> bool {
-        self.terms.value(value).is_some()
+    /// Returns the term of a message as Erlang prints it, if the trace's file has one.
+    pub(crate) fn term(&self, value: u64) -> Option<&str> {
+        self.terms.value(value)
     }
 
     /// Returns the term of a message without the parts that every call, cast and reply of OTP's

@@ -29,7 +29,7 @@ pub(crate) fn run(args: &Args, task: Task<'_>) -> Ended {
     let whole = View::whole(&trace, &names);
     let links = Links::of_view(&whole)?;
     with_causes(&whole, &links, |causes| {
-        let messages = Messages::beside(input.path(), |value| names.has_value(value))?;
+        let messages = Messages::beside(input.path(), |value| names.term(value).is_some())?;
         let title = input.title();
         let data = Data::of(causes, causes.ordered()?, &title, label, &messages);
         let page = page(&title, &serde_json::to_string(&data)?);
