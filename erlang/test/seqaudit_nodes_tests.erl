@@ -1,7 +1,7 @@
 %% A program on two nodes is traced, converted and audited.
 -module(seqaudit_nodes_tests).
 
--export([two_nodes_test_/0, node_goes_down_test_/0]).
+-export([two_nodes_test_/0, node_goes_down_test_/0, spawned_there_test_/0]).
 
 %% A client here calls a server there by its process and by its name.
 two_nodes_test_() ->
@@ -18,6 +18,32 @@ node_goes_down_test_() ->
             {ok, #{events := 1, notes := Notes}} = seqaudit_trace:stop(),
             [_] = [Note || Note <- Notes,
                    string:find(Note, "the node was lost, or the connection to it") =/= nomatch]
+        end)
+    end}.
+
+%% The reply of a process that is spawned there has the tag that the request asks for; one is refused.
+spawned_there_test_() ->
+    {timeout, 60, fun() ->
+        seqaudit_test_nodes:with_second("spawned there", fun(There) ->
+            Name = seqaudit_audits:file("spawned_there"),
+            ok = seqaudit_trace:start(#{name => Name, nodes => [node(), There]}),
+            seqaudit_trace:with_trace(1, fun() ->
+                Tagged = spawn_request(There, seq_trace, print, [born], [{reply_tag, tag}]),
+                receive {tag, Tagged, ok, _} -> seq_trace:print(spawned) end,
+                Refused = spawn_request(There, erlang, self, [], [nonsense]),
+                receive {spawn_reply, Refused, error, badopt} -> seq_trace:print(refused) end
+            end),
+            {ok, #{events := Events}} = seqaudit_trace:stop(),
+            {Events, 14} = {14, Events},
+            Received = [maps:get(value, Event) || #{kind := <<"'receive'">>} = Event <-
+                                                      seqaudit_test_traces:events(Name)],
+            Tags = [Tag || Value <- Received,
+                           {match, [Tag]} <- [re:run(maps:get({value, Value},
+                                                              seqaudit_test_traces:terms(Name)),
+                                                     "^\\{(tag|spawn_reply),",
+                                                     [{capture, [1], list}])]],
+            ["spawn_reply", "tag"] = lists:sort(Tags),
+            seqaudit_audits:fits(Name)
         end)
     end}.
 

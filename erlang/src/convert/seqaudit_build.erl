@@ -222,15 +222,18 @@ node_of({process, Node, _, _}) -> [Node];
 node_of({first, Process, _}) -> node_of(seqaudit_external:view(Process));
 node_of(_) -> [].
 
-%% A name without a node is one of the node that reports it. `ttb' writes a process as a triple, in
-%% which is what it is called.
+%% A node, to which a request to spawn there goes, is the same whichever node reports it. Another name
+%% without a node is one of the node that reports it. `ttb' writes a process as a triple, in which is
+%% what it is called.
 party(<<88, _/binary>> = Process, _Part) -> {actor, Process, none};
 party(Bytes, #part{home = Home}) ->
     case seqaudit_external:view(Bytes) of
         {port, _, _} -> {actor, Bytes, none};
         {reference, _, _} -> {other, Bytes, none};
         {name, _, _} -> {other, Bytes, none};
-        {atom, Name} -> {other, seqaudit_external:name(Name, Home), none};
+        {atom, Name} ->
+            Node = case binary:match(Name, <<"@">>) of nomatch -> Home; _ -> Name end,
+            {other, seqaudit_external:name(Name, Node), none};
         {first, First, Info} -> party_of_ttb(seqaudit_external:view(First), First, Info);
         other -> stray
     end.

@@ -126,12 +126,12 @@ own(File) ->
 
 -spec parts(seqaudit_build:build()) -> {#{atom() => part()}, map()}.
 parts(#build{actors = Actors, others = Others} = Whole) ->
-    {Packed, Resolved} = seqaudit_resolve:resolve(Whole),
+    {Untagged, Resolved} = seqaudit_resolve:resolve(Whole),
     %% Lets go of the records from before: each is 43 bytes.
     Build = Whole#build{packed = <<>>},
     true = garbage_collect(),
     Listed = {seqaudit_numbers:listed(Actors), seqaudit_numbers:listed(Others)},
-    Used = used(Packed, Listed),
+    Used = used(Untagged, Listed),
     Numbers = seqaudit_processes:number(Used),
     Spelled = spelled(Listed, Numbers),
     Labels = seqaudit_numbers:listed(Build#build.labels),
@@ -140,7 +140,8 @@ parts(#build{actors = Actors, others = Others} = Whole) ->
         list_to_tuple([integer_to_binary(maps:get(Label, LabelNumbers)) || Label <- Labels]),
     Spawns = seqaudit_spawns:read(Build#build.values),
     Senders = seqaudit_spawns:senders(element(1, Listed)),
-    Births = seqaudit_spawns:births(Packed, Senders, Spawns),
+    Births = seqaudit_spawns:births(Untagged, Senders, Spawns),
+    Packed = seqaudit_spawns:with_tags(Untagged, Births, Spawns, Build#build.values),
     {Streams, Nameless, Placed} = streams(Packed, Spelled, Births),
     Wrapped = seqaudit_spawns:has_wrapped(Packed, Spawns),
     Sorted = lists:sort([{Number, Party} || {Party, Number} <- maps:to_list(Numbers)]),

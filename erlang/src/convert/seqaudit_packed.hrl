@@ -6,6 +6,9 @@
 %% The record with a key for what a send and its receive have in common.
 -define(KEYED(Kind, Key, To, Time), Kind:8, Key:30/binary, To:32, Time:8/binary).
 
+%% The record with the number of its message by itself.
+-define(WITH_VALUE(Kind, Key, Value, Rest), Kind:8, Key:26/binary, Value:32, Rest:12/binary).
+
 -define(SEND, 0).
 -define(RECEIVE, 1).
 -define(PRINT, 2).

@@ -6,12 +6,14 @@
 %%
 %% The reply is an answer if its receiver spawned by `spawn' and its kin, which wait for it: its
 %% next event is the receive of the reply, and it keeps its token. The reply to `spawn_request', and
-%% that of another node, is an ordinary message.
+%% that of another node, is an ordinary message. Another node doesn't know the tag which the reply
+%% shall have (`reply_tag'), and reports the send of a `spawn_reply'.
 -module(seqaudit_spawns).
 
 -include("seqaudit_packed.hrl").
 
--export([read/1, senders/1, births/3, births_first/2, learn/5, has_wrapped/2, is_answer/4]).
+-export([read/1, senders/1, births/3, births_first/2, learn/5, has_wrapped/2, is_answer/4,
+         with_tags/4]).
 -export_type([spawns/0, senders/0, births/0]).
 
 %% Kinds of values. The rest of the number is a hash of the process that has to be the sender.
@@ -20,6 +22,7 @@
 -define(ASYNCHRONOUS_REQUEST, 2).
 -define(REMOTE_REQUEST, 3).
 -define(REPLY, 4).
+-define(REMOTE_REPLY, 5).
 -define(KINDS, 8).
 -define(AT_ONCE, 1_000).
 %% An answer moves the counter to 16 T + 15. From this T on that is more than the 59 bits which a
@@ -66,9 +69,11 @@ message(<<104, 6, 100, 13:16, "spawn_request", _/binary>> = Term) ->
     [_, _Reference, Parent | _] = seqaudit_external:tuple(Term),
     sent_by(Parent, ?REMOTE_REQUEST);
 message(<<104, 4, 100, 11:16, "spawn_reply", _/binary>> = Term) ->
-    [_, _Reference, Result, Child] = seqaudit_external:tuple(Term),
-    case seqaudit_external:view(Result) of
-        {atom, <<"ok">>} -> sent_by(Child, ?REPLY);
+    [_, Reference, Result, Child] = seqaudit_external:tuple(Term),
+    case [seqaudit_external:view(Part) || Part <- [Reference, Result, Child]] of
+        [{reference, Here, _}, {atom, <<"ok">>}, {process, There, _, _}] when Here =/= There ->
+            sent_by(Child, ?REMOTE_REPLY);
+        [_, {atom, <<"ok">>}, _] -> sent_by(Child, ?REPLY);
         _ -> ?OTHER_MESSAGE
     end;
 message(_) ->
@@ -111,13 +116,14 @@ births_first(Streams, Births) ->
                      end
              end, Streams).
 
-%% Keeps the first places of what may be a process's birth.
+%% Keeps the first places of what may be a process's birth. A request that the other node refuses is
+%% received by that node.
 births(<<?PACKED(Kind, _L, _P, _T, From, To, Value, _Time), Rest/binary>>, Place, Senders, Spawns,
        Births) ->
     case {Kind, Kind =/= ?PRINT andalso kind(From, Value, Senders, Spawns)} of
-        {?SEND, ?REPLY} ->
+        {?SEND, Reply} when Reply =:= ?REPLY; Reply =:= ?REMOTE_REPLY ->
             births(Rest, Place + 1, Senders, Spawns, birth(From, reply, Place, Births));
-        {?RECEIVE, ?REMOTE_REQUEST} ->
+        {?RECEIVE, ?REMOTE_REQUEST} when To < ?OTHER ->
             births(Rest, Place + 1, Senders, Spawns, birth(To, remote, Place, Births));
         {?RECEIVE, Request} when Request =:= ?REQUEST; Request =:= ?ASYNCHRONOUS_REQUEST ->
             births(Rest, Place + 1, Senders, Spawns, birth(To, request, Place, Births));
@@ -140,6 +146,43 @@ first(Birth, Places) ->
         <<Begin:(byte_size(Begin))/binary, _/binary>> -> Places;
         _ -> << Begin/binary, << <<Place:32>> || <<Place:32>> <= Places,
                                 not lists:member(Place, Birth) >>/binary >>
+    end.
+
+%% @doc The records with the replies of other nodes as they were received, with their tags.
+-spec with_tags(seqaudit_build:packed(), births(), spawns(), seqaudit_numbers:table()) ->
+          seqaudit_build:packed().
+with_tags(Packed, Births, Spawns, Values) ->
+    Sent = maps:from_list([{Key, Value}
+                           || #{reply := Place} <- maps:values(Births),
+                              <<?WITH_VALUE(?SEND, Key, Value, _)>>
+                                  <- [binary:part(Packed, Place * ?PACKED_SIZE, ?PACKED_SIZE)],
+                              atomics:get(Spawns, Value + 1) rem ?KINDS =:= ?REMOTE_REPLY]),
+    case tags(Packed, Sent, Values, #{}) of
+        Tags when map_size(Tags) =:= 0 -> Packed;
+        Tags -> << <<?WITH_VALUE(Kind, Key, (maps:get(Value, Tags, Value)), Rest)>>
+                   || <<?WITH_VALUE(Kind, Key, Value, Rest)>> <= Packed >>
+    end.
+
+%% The reply as it was received, by the reply that was sent: they differ in the tag alone.
+tags(_Packed, Sent, _Values, Tags) when map_size(Sent) =:= map_size(Tags) ->
+    Tags;
+tags(<<?WITH_VALUE(Kind, Key, Value, _), Rest/binary>>, Sent, Values, Tags) ->
+    case Sent of
+        #{Key := Reply} when Kind =:= ?RECEIVE, Reply =/= Value ->
+            case [without_tag(Number, Values) || Number <- [Reply, Value]] of
+                [Same, Same] -> tags(Rest, Sent, Values, Tags#{Reply => Value});
+                _ -> tags(Rest, Sent, Values, Tags)
+            end;
+        _ -> tags(Rest, Sent, Values, Tags)
+    end;
+tags(<<>>, _Sent, _Values, Tags) ->
+    Tags.
+
+without_tag(Number, Values) ->
+    [Term] = seqaudit_numbers:part(Number, 1, Values),
+    case seqaudit_external:tuple(Term) of
+        [_Tag | Rest] -> Rest;
+        _ -> other
     end.
 
 %% @doc Adds to what is known of processes the calls by which those began that nobody asked in time:
