@@ -2,7 +2,8 @@
 -module(seqaudit_convert_tests).
 
 -export([captures_test_/0, equal_terms_test/0, numbers_test/0, parties_test/0, aliases_test/0,
-         reset_aliases_test/0, ambiguous_aliases_test/0, repeated_names_test/0, callers_test/0,
+         reset_aliases_test/0, ambiguous_aliases_test/0, spawned_there_test/0,
+         repeated_names_test/0, callers_test/0,
          spawned_test/0, counts_test/0, many_processes_test_/0, lost_test/0, hostile_test_/0,
          hostile_trace_test_/0, hostile_process_test_/0, text_test/0, text_faults_test/0,
          external_test/0, trace_file_test/0, damaged_event_test/0]).
@@ -126,6 +127,25 @@ ambiguous_aliases_test() ->
                                       "label\t1000002\tterm", "label\t1000003\tother"],
                              binary:match(iolist_to_binary(Terms),
                                           list_to_binary(Line)) =/= nomatch].
+
+%% A request to spawn on another node and its arguments name the node. Its reply says which process
+%% got them, unless alike arguments went to two processes.
+spawned_there_test() ->
+    [Parent, A, B] = [pid('a@h', 80, 0), pid('b@h', 90, 0), pid('b@h', 91, 0)],
+    Spawn = fun(Count, Child, Arguments) ->
+                    R = make_ref(),
+                    [{seq_trace, 1, {send, {0, Count}, Parent, 'b@h',
+                                     {spawn_request, R, Parent, Parent, {m, f, 1}, []}}},
+                     {seq_trace, 1, {send, {0, Count + 1}, Parent, 'b@h', Arguments}},
+                     {seq_trace, 1, {send, {Count, Count + 1}, Child, Parent,
+                                     {spawn_reply, R, ok, Child}}}]
+            end,
+    Two = convert(Spawn(1, A, [1]) ++ Spawn(3, B, [1])),
+    ["<1.90.0>", "<1.90.0>", "<1.91.0>", "<1.91.0>", "<0.80.0>", "<0.80.0>"] = receivers(send, Two),
+    true = noted("4 sends to another node to spawn there: the reply says", Two),
+    ["<1.90.0>", Unknown, "<1.91.0>", Unknown, "<0.80.0>", "<0.80.0>"] =
+        receivers(send, convert(Spawn(1, A, [1]) ++ Spawn(1, B, [1]))),
+    false = lists:member(Unknown, ["<1.90.0>", "<1.91.0>"]).
 
 %% The receivers of the sends, or of other events, in the order of the bundle.
 receivers(Kind, #{seqtrace := Text}) ->

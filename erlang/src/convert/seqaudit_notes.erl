@@ -259,6 +259,7 @@ converted(Counts, Samples) ->
             [{by_receive,
               "~ts to an alias or a name: the receive of each says which process that is"},
              {by_request, "~ts to an alias: the request that handed it out says whose it is"},
+             {by_reply, "~ts to another node to spawn there: the reply says which process that is"},
              {ambiguous, "~ts to an alias or a name that two receives or requests fit: it isn't "
                          "known whose it was, and it is shown as a process of its own"},
              {unresolved,

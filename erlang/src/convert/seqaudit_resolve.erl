@@ -3,9 +3,10 @@
 %% A node reports the `to' of a send as the program wrote it: a process, its alias (the replies of
 %% `gen_server' since OTP 24), a name on another node. Its receive names the process. So a send to
 %% an alias or a name is resolved by the receive with the same from, serial, label and message;
-%% else, for an alias, by the request that handed the alias out. If two processes fit, as after a
-%% reset, it isn't known who received it; then, and if nothing fits, the alias or the name stays a
-%% party of its own.
+%% else, for an alias, by the request that handed the alias out. The request to spawn on another node
+%% names the node, as do the arguments, which come right behind it: both go to the process whose
+%% reply has the request's reference. If two processes fit, as after a reset, it isn't known who
+%% received it; then, and if nothing fits, the alias or the name stays a party of its own.
 -module(seqaudit_resolve).
 
 -include("seqaudit_packed.hrl").
@@ -16,7 +17,8 @@
 %% Messages that are taken from their table at once.
 -define(AT_ONCE, 1_000).
 
--type counts() :: #{by_receive | by_request | ambiguous | unresolved => non_neg_integer()}.
+-type counts() :: #{by_receive | by_request | by_reply | ambiguous | unresolved =>
+                        non_neg_integer()}.
 
 %% @doc The events with their receivers, and what was decided, by kind.
 -spec resolve(seqaudit_build:build()) -> {seqaudit_build:packed(), counts()}.
@@ -27,7 +29,8 @@ resolve(#build{packed = Packed} = Build) ->
             {Packed, #{}};
         Senders ->
             ok = receivers(Packed, Received, Senders),
-            Owners = owners(unreceived(Packed, Received), Build),
+            {Owners, Begun} = asked(unreceived(Packed, Received), Build),
+            ok = replied(Packed, Received, Begun, #{}),
             rewritten(seqaudit_workers:shares(Packed, fun(Part, _) ->
                                                               rewrite(Part, Received, Owners, #{},
                                                                       <<>>)
@@ -78,28 +81,68 @@ unreceived(<<_:?PACKED_SIZE/binary, Rest/binary>>, Received, Wanted) ->
 unreceived(<<>>, _Received, Wanted) ->
     Wanted.
 
-%% Whose the wanted aliases are, by the requests that hand them out.
-owners(Wanted, _Build) when map_size(Wanted) =:= 0 ->
-    Wanted;
-owners(Wanted, #build{values = Values, others = Others, actors = Actors}) ->
-    Ask = fun(Message, Owners) ->
-                  case seqaudit_external:request(Message) of
-                      {<<88, _/binary>> = Owner, Alias} ->
-                          [Handed] = seqaudit_numbers:numbers([Alias], Others),
-                          [Own] = seqaudit_numbers:numbers([Owner], Actors),
-                          own(?OTHER bor Handed, Own, Owners);
-                      _ -> Owners
-                  end
-          end,
-    lists:foldl(fun(First, Owners) ->
-                        lists:foldl(Ask, Owners, seqaudit_numbers:part(First, ?AT_ONCE, Values))
-                end, Wanted, lists:seq(0, seqaudit_numbers:size(Values), ?AT_ONCE)).
+%% Whose the wanted aliases are, by the requests that hand them out; and the process that each
+%% request to spawn on another node began, by the number of the request among the messages.
+asked(Wanted, _Build) when map_size(Wanted) =:= 0 ->
+    {Wanted, #{}};
+asked(Wanted, #build{values = Values} = Build) ->
+    Ask = fun({Number, Message}, Sum) -> ask(Number, Message, Build, Sum) end,
+    {Owners, Requests, Replies} =
+        lists:foldl(fun(First, Sum) ->
+                            Terms = seqaudit_numbers:part(First, ?AT_ONCE, Values),
+                            lists:foldl(Ask, Sum, lists:enumerate(First, Terms))
+                    end, {Wanted, #{}, #{}},
+                    lists:seq(0, seqaudit_numbers:size(Values), ?AT_ONCE)),
+    {Owners, maps:from_list([{Number, Child} || {Reference, Number} <- maps:to_list(Requests),
+                                                #{Reference := Child} <- [Replies]])}.
+
+ask(Number, Message, #build{others = Others, actors = Actors}, {Owners, Requests, Replies}) ->
+    case {seqaudit_external:request(Message), seqaudit_spawns:there(Message)} of
+        {{<<88, _/binary>> = Owner, Alias}, _} ->
+            [Handed] = seqaudit_numbers:numbers([Alias], Others),
+            [Own] = seqaudit_numbers:numbers([Owner], Actors),
+            {own(?OTHER bor Handed, Own, Owners), Requests, Replies};
+        {_, {request, Reference}} ->
+            {Owners, Requests#{Reference => Number}, Replies};
+        {_, {reply, Reference, Child}} ->
+            [Own] = seqaudit_numbers:numbers([Child], Actors),
+            {Owners, Requests, Replies#{Reference => Own}};
+        _ ->
+            {Owners, Requests, Replies}
+    end.
 
 own(Alias, Owner, Owners) ->
     case Owners of
         #{Alias := none} -> Owners#{Alias := Owner};
         #{Alias := Other} when Other =/= Owner -> Owners#{Alias := several};
         #{} -> Owners
+    end.
+
+%% Notes which process got each of these requests, and the arguments behind it.
+replied(<<?PACKED(?SEND, Label, Prev, This, From, To, Value, _), _/binary>> = Packed, Received,
+        Begun, Behind) when ?IS_OTHER(To), map_size(Begun) > 0 ->
+    <<?KEYED(?SEND, Key, To, _Time), Rest/binary>> = Packed,
+    case {Begun, Behind} of
+        {#{Value := Child}, _} ->
+            true = got(Key, Child, Received),
+            replied(Rest, Received, Begun, Behind#{From => {Child, Label, Prev, This + 1, To}});
+        {_, #{From := {Child, Label, Prev, This, To}}} ->
+            true = got(Key, Child, Received),
+            replied(Rest, Received, Begun, maps:remove(From, Behind));
+        _ ->
+            replied(Rest, Received, Begun, Behind)
+    end;
+replied(<<_:?PACKED_SIZE/binary, Rest/binary>>, Received, Begun, Behind) when map_size(Begun) > 0 ->
+    replied(Rest, Received, Begun, Behind);
+replied(_Packed, _Received, _Begun, _Behind) ->
+    ok.
+
+%% A receive says it best. Of alike arguments it isn't known whose they were.
+got(Key, Child, Received) ->
+    case ets:lookup_element(Received, Key, 2) of
+        none -> ets:insert(Received, {Key, {reply, Child}});
+        {reply, Other} when Other =/= Child -> ets:insert(Received, {Key, several});
+        _ -> true
     end.
 
 rewritten(Shares) ->
@@ -125,4 +168,5 @@ resolved(none, To, Owners) ->
         #{To := several} -> {To, ambiguous};
         #{} -> {To, unresolved}
     end;
+resolved({reply, Receiver}, _To, _Owners) -> {Receiver, by_reply};
 resolved(Receiver, _To, _Owners) -> {Receiver, by_receive}.

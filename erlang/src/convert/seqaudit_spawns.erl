@@ -12,7 +12,7 @@
 
 -include("seqaudit_packed.hrl").
 
--export([read/1, senders/1, births/3, births_first/2, learn/5, has_wrapped/2, is_answer/4,
+-export([read/1, senders/1, births/3, births_first/2, learn/5, has_wrapped/2, is_answer/4, there/1,
          with_tags/4]).
 -export_type([spawns/0, senders/0, births/0]).
 
@@ -80,6 +80,25 @@ message(_) ->
     ?OTHER_MESSAGE.
 
 sent_by(Process, Kind) -> erlang:phash2(Process) * ?KINDS + Kind.
+
+%% @doc Whether a message asks for a process on another node, or is the reply of such a process; the
+%% two have one reference.
+-spec there(seqaudit_external:encoded()) ->
+          {request, Reference :: seqaudit_external:encoded()}
+        | {reply, Reference :: seqaudit_external:encoded(), Child :: seqaudit_external:encoded()}
+        | none.
+there(<<104, 6, 100, 13:16, "spawn_request", _/binary>> = Term) ->
+    [_, Reference | _] = seqaudit_external:tuple(Term),
+    {request, Reference};
+there(<<104, 4, 100, 11:16, "spawn_reply", _/binary>> = Term) ->
+    case message(Term) rem ?KINDS of
+        ?REMOTE_REPLY ->
+            [_, Reference, _Result, Child] = seqaudit_external:tuple(Term),
+            {reply, Reference, Child};
+        _ -> none
+    end;
+there(_) ->
+    none.
 
 %% @doc The hashes of the actors, in the order of their numbers.
 -spec senders([seqaudit_external:encoded()]) -> senders().
