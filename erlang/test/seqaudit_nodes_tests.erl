@@ -21,7 +21,8 @@ node_goes_down_test_() ->
         end)
     end}.
 
-%% The reply of a process that is spawned there has the tag that the request asks for; one is refused.
+%% The reply of a process that is spawned there has the tag that the request asks for; another
+%% request is refused.
 spawned_there_test_() ->
     {timeout, 60, fun() ->
         seqaudit_test_nodes:with_second("spawned there", fun(There) ->

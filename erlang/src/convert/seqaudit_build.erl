@@ -222,9 +222,9 @@ node_of({process, Node, _, _}) -> [Node];
 node_of({first, Process, _}) -> node_of(seqaudit_external:view(Process));
 node_of(_) -> [].
 
-%% A node, to which a request to spawn there goes, is the same whichever node reports it. Another name
-%% without a node is one of the node that reports it. `ttb' writes a process as a triple, in which is
-%% what it is called.
+%% A node, to which a request to spawn there goes, is the same whichever node reports it. Another
+%% name without a node is one of the node that reports it. `ttb' writes a process as a triple, in
+%% which is what it is called.
 party(<<88, _/binary>> = Process, _Part) -> {actor, Process, none};
 party(Bytes, #part{home = Home}) ->
     case seqaudit_external:view(Bytes) of

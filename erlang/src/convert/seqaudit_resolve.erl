@@ -3,10 +3,10 @@
 %% A node reports the `to' of a send as the program wrote it: a process, its alias (the replies of
 %% `gen_server' since OTP 24), a name on another node. Its receive names the process. So a send to
 %% an alias or a name is resolved by the receive with the same from, serial, label and message;
-%% else, for an alias, by the request that handed the alias out. The request to spawn on another node
-%% names the node, as do the arguments, which come right behind it: both go to the process whose
-%% reply has the request's reference. If two processes fit, as after a reset, it isn't known who
-%% received it; then, and if nothing fits, the alias or the name stays a party of its own.
+%% else, for an alias, by the request that handed the alias out. The request to spawn on another
+%% node names the node, as do the arguments, which come right behind it: both go to the process
+%% whose reply has the request's reference. If two processes fit, as after a reset, it isn't known
+%% who received it; then, and if nothing fits, the alias or the name stays a party of its own.
 -module(seqaudit_resolve).
 
 -include("seqaudit_packed.hrl").
