@@ -198,7 +198,7 @@ pub(crate) fn by_processes(trace: &Trace, names: &Names) -> Vec<Durations> {
 }
 
 pub(crate) fn by_kind(trace: &Trace, names: &Names) -> Vec<Durations> {
-    by(trace, names, |event| work::of_brief(&names.brief(event.value)))
+    by(trace, names, |event| work::kind(names, event.value))
 }
 
 /// Returns the time of each label, the slowest first.

@@ -6,6 +6,7 @@
 
 use super::scene::{Place, Scene, Table};
 use crate::causes::Cause;
+use crate::names::Names;
 use gemshowal::{Item, Kind};
 use std::collections::HashMap;
 
@@ -132,12 +133,13 @@ pub(super) fn sent(scene: &Scene<'_>, value: u64) -> String {
     if !scene.names.has_terms() {
         return "send".into();
     }
-    let brief = scene.names.brief(value);
-    match (role(scene, value), brief.split_once(' ')) {
-        (Some(Role::Request(_)), Some((_, inside))) => format!("call {}", sort(inside)),
-        (Some(Role::Reply(_)), Some((_, inside))) => format!("reply {}", sort(inside)),
-        (None, Some(("cast" | "spawn", inside))) => format!("cast {}", sort(inside)),
-        _ => format!("send {}", sort(&brief)),
+    let (way, sort) = way_and_sort(scene.names, value);
+    match (role(scene, value), way) {
+        (Some(Role::Request(_)), _) => format!("call {sort}"),
+        (Some(Role::Reply(_)), _) => format!("reply {sort}"),
+        (None, "cast " | "spawn ") => format!("cast {sort}"),
+        (None, "spawned ") => "send spawned".into(),
+        (None, _) => format!("send {sort}"),
     }
 }
 
@@ -146,25 +148,30 @@ pub(super) fn with_sort(scene: &Scene<'_>, word: &str, value: u64) -> String {
     if !scene.names.has_terms() {
         return word.into();
     }
-    let brief = scene.names.brief(value);
-    format!("{word} {}", sort(way_and_term(&brief).1))
+    format!("{word} {}", way_and_sort(scene.names, value).1)
 }
 
-/// Names the kind of a message by how it is shown: how it is sent, and its sort, as `call order`.
-pub(crate) fn of_brief(brief: &str) -> String {
-    let (way, term) = way_and_term(brief);
-    format!("{way}{}", sort(term))
+/// Names the kind of a message: how it is sent, and its sort, as `call order`.
+pub(crate) fn kind(names: &Names, value: u64) -> String {
+    let (way, sort) = way_and_sort(names, value);
+    way.to_owned() + sort.as_str()
 }
 
-fn way_and_term(brief: &str) -> (&str, &str) {
+/// Returns how a message is sent, if OTP has a form for that, and its sort: that of the term which
+/// it brings, or the module of a spawn.
+fn way_and_sort(names: &Names, value: u64) -> (&'static str, String) {
+    let Some((way, term)) = names.way_and_term(value) else { return ("", "value".into()) };
     let ways = ["call ", "cast ", "reply ", "spawn ", "spawned "];
-    let way = ways.into_iter().find(|way| brief.starts_with(way)).unwrap_or_default();
-    brief.split_at(way.len())
+    let known = ways.into_iter().find(|known| way.starts_with(known)).unwrap_or_default();
+    let sort = sort(if known == "spawn " { &way[known.len()..] } else { term });
+    (known, sort.strip_prefix("Elixir.").unwrap_or(sort).into())
 }
 
-/// Returns the first atom of a term, or the kind of the term if it doesn't begin with one.
+/// Returns the first atom of a term, or the kind of the term if it doesn't begin with one. Labels
+/// are in Elixir's form if the trace's other terms are.
 pub(super) fn sort(term: &str) -> &str {
     let inside = term.strip_prefix('{').unwrap_or(term);
+    let inside = inside.strip_prefix(':').unwrap_or(inside);
     let is_of_atom = |c: char| c.is_alphanumeric() || matches!(c, '_' | '@');
     let end = inside.find(|c| !is_of_atom(c)).unwrap_or(inside.len());
     match inside.chars().next() {

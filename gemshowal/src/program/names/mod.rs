@@ -119,6 +119,13 @@ impl Names {
         self.terms.value(value)
     }
 
+    /// Returns how a message is sent and the term that it brings, as Erlang prints that: `call ` and
+    /// `{take,apple,3}`. The way is empty if OTP has no form for it.
+    pub(crate) fn way_and_term(&self, value: u64) -> Option<(Cow<'static, str>, &str)> {
+        let term = self.terms.value(value)?;
+        Some(brief::brief(term).unwrap_or((Cow::Borrowed(""), term)))
+    }
+
     /// Returns the term of a message without the parts that every call, cast and reply of OTP's
     /// servers has: `call {take,apple,3}`.
     pub(crate) fn brief(&self, value: u64) -> Cow<'_, str> {
