@@ -1,6 +1,6 @@
--- When pairing accepts streams, said of their events two at a time. If any two fit, no rule holds:
--- the least place at which it would hold is one of two events that don't fit. If pairing accepts
--- streams, any two fit; and a receive's send isn't hidden exactly if it is there.
+-- Pairing accepts streams exactly if any two of their events fit, since each rule of pairing looks
+-- at two events at most. And a receive's send is hidden exactly if no stamp of its sender has its
+-- count.
 use Rattle.std.proofs.Common.{[], ◌≡◌, ℕ, Bool, true, false, cond, List, ◌∷◌, Option, Some, None}
 use Rattle.std.proofs.Common.{is_none, is_some, slice_get, refl, sym, ◌∙◌, ap, zero, suc, ◌+◌, ◌<◌}
 use Rattle.std.proofs.Common.{◌==◌, ◌&&◌, ◌||◌, nat_lt, not, subst, arith}
@@ -30,7 +30,7 @@ use Rattle.st_order.specs.Items.{is_hidden}
 
 -- WHO AN EVENT IS FROM
 
--- a stamp is from its own process, and a receive is to it
+-- a stamp is from its own process
 pub stamper : (k : Kind) (from : Pid) (to : Option Pid) (p : Pid)
     → (let b : Bool = elim k [ kind.Send ↦ true | kind.Receive ↦ false | kind.Print ↦ true ] in b)
     ≡ true
@@ -64,7 +64,6 @@ own_at (x ∷ streams) p i e own at =
 
 -- ANY TWO EVENTS
 
--- any two events of these streams fit
 pub record FitTogether (streams : List Stream) : Type 0 where
   pub rises : (p : Pid) (i : ℕ) (e : Event) → event_at streams p i ≡ Some e
       → e.serial.prev < e.serial.this
@@ -79,7 +78,7 @@ pub record FitTogether (streams : List Stream) : Type 0 where
       → event_at streams e.from j ≡ Some f → is_stamp f ≡ true → f.serial.this ≡ e.serial.this
       → agrees f e ≡ true
 
--- so do those of streams that have no other events
+-- events that fit in ys fit in xs too, if xs has no others
 pub fit_as : (xs ys : List Stream) → ((p : Pid) (i : ℕ) (e : Event) → event_at xs p i ≡ Some e
     → event_at ys p i ≡ Some e) → FitTogether ys → FitTogether xs
 fit_as xs ys there fit = record {
@@ -153,7 +152,7 @@ stamp_before_is es (suc i) g h =
           ] refl h
     ] refl h
 
--- a rule that holds if a test fails doesn't hold if it passes
+-- a rule that gives a fault only if its test fails gives none if the test passes
 stands_not : {X : Type 0} (b : Bool) (y x : X) → b ≡ true → cond b None (Some y) ≡ Some x → ⊥
 stands_not true y x is h = none-some x h
 stands_not false y x is h = absurd (false≢true is)
@@ -271,7 +270,7 @@ module _ (streams : List Stream) (ok : IsPaired streams) where
     agree = agree_together;
   }
 
--- whether a receive of this stamp of q, if it is there, is of a hidden send
+-- no stamp was found, so the send is hidden
 abbrev hides : Pid → Option (ℕ × Event) → Bool
 hides q o = elim (source_from q o) [ source.Hidden ↦ true | source.Event p j ↦ false ]
 

@@ -1,5 +1,5 @@
 -- Worked cases of this crate's definitions, computed: all that a run did, the reasons, and
--- renumbered counts. Nothing cites this file; it shows that the definitions say what is meant.
+-- renumbered counts. No proof cites them; they show that the definitions say what is meant.
 use Rattle.std.specs.Prelude.{[], ◌≡◌, Bool, true, false, List, ◌∷◌, ◌++◌, Option, Some}
 use Rattle.std.specs.Prelude.{None}
 use Rattle.std.proofs.Common.{inl, refl, arith}
@@ -20,7 +20,8 @@ use Rattle.lack_laws.specs.Wholes.{wholes_of}
 
 -- ALL THAT A RUN DID
 
--- Two processes send before they receive, and don't report the sends, nor the print before one.
+-- Two processes send before they receive, and report neither the sends nor a print before one of
+-- them.
 abbrev crossing : List Stream
 crossing =
     of a (got 1 0 1 b a 4 ∷ [])
@@ -79,7 +80,8 @@ crossing_wholes = refl
 
 -- REASONS
 
--- A stamp with prev 0 after a receive, one below a count that was received, and a count above TOP.
+-- A stamp with prev 0 after a receive, a stamp below a count that was received, and a count above
+-- TOP.
 abbrev after_receive : Event → List Stream
 after_receive e =
     of a (got 1 0 3 b a 4 ∷ e ∷ [])
@@ -107,7 +109,7 @@ too_high = record { event = got 1 0 3 b a 4; at = refl; holds = refl }
 
 -- RENUMBERING
 
--- great counts, and a process without events
+-- Large counts, and a process without events.
 abbrev high : List Stream
 high =
     of a (

@@ -1,6 +1,6 @@
--- In a run without a reset no stamp with prev 0 comes after a receive, or after a stamp with
--- another prev. In a full completion each stamp goes on from all events before it, so once these
--- leave another prev than 0, each later stamp has another one.
+-- In a full completion each stamp goes on from all events before it, so once these leave another
+-- prev than 0, each later stamp has another one. So in a run without a reset no stamp with prev 0
+-- comes after a receive, or after a stamp with another prev.
 use Rattle.std.proofs.Common.{[], ◌≡◌, inl, inr, ℕ, zero, suc, ◌<◌, true, false, not, cond, List}
 use Rattle.std.proofs.Common.{◌∷◌, ◌++◌, take, Some, slice_get, append-nil, append_assoc, refl, sym}
 use Rattle.std.proofs.Common.{◌∙◌, ap, subst, arith}
@@ -28,8 +28,7 @@ use Rattle.lack_laws.proofs.ToldEvents.{at_mark, told_at, told_there}
 
 -- ALONG A PROCESS
 
--- after those before, each of these events has a count above 0, and each stamp goes on from all
--- before it
+-- each event has a count above 0, and each stamp goes on from all events before it
 abbrev GoAlong : List Event → List Event → Type 0
 GoAlong before [] = Unit {0}
 GoAlong before (e ∷ es) = (0 < e.serial.this) × (is_stamp e ≡ true → GoesOnFrom before e)
@@ -51,7 +50,7 @@ along_from before (d ∷ es) each =
           )),
     )
 
--- these events leave a prev that isn't 0 to the next, and a greatest count that isn't
+-- the events leave a prev above 0, and their greatest count is above 0
 record LeavesSome (es : List Event) : Type 0 where
   left : 0 < prev_after es
   high : 0 < greatest_count es
@@ -141,7 +140,7 @@ module _ (top : ℕ) (wholes : List Whole) (sound : IsStreams (all_streams whole
       let place = told_at (marked_of wholes p) i e (told_there top wholes full p i e at) in
       (place.index, at_mark wholes p place.index (record { event = e; told = true }) place.at)
 
-  -- after a receive
+  -- no stamp with prev 0 comes after a receive
   no_receive : (p : Pid) (i : ℕ) → ¬ IsBehindReceive told p i
   no_receive p i z =
       let ms = marked_of wholes p in
@@ -160,7 +159,7 @@ module _ (top : ℕ) (wholes : List Whole) (sound : IsStreams (all_streams whole
       (at_mark wholes p place.index (record { event = z.event; told = true }) place.at) z.stamps in
       absurd (omega (arith, z.is_zero))
 
-  -- each event tells of a stamp of the process that it is from
+  -- an event tells of a stamp of the process that it is from
   pub record Tells (e : Event) : Type 0 where
     pub stamp : HasStamp all e.from e.serial.this
     pub prev : stamp.event.serial.prev ≡ e.serial.prev
@@ -188,7 +187,7 @@ module _ (top : ℕ) (wholes : List Whole) (sound : IsStreams (all_streams whole
         }
   ] refl
 
-  -- after a stamp with another prev
+  -- no stamp with prev 0 comes after a stamp with another prev
   no_stamp : (p : Pid) (i : ℕ) → ¬ IsZeroBehind told p i
   no_stamp p i z =
       let later_at = in_all p i z.event z.at in

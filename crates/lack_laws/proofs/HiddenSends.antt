@@ -1,6 +1,6 @@
--- Each receive gets its send. A send that nobody reported comes right after the last stamp of a
--- lower count, or before all events of its process. So it is in turn with the other stamps, and if
--- its prev is 0, all that is before it are stamps with prev 0.
+-- Each receive can get its send: a hidden send goes right after the last stamp of its process with
+-- a lower count, or before all events of its process. So stamps stay in turn, and if the send's
+-- prev is 0, all events before it are stamps with prev 0.
 use Rattle.std.proofs.Common.{[], ◌≡◌, ◌≢◌, ◌⊎◌, inl, inr, ℕ, zero, suc, ◌<◌, ◌≤◌, ◌&&◌, nat_lt}
 use Rattle.std.proofs.Common.{Bool, true, false, List, ◌∷◌, ◌++◌, map, length, Option, Some, None}
 use Rattle.std.proofs.Common.{cond, is_some, slice_get, refl, sym, ◌∙◌, ap, subst, arith}
@@ -30,7 +30,7 @@ use Rattle.lack_laws.proofs.ToldEvents.{put, put_more, put_told}
 
 -- THE PLACE
 
--- event `index` is a stamp with a count below v, and k is the next index
+-- event k - 1 is a stamp with a count below v
 pub record IsLastBelow (v : ℕ) (es : List Event) (k : ℕ) : Type 0 where
   pub index : ℕ
   pub next : k ≡ suc index
@@ -43,7 +43,7 @@ pub IsAbove : ℕ → List Event → ℕ → Type 0
 IsAbove v es k = (j : ℕ) (d : Event) → k ≤ j → slice_get es j ≡ Some d → is_stamp d ≡ true
     → v ≤ d.serial.this
 
--- where a send of count v goes among these events
+-- a place among these events for a send of count v
 pub record IsSendPlace (v : ℕ) (es : List Event) : Type 0 where
   pub index : ℕ
   pub inside : index ≤ length es
@@ -248,7 +248,7 @@ pub record IsEvent (streams : List Stream) (e : Event) : Type 0 where
   pub index : ℕ
   pub at : event_at streams pid index ≡ Some e
 
--- the whole streams with sends for the receives among these events
+-- whole streams to which the sends of these receives were added
 pub record HasSends (top : ℕ) (wholes : List Whole) (es : List Event) : Type 0 where
   pub all : List Whole
   pub told : told_streams all ≡ told_streams wholes
@@ -281,7 +281,7 @@ module _ (top : ℕ) where
     sent = (λ receives. has.stay e.from e.serial.this (here receives), has.sent);
   }
 
-  -- the send of this one is put in, and then those of the others
+  -- the send of e is put in first, and those of the other receives after it
   send_first : (wholes : List Whole) (e : Event) (es : List Event)
       → (good : IsOpen top (all_streams wholes))
       → AllByRecursion (IsEvent (all_streams wholes)) (e ∷ es) → is_stamp e ≡ false
@@ -373,7 +373,7 @@ of_each P (x ∷ rest) all e p i at =
       | false ↦ λ at. of_each P rest (all_right P x.events (events_in_all rest) all) e p i at
     ] at
 
--- whole streams of which the streams are told, and each receive has its send
+-- whole streams whose told events are the streams, and in which each receive has its send
 pub record IsSent (top : ℕ) (streams : List Stream) : Type 0 where
   pub wholes : List Whole
   pub told : told_streams wholes ≡ streams

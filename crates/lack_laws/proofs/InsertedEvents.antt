@@ -1,6 +1,6 @@
--- An untold event can be put into streams where it fits: any two events of the longer streams fit
--- together, since each of them stood there before or is the new one. They are streams still, if its
--- process may report it among all of them.
+-- An untold event can be put into streams if it fits: any two events of the longer streams then
+-- fit, since each of them was there before or is the new one. They stay streams if its process may
+-- report the event among their pids.
 use Rattle.std.proofs.Common.{[], ◌≡◌, ℕ, zero, suc, ◌+◌, ◌<◌, ◌≤◌, ◌⊎◌, Bool, true, false, cond}
 use Rattle.std.proofs.Common.{List, ◌∷◌, ◌++◌, map, take, drop, length, Some, None, is_some, inl}
 use Rattle.std.proofs.Common.{inr, ◌-◌, min, slice_get, refl, sym, ◌∙◌, ap, subst, arith}
@@ -24,7 +24,7 @@ use Rattle.lack_laws.proofs.AcceptedStreams.{FitTogether, own_at}
 
 -- THE STREAMS WITH IT
 
--- the streams with the event before event i of p
+-- the streams with r put before event i of p
 abbrev pub more : Pid → ℕ → Event → List Stream → List Stream
 more p i r streams = map (λ x. record {
   pid = x.pid;
@@ -36,7 +36,7 @@ pub with_pids : (p : Pid) (i : ℕ) (r : Event) (streams : List Stream)
 with_pids p i r [] = refl
 with_pids p i r (x ∷ streams) = ap (λ ps. x.pid ∷ ps) (with_pids p i r streams)
 
--- then p has the event, and each other process has the events that it had
+-- p has r among its events, and each other process has its old events
 pub own_with : (p : Pid) (i : ℕ) (r : Event) (streams : List Stream) → lists streams p ≡ true
     → events_of (more p i r streams) p
     ≡ take i (events_of streams p) ++ r ∷ drop i (events_of streams p)
@@ -85,7 +85,7 @@ listed_with p i r streams q k e at =
 
 -- PLACES
 
--- where event m is then: one further if it isn't before place i of the process that has it
+-- event m is at k after the insertion at i; b says whether the new event is in its process
 abbrev pub IsMoved : Bool → ℕ → ℕ → ℕ → Type 0
 IsMoved false i m k = k ≡ m
 IsMoved true i m k = k ≡ m + min 1 (suc m - i)
@@ -104,7 +104,7 @@ moved_after i m k x less = omega arith
 moved_before : (i m k : ℕ) → IsMoved true i m k → k < i → m < i
 moved_before i m k x less = omega arith
 
--- event k is this one, and was so at this place
+-- event k of the longer stream was there before, at `index`
 pub record IsOld (es : List Event) (b : Bool) (i k : ℕ) (e : Event) : Type 0 where
   pub index : ℕ
   pub at : slice_get es index ≡ Some e
@@ -153,7 +153,7 @@ module _ (p : Pid) (i : ℕ) (r : Event) (streams : List Stream) where
   abbrev longer : List Stream
   longer = more p i r streams
 
-  -- an event of the longer streams is the new one or an old one
+  -- each event of the longer streams is new or old
   pub is_placed : i ≤ length (events_of streams p) → (q : Pid) (k : ℕ) (e : Event)
       → event_at longer q k ≡ Some e
       → ((q ≡ p) × IsNew i r k e) ⊎ IsOld (events_of streams q) (pid_eq q p) i k e
@@ -201,8 +201,8 @@ module _ (p : Pid) (i : ℕ) (r : Event) (streams : List Stream) where
 
 module _ (p : Pid) (i : ℕ) (r : Event) (streams : List Stream)
     (within : i ≤ length (events_of streams p)) where
-  -- a relation holds of any two events of a process in turn, if it held of the old ones, and holds
-  -- of the new one and each of its process
+  -- a relation of any two events in turn holds with the new event if it held before, and holds
+  -- between the new event and each of its process
   pub in_turn_with : (R : Event → Event → Type 0)
       → ((q : Pid) (j k : ℕ) (d e : Event) → j < k → event_at streams q j ≡ Some d
       → event_at streams q k ≡ Some e → R d e)
@@ -234,7 +234,8 @@ module _ (p : Pid) (i : ℕ) (r : Event) (streams : List Stream)
         ]
       ]
 
-  -- and the same of any two events
+  -- a relation of any two events holds with the new event if it held before, and holds between the
+  -- new event and each one
   pub any_two_with : (R : Event → Event → Type 0)
       → ((q x : Pid) (j k : ℕ) (d e : Event) → event_at streams q j ≡ Some d
       → event_at streams x k ≡ Some e → R d e)
@@ -253,8 +254,9 @@ module _ (p : Pid) (i : ℕ) (r : Event) (streams : List Stream)
         ]
       ]
 
--- an event that fits among those of p if it is in turn: its serial rises; a receive of its
--- message agrees with it; a receive is the first of its message, and agrees with its sender's stamp
+-- the event fits in the streams if it is in turn: its serial rises; each receive of its message
+-- agrees with it; and if it is a receive, it is the only one of its message and agrees with the
+-- sender's stamp
 pub record FitsIn (streams : List Stream) (p : Pid) (r : Event) : Type 0 where
   pub rises : r.serial.prev < r.serial.this
   pub taken : is_stamp r ≡ true → (q : Pid) (j : ℕ) (e : Event) → event_at streams q j ≡ Some e
@@ -271,7 +273,7 @@ module _ (p : Pid) (i : ℕ) (r : Event) (streams : List Stream)
       → ((q ≡ p) × IsNew i r k e) ⊎ IsOld (events_of streams q) (pid_eq q p) i k e
   is = is_placed p i r streams within
 
-  -- one receive of each message
+  -- each message is still received once
   once_with : (q x : Pid) (j k : ℕ) (d e : Event) → event_at (more p i r streams) q j ≡ Some d
       → event_at (more p i r streams) x k ≡ Some e → is_stamp d ≡ false → is_stamp e ≡ false
       → d.from ≡ e.from → d.serial.this ≡ e.serial.this → (q ≡ x) × (j ≡ k)
@@ -298,7 +300,7 @@ module _ (p : Pid) (i : ℕ) (r : Event) (streams : List Stream)
     ]
   ]
 
-  -- each receive agrees with its sender's stamp
+  -- each receive still agrees with its sender's stamp
   agree_with : (q : Pid) (k j : ℕ) (e f : Event) → event_at (more p i r streams) q k ≡ Some e
       → is_stamp e ≡ false → event_at (more p i r streams) e.from j ≡ Some f → is_stamp f ≡ true
       → f.serial.this ≡ e.serial.this → agrees f e ≡ true
@@ -323,7 +325,7 @@ module _ (p : Pid) (i : ℕ) (r : Event) (streams : List Stream)
     ]
   ]
 
-  -- if the stamps of each process are in turn
+  -- any two events still fit if the stamps of each process are in turn
   pub fit_with : ((q : Pid) (j k : ℕ) (d e : Event) → j < k
       → event_at (more p i r streams) q j ≡ Some d → event_at (more p i r streams) q k ≡ Some e
       → is_stamp d ≡ true → is_stamp e ≡ true → d.serial.this < e.serial.this)

@@ -1,4 +1,4 @@
--- The lemmas; what upper crates may cite is in `ForCallers`.
+-- The lemmas; `ForCallers` has those that crates above may cite.
 pub mod LoudActs
 pub mod LoudRuns
 pub mod RunCompletions
@@ -9,7 +9,8 @@ pub mod ToldEvents
 pub mod Renumbering
 pub mod Ranks
 mod Cases
--- With processes that a trace doesn't list; the laws in `src/open_world.rt` say the main ones.
+-- The lemmas on processes that a trace doesn't list; the laws in `src/open_world.rt` say the main
+-- ones.
 pub mod SilentStreams
 pub mod FinalZeros
 pub mod OpenStreams

@@ -1,5 +1,5 @@
--- A process's act does the same if it is traced and all flags are set, and then it reports its
--- event: no act looks at the tracer or a flag but to report.
+-- An act does the same if its process is traced and all flags are set, since acts look at the
+-- tracer and the flags only to report; so the act then reports its event.
 use Rattle.std.proofs.Common.{◌≡◌, ℕ, ◌+◌, ◌&&◌, zero, suc, Bool, true, false, cond, nat_lt, List}
 use Rattle.std.proofs.Common.{[], ◌∷◌, ◌++◌, map, Option, Some, None, is_some, IsSome, option_map}
 use Rattle.std.proofs.Common.{option_and_then, refl, sym, ◌∙◌, ap, subst}
@@ -150,13 +150,14 @@ remove_loud (m ∷ ms) (suc k) = ap (λ xs. loud_message m ∷ xs) (remove_loud 
 
 -- THE ACTOR'S PART
 
--- the act that does the same to what is traced with all flags set
+-- the act that does to loud processes what the act did: it restores a loud token, and turns no
+-- tracer off
 abbrev pub louder : Act → Act
 louder (act.Restore p t) = act.Restore p (loud_token t)
 louder (act.Tracer p b) = act.Tracer p true
 louder a = a
 
--- the part of that act: it makes the same of the process, and reports the event
+-- the louder act does the same to the loud process, and reports the event
 pub record IsLouder (top : ℕ) (r : Process) (a : Act) (done : Acted) : Type 0 where
   pub part : Acted
   pub is_part : acted top (loud r) (louder a) ≡ Some part
@@ -166,7 +167,7 @@ pub record IsLouder (top : ℕ) (r : Process) (a : Act) (done : Acted) : Type 0 
   pub agrees : (e : Event) → done.report ≡ Some e → part.report ≡ Some e
   pub moves : moves_token (loud r) (louder a) ≡ true → IsSome part.report
 
--- the act is a set, of which the machine makes a token without flags
+-- the act is a set, after which the machine makes a token without flags
 abbrev pub is_set : Act → Bool
 is_set (act.Set p c) = true
 is_set a = false
@@ -177,7 +178,7 @@ report_of done = done.report
 module _ (top : ℕ) (a : Act) (r : Process) (was part done : Acted) (is : was ≡ done)
     (acts : acted top (loud r) (louder a) ≡ Some part) (local : part.local ≡ loud_local was.local)
     (queue : part.queue ≡ map loud_message was.queue) (event : event_by top r a ≡ part.report) where
-  -- it reports what it did if it reported anything
+  -- the louder act reports what the act reported, if it reported anything
   told_louder : (k : Kind) (token : Option Token) (to : Option Pid) (v : ℕ)
       → was.report ≡ report r.local.traced k token to v
       → part.report ≡ report true k (option_map loud_token token) to v
@@ -194,7 +195,7 @@ module _ (top : ℕ) (a : Act) (r : Process) (was part done : Acted) (is : was �
         ap (λ (o : Option Event). is_some o) tells ∙ report_some k token to v (had moves);
   })
 
-  -- so does an act that reports nothing, and moves no token
+  -- the louder act does the same if the act reports nothing and moves no token
   quiet_louder : was.report ≡ None → moves_token (loud r) (louder a) ≡ false → IsLouder top r a done
   quiet_louder silent still = subst (IsLouder top r a) is (record {
     part = part;
@@ -211,7 +212,7 @@ had_token : (token : Option Token) → is_some (option_map loud_token token) ≡
 had_token None h = h
 had_token (Some t) h = h
 
--- whether a receive moves a token
+-- the receive takes a message with a token
 abbrev moved : Option (ℕ × Message) → Bool
 moved found = option_map_or (λ (x : ℕ × Message). is_some x.1.token) found false
 
@@ -336,7 +337,7 @@ reached_loud (act.Tracer p b) token r plain =
     ]
 reached_loud a token r plain = refl
 
--- the act makes of each process what it made of it before
+-- the louder act makes of each loud process what the act made of the process
 pub changed_loud : (top : ℕ) (r : Process) (a : Act) (done : Acted)
     (louder_is : IsLouder top r a done)
     → is_reset a ≡ false → (x : Process) → changed (louder a) louder_is.part (loud x)

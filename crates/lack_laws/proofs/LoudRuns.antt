@@ -1,5 +1,5 @@
--- To each run there is one in which all processes are traced with all flags set: the same acts do
--- the same, a set makes its token with all flags at once, and each process reports all its events.
+-- Each run has a loud one, in which all processes are traced with all flags set and report all
+-- their events: the same acts do the same, but a set is followed by a restore that sets all flags.
 use Rattle.std.proofs.Common.{◌≡◌, ℕ, ◌⊎◌, Bool, true, false, cond, List, [], ◌∷◌, ◌++◌, map}
 use Rattle.std.proofs.Common.{Option, Some, None, is_some, option_map, option_and_then}
 use Rattle.std.proofs.Common.{option_to_list, inl, inr, append-nil, refl, sym, ◌∙◌, ap, subst}
@@ -32,7 +32,7 @@ use Rattle.lack_laws.specs.Wholes.{whole_from}
 use Rattle.lack_laws.proofs.LoudActs.{acted_louder, changed_loud, is_set, IsLouder, louder}
 use Rattle.lack_laws.proofs.LoudActs.{louder_actor, louder_plain, louder_receiver, report_of}
 
--- the processes of the first state, traced, with all flags set
+-- t is s with each process loud
 abbrev pub IsLoud : State → State → Type 0
 IsLoud s t = (x : Pid) → process t x ≡ option_map loud (process s x)
 
@@ -121,7 +121,6 @@ set_loud : (p : Pid) (c : Component) (token : Option Token) (clock last : ℕ) (
 set_loud p c None clock last traced = refl
 set_loud p c (Some t) clock last traced = refl
 
--- acts that move no token have nothing to report
 abbrev Stays : Act → Type 0
 Stays a = (r : Process) → moves_token r a ≡ false
 
@@ -236,7 +235,7 @@ step_agrees top s a o h e reported =
 
 -- RUNS
 
--- a run from t that does what these acts do from s, and reports all their events
+-- a run from t that does what the acts do from s, and reports all their events
 pub record AreHeard (top : ℕ) (s t : State) (acts : List Act) (os : List Outcome) : Type 0 where
   pub heard : List Act
   pub outcomes : List Outcome
@@ -302,7 +301,7 @@ are_heard top s t (a ∷ acts) os h none is =
           (sym x.is_whole);
     }
 
--- the told events are those that are reported
+-- the told events of two joined lists are those of the first and then those of the second
 pub told_append : (xs ys : List Marked) → told_events (xs ++ ys) ≡ told_events xs ++ told_events ys
 told_append [] ys = refl
 told_append (m ∷ xs) ys =

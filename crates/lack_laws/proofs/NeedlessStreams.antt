@@ -1,5 +1,6 @@
--- Streams without a need are settled: if each stamp is above the events of its process before it,
--- the order keeps these in turn, so that the counts at each move are those of the events before it.
+-- Streams in which nothing is needed are settled: each stamp is above the events of its process
+-- before it, so the order keeps them in turn, and the counts at each move are those of the events
+-- before it.
 use Rattle.std.proofs.Common.{[], ◌≡◌, ◌↔◌, ℕ, ◌<◌, ◌⊎◌, ◌==◌, inl, inr, ◌&&◌, nat_lt, Bool, true}
 use Rattle.std.proofs.Common.{false, not, List, ◌∷◌, ◌++◌, take, map, reverse, refl, sym, ◌∙◌, ap}
 use Rattle.std.proofs.Common.{subst, arith}
@@ -28,7 +29,7 @@ use Rattle.lack_laws.specs.Needs.{HoldsOfNone, is_late, is_need}
 use Rattle.lack_laws.proofs.RunCompletions.{settled_shown, shown_full}
 use Rattle.lack_laws.proofs.ToldEvents.{events, streams_by}
 
--- a stamp that isn't late is above the greatest count
+-- a stamp that isn't late is above the greatest count before it
 pub above_if : (stamp less : Bool) → stamp ≡ true → (stamp && not less) ≡ false → less ≡ true
 above_if true true is h = refl
 above_if true false is h = absurd (false≢true (sym h))
@@ -129,7 +130,7 @@ full_needless top streams full = record {
   within = full.within;
 }
 
--- so runs without a reset are needless completions
+-- streams have a run without a reset exactly if they have a completion in which nothing is needed
 pub exactly_needless : (top : ℕ) (streams : List Stream) → IsRising (pids_of streams)
     → IsShownInOneTrace top streams ↔ IsCompleted IsNeedless top streams
 exactly_needless top streams rising = (
@@ -175,7 +176,7 @@ told_same = marks_same told_events all_told
 pub all_same : (streams : List Stream) → all_streams (map marks_all streams) ≡ streams
 all_same = marks_same events all_there
 
--- streams that are so are a completion of themselves
+-- streams with a property are their own completion with it
 pub own_completion : (Is : ℕ → List Stream → Type 0) (top : ℕ) (streams : List Stream)
     → IsStreams streams → Is top streams → IsCompleted Is top streams
 own_completion Is top streams sound is = record {

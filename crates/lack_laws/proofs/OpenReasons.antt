@@ -1,7 +1,7 @@
--- The reasons decide. If one holds it is final, with any processes that report nothing, since it
--- would hold of the streams of a run. If none holds, streams have a completion with enough such
--- processes: each receive gets its send, and then each stamp that needs a receive gets one from a
--- process of its own.
+-- The reasons decide. A reason that holds is final: with any processes that report nothing it
+-- would hold of the streams of a run. If none holds, the streams have a completion with enough
+-- such processes: each receive gets its send, and then each stamp that needs a receive gets one
+-- from a process of its own.
 use Rattle.std.proofs.Common.{[], ◌≡◌, inl, inr, ℕ, zero, suc, ◌<◌, ◌||◌, true, false, List, ◌∷◌}
 use Rattle.std.proofs.Common.{take, Some, slice_get, refl, sym, ◌∙◌, ap, arith, ◌↔◌, cond, None}
 use Rattle.std.proofs.Common.{subst}
@@ -62,7 +62,7 @@ module _ (top : ℕ) (streams : List Stream) (sound : IsStreams streams)
         behind = less;
       })))
 
-  -- nor is one of a lower count with another prev told of
+  -- no event tells of a stamp of the same process with a lower count and another prev
   unfounded : (p q : Pid) (i j : ℕ) (f e : Event) → event_at streams p i ≡ Some f
       → event_at streams q j ≡ Some e → (is_stamp e || is_hidden streams e) ≡ true
       → e.serial.prev ≡ 0 → f.from ≡ e.from → f.serial.this < e.serial.this → 0 < f.serial.prev → ⊥
@@ -83,7 +83,7 @@ module _ (top : ℕ) (streams : List Stream) (sound : IsStreams streams)
         tells = tells;
       }))
 
-  -- if the event is the receive of a reported send, that send tells of it
+  -- a receive of a reported send is no exception: its send has prev 0 too
   never : (p q : Pid) (i j : ℕ) (f e : Event) → event_at streams p i ≡ Some f
       → event_at streams q j ≡ Some e → e.serial.prev ≡ 0 → f.from ≡ e.from
       → f.serial.this < e.serial.this → 0 < f.serial.prev → ⊥
@@ -234,7 +234,7 @@ module _ (streams : List Stream) (sound : IsStreams streams) (others : List Pid)
     tells = ap (λ b. is_stamp t.zero.event || b) (is_hidden_as t.zero.event) ∙ t.tells;
   })
 
-  -- so no reason holds without the others
+  -- no reason holds without the others if none holds with them
   none_without : (top : ℕ) → HasNoOpenReason top more → HasNoOpenReason top streams
   none_without top none = record {
     accepted = accepted_if streams sound.draft.rising

@@ -1,5 +1,5 @@
--- Streams against which no reason stands, said of their events two at a time. So they stay if one
--- more event is put in where it fits, and if a process that reports nothing is listed.
+-- Each reason, but for a count above TOP, compares two events. So no reason holds after an event
+-- is put in that goes with each other event, or a process is listed that reports nothing.
 use Rattle.std.proofs.Common.{◌≡◌, ℕ, ◌<◌, ◌≤◌, true, false, List, Some, length, slice_get, inl}
 use Rattle.std.proofs.Common.{inr, sym, ◌∙◌, ap, subst, arith}
 use Rattle.st_core.specs.declared.types.Pid.{Pid}
@@ -14,14 +14,14 @@ use Rattle.lack_laws.proofs.InsertedEvents.{any_two_with, fit_with, FitsIn, in_t
 use Rattle.lack_laws.proofs.InsertedEvents.{more, stays, sound_with}
 use Rattle.lack_laws.proofs.SilentStreams.{events_inserted, streams_inserted}
 
--- e comes after d in its process: if e is a stamp, it is above d; and if it has prev 0, d is none
--- of the receives
+-- if e, later in its process than d, is a stamp, its count is above that of d; and if its prev is
+-- 0, d is a stamp
 abbrev pub Leads : Event → Event → Type 0
 Leads d e = is_stamp e ≡ true
     → (d.serial.this < e.serial.this) × (e.serial.prev ≡ 0 → is_stamp d ≡ true)
 
--- if e tells of a stamp with prev 0, and d of one of its process with a lower count, that one has
--- prev 0
+-- if e tells of a stamp with prev 0, and d of a stamp of its process with a lower count, that one
+-- has prev 0 too
 abbrev pub Roots : Event → Event → Type 0
 Roots d e = e.serial.prev ≡ 0 → d.from ≡ e.from → d.serial.this < e.serial.this
     → d.serial.prev ≡ 0
@@ -42,7 +42,7 @@ AreSent streams = (p : Pid) (i : ℕ) (e : Event) → event_at streams p i ≡ S
 
 -- WITH ONE MORE EVENT
 
--- the event fits before event i of p, and no reason stands against the streams with it
+-- the event fits before event i of p, and no reason holds of the streams with it
 pub record CanJoin (top : ℕ) (streams : List Stream) (p : Pid) (i : ℕ) (r : Event) : Type 0 where
   pub inside : i ≤ length (events_of streams p)
   pub report : IsReportAmong (pids_of streams) p r

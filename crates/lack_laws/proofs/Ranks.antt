@@ -1,6 +1,6 @@
--- The counts of streams are in a rising list that begins with 0. The rank of one of them is its
--- place there, and what is at that place is the count again; and a later place has a greater
--- count. So streams are their renumbered streams with the counts put back, in order.
+-- The counts of streams make a rising list that begins with 0, in which the rank of a count is its
+-- place. So what is at the place of a count's rank is the count itself, and counts keep their
+-- order.
 use Rattle.std.proofs.Common.{◌≡◌, ℕ, ◌+◌, zero, suc, ◌<◌, ◌≤◌, ◌⊎◌, inl, inr, nat_lt, true, false}
 use Rattle.std.proofs.Common.{cond, List, [], ◌∷◌, map, refl, sym, ◌∙◌, ap, subst, arith}
 use Rattle.std.specs.List.{AllByRecursion}
@@ -18,7 +18,7 @@ use Rattle.lack_laws.proofs.Renumbering.{pids_with, shown_with}
 abbrev pub AllAbove : ℕ → List ℕ → Type 0
 AllAbove b cs = AllByRecursion (λ c. b < c) cs
 
--- each is above all before it
+-- each count is below all after it
 abbrev pub Climbs : List ℕ → Type 0
 Climbs [] = Unit {0}
 Climbs (c ∷ cs) = AllAbove c cs × Climbs cs
@@ -33,7 +33,7 @@ pub above_lower : (b c : ℕ) (ds : List ℕ) → b < c → AllAbove c ds → Al
 above_lower b c [] low all = all
 above_lower b c (d ∷ ds) low all = (let high = all.0 in omega arith, above_lower b c ds low all.1)
 
--- a count comes before the first one, or among those after it, or is that one
+-- a count goes before the first one, or among those after it, or is the first one
 pub insert_by : (P : List ℕ → Type 0) (c d : ℕ) (ds : List ℕ) → (c < d → P (c ∷ d ∷ ds))
     → (d < c → P (d ∷ insert_count c ds)) → (c ≡ d → P (d ∷ ds)) → P (insert_count c (d ∷ ds))
 insert_by P c d ds before later here =
@@ -72,7 +72,7 @@ insert_keeps b c (d ∷ ds) here = insert_by (IsIn b) c d ds (λ _. inr here)
 
 -- THE COUNTS OF STREAMS
 
--- they rise, and begin with 0
+-- the counts rise, and begin with 0
 record AreCounts (cs : List ℕ) : Type 0 where
   rest : List ℕ
   is : cs ≡ 0 ∷ rest
@@ -112,7 +112,6 @@ kept_by_all b (e ∷ es) cs here =
     insert_keeps b e.serial.prev (insert_count e.serial.this (insert_counts es cs))
     (insert_keeps b e.serial.this (insert_counts es cs) (kept_by_all b es cs here))
 
--- both counts of the event are among these
 abbrev AreIn : List ℕ → Event → Type 0
 AreIn cs e = IsIn e.serial.prev cs × IsIn e.serial.this cs
 
@@ -241,7 +240,7 @@ counts_put_back streams =
     streams_back (counts_of streams) (counts_climb streams) streams
     (all_in (counts_of streams) streams (λ c here. here))
 
--- A greater TOP
+-- streams that are shown at one TOP are shown at a greater one
 pub shown_higher : (top high : ℕ) (streams : List Stream) → IsRising (pids_of streams) → top ≤ high
     → IsShownInOneTrace top streams → IsShownInOneTrace high streams
 shown_higher top high streams rising le shown =

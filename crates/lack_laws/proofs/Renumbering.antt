@@ -1,7 +1,7 @@
--- Streams in which nothing is needed stay such streams if their counts are replaced in order: a map
--- that keeps the order leaves each test of one count against another, and pairing, late stamps and
--- needs compare counts alone. So once its counts are put back, a completion of renumbered streams
--- is one of the streams themselves, and a run of the ones gives a run of the others.
+-- Streams in which nothing is needed stay so if their counts are replaced in order: pairing, late
+-- stamps and needs only compare counts, and a map that keeps the order leaves each comparison as
+-- it was. So a completion of renumbered streams becomes one of the streams when its counts are put
+-- back.
 use Rattle.std.proofs.Common.{[], ◌≡◌, ℕ, ◌≤◌, ◌==◌, ◌&&◌, max, nat_lt, true, false, not, List, ◌∷◌}
 use Rattle.std.proofs.Common.{map, refl, sym, ◌∙◌, ap, arith, cond, Option, Some, None, slice_get}
 use Rattle.std.proofs.Common.{option_map, subst, ◌<◌, Bool, take, inl, inr}
@@ -309,7 +309,7 @@ module _ (f : ℕ → ℕ) (keeps : KeepsOrder f) (streams : List Stream) where
   before_same p i = ap (take i) (events_with f streams p)
       ∙ take-map (event_with f) i (events_of streams p)
 
-  -- a test that sees the order of counts alone holds of no event still
+  -- a test that sees only the order of counts still holds of no event
   none_kept : (test : List Event → Event → Bool)
       → ((es : List Event) (e : Event) → test (map (event_with f) es) (event_with f e)
       ≡ test es e) → HoldsOfNone test streams → HoldsOfNone test (with_counts f streams)

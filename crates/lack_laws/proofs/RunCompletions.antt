@@ -1,6 +1,6 @@
--- Each run without a reset has a full completion: after a tracer on each node the loud run begins,
--- and its streams are all the run's events, of which the run's streams are told. A full completion
--- is settled, and a settled one is shown by acts that report what is told of it.
+-- Each run without a reset has a full completion: with a tracer on each node first, the loud run
+-- reports all the run's events, and its told events are the run's streams. A full completion is
+-- settled, and acts that report what a settled one tells show the streams.
 use Rattle.std.proofs.Common.{◌≡◌, ℕ, ◌==◌, suc, Bool, true, false, cond, List, [], ◌∷◌, ◌++◌}
 use Rattle.std.proofs.Common.{map, Option, Some, None, is_some, option_map, get_or, refl, sym, ◌∙◌}
 use Rattle.std.proofs.Common.{ap, subst, ◌↔◌}

@@ -1,6 +1,6 @@
--- Each stamp that needs a receive gets a process of its own that reported nothing: this process
--- sends one message, whose count is the stamp's prev, and the message is received right before the
--- stamp. Events are gone through in turn, process after process, until nothing is needed.
+-- Each stamp that needs a receive gets one from a process of its own, which reported nothing and
+-- sends one message, whose count is the stamp's prev; its receive goes right before the stamp. The
+-- events of each process are gone through in turn until nothing is needed.
 use Rattle.std.proofs.Common.{[], Bool, ◌≡◌, inl, inr, ℕ, zero, suc, ◌<◌, ◌≤◌, ◌==◌, ◌&&◌, ◌||◌}
 use Rattle.std.proofs.Common.{nat_lt, true, false, not, cond, List, ◌∷◌, ◌++◌, map, take, drop}
 use Rattle.std.proofs.Common.{length, Some, slice_get, append-nil, append_assoc, refl, sym, ◌∙◌, ap}
@@ -144,7 +144,7 @@ module _ (top : ℕ) (streams : List Stream) (good : IsOpen top streams) (p : Pi
   inside : i ≤ length (events_of sent p)
   inside = let less = slice_get_within (events_of sent p) i e at_sent in omega arith
 
-  -- after the need each stamp is higher, and has another prev than 0
+  -- each stamp after the need has a higher count, and another prev than 0
   ahead : (j : ℕ) (d : Event) → i ≤ j → event_at sent p j ≡ Some d → Leads receive d
   ahead j d less at_d stamps_d =
       let rise = good.fit.rises p i e at in
@@ -220,7 +220,7 @@ module _ (top : ℕ) (streams : List Stream) (good : IsOpen top streams) (p : Pi
       own_with p i receive sent p_sent
       ∙ ap (λ es. take i es ++ receive ∷ drop i es) (others_sent p apart)
 
-  -- another process has the events that it had, or it is the new one
+  -- each other process has its old events, or is the new one
   pub kept : (P : List Event → Type 0) → P (send ∷ []) → (q : Pid) → pid_eq q p ≡ false
       → P (events_of streams q) → P (events_of fed q)
   kept P new q other before = subst P (sym (others_with p i receive sent q other))
@@ -234,7 +234,7 @@ module _ (top : ℕ) (streams : List Stream) (good : IsOpen top streams) (p : Pi
 
 -- WHAT EVENTS NEED
 
--- none of these events, after those before, is a need
+-- none of the events is a need, given those before it
 abbrev pub AreCaused : List Event → List Event → Type 0
 AreCaused before [] = Unit {0}
 AreCaused before (e ∷ es) = (is_need before e ≡ false) × AreCaused (before ++ e ∷ []) es
@@ -269,7 +269,7 @@ both_false : (a b : Bool) → (a && (false && b)) ≡ false
 both_false true b = refl
 both_false false b = refl
 
--- a receive of its prev right before it meets a need
+-- a need is met by a receive with its prev as count right before it
 caused_fed : (front : List Event) (r e : Event) → is_stamp r ≡ false
     → r.serial.this ≡ e.serial.prev → AreCaused [] front → AreCaused [] (front ++ r ∷ e ∷ [])
 caused_fed front r e receives count caused =
@@ -304,7 +304,7 @@ pub at_seam : {A : Type 0} (front rest : List A) (e : A)
 at_seam [] rest e = refl
 at_seam (d ∷ front) rest e = at_seam front rest e
 
--- so no need has prev 0
+-- no need has prev 0
 need_above : (top : ℕ) (streams : List Stream) → IsOpen top streams → (p : Pid)
     → (front rest : List Event) (e : Event) → events_of streams p ≡ front ++ e ∷ rest
     → is_need front e ≡ true → 0 < e.serial.prev
@@ -339,7 +339,7 @@ need_above top streams good p front rest e is need =
 
 -- ALL NEEDS
 
--- whole streams of which the streams are told, with some processes that report nothing
+-- whole streams whose told events are the streams with some processes that report nothing
 pub record IsGrown (top : ℕ) (streams : List Stream) : Type 0 where
   pub others : List Pid
   pub wholes : List Whole
@@ -351,7 +351,7 @@ module _ (top : ℕ) (streams : List Stream) where
   abbrev events_in : IsGrown top streams → Pid → List Event
   events_in grown p = events_of (all_streams grown.wholes) p
 
-  -- with the receive that this event of p needs
+  -- whole streams with the receive that e needs right before it
   record IsFed (grown : IsGrown top streams) (p : Pid) (front rest : List Event)
       (e : Event) : Type 0 where
     next : IsGrown top streams
@@ -416,7 +416,7 @@ module _ (top : ℕ) (streams : List Stream) where
             other caused);
       }
 
-  -- with all receives that p needs
+  -- whole streams with all receives that p needs
   record IsServed (grown : IsGrown top streams) (p : Pid) : Type 0 where
     next : IsGrown top streams
     caused : AreCaused [] (events_in next p)

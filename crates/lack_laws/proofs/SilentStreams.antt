@@ -1,5 +1,5 @@
--- A process without events, put in by its pid, leaves the streams of all others as they are, and
--- streams stay streams. There always is a pid for one more.
+-- A process without events, put in by its pid, leaves the events of all others as they are; so
+-- streams stay streams. There always is a pid for one more process.
 use Rattle.std.proofs.Common.{[], ◌≡◌, ℕ, suc, ◌<◌, map, ◌||◌, Bool, true, false, cond, List, ◌∷◌}
 use Rattle.std.proofs.Common.{Option, Some, None, is_some, length, refl, sym, ◌∙◌, ap, arith}
 use Rattle.std.specs.declared.cmp.Ordering.TheVariants.{Less, Equal, Greater}

@@ -1,7 +1,6 @@
--- Whole streams: all that is in them, and what is told of it. The told events are some of all, in
--- turn. If all streams are full, no told stamp is late, since the counts before it among all events
--- are no lower than among the told. Putting in an untold event, or a process that did nothing,
--- leaves the told ones as they are.
+-- The told events of whole streams are some of all, in turn. So no told stamp of full streams is
+-- late: the counts before it among all events are no lower than among the told ones. An untold
+-- event, or a process that did nothing, leaves the told events as they are.
 use Rattle.std.proofs.Common.{[], ◌≡◌, ℕ, zero, suc, ◌≤◌, ◌&&◌, max, nat_lt, Bool, true, false, not}
 use Rattle.std.proofs.Common.{cond, List, ◌∷◌, map, take, Option, Some, None, find, slice_get, refl}
 use Rattle.std.proofs.Common.{sym, ◌∙◌, ap, subst, arith, ◌++◌, drop, if◌then◌else◌}
@@ -28,7 +27,7 @@ events ms = map (λ m. m.event) ms
 
 -- TOLD EVENTS AMONG ALL
 
--- told event i is e, and is at this place
+-- event i of the told ones is e, and is at this place among all
 pub record IsToldAt (ms : List Marked) (i : ℕ) (e : Event) : Type 0 where
   pub index : ℕ
   pub at : slice_get ms index ≡ Some (record { event = e; told = true })
@@ -119,7 +118,7 @@ never_late ms k e go_on at =
 abbrev marked_in : Option Whole → List Marked
 marked_in o = elim o [ None ↦ [] | Some w ↦ w.marked ]
 
--- streams with what g finds in each whole one: `all_streams` with `events`, and `told_streams` with
+-- the streams that g makes of whole ones: `all_streams` if g is `events`, `told_streams` if g is
 -- `told_events`
 abbrev pub streams_by : (List Marked → List Event) → List Whole → List Stream
 streams_by g wholes = map (λ w. record { pid = w.pid; events = g w.marked }) wholes
@@ -175,7 +174,7 @@ module _ (top : ℕ) (wholes : List Whole) (full : IsFull top (all_streams whole
 
 -- ONE MORE EVENT
 
--- with an untold event before event i of p
+-- the whole stream with an untold event put before event i of p
 abbrev pub put : Pid → ℕ → Event → Whole → Whole
 put p i e w =
     if pid_eq w.pid p then record w {
@@ -217,7 +216,7 @@ module _ (p : Pid) (i : ℕ) (e : Event) where
       ∙ ap (λ xs. let x : Stream = record { pid = w.pid; events = told_events w.marked } in x ∷ xs)
       (put_told ws)
 
-  -- all of them are the streams with the event
+  -- all events of whole streams with the event put in are their streams with the event
   pub put_more : (ws : List Whole) → all_streams (map (put p i e) ws) ≡ more p i e (all_streams ws)
   put_more [] = refl
   put_more (w ∷ ws) =
@@ -241,7 +240,7 @@ module _ (p : Pid) (i : ℕ) (e : Event) where
 abbrev pub silent_whole : Pid → Whole
 silent_whole q = record { pid = q; marked = [] }
 
--- the processes with it, before the first one of a higher pid
+-- the whole streams with q put in by its pid, without events
 abbrev pub whole_inserted : Pid → List Whole → List Whole
 whole_inserted q [] = silent_whole q ∷ []
 whole_inserted q (w ∷ rest) =

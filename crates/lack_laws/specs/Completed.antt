@@ -1,5 +1,5 @@
--- Streams that acts without a reset show, and streams with a completion: whole streams of which
--- they are what is told.
+-- Streams that acts without a reset show, and completions of streams: whole streams whose told
+-- events are the streams.
 use Rattle.std.specs.Prelude.{◌≡◌, ℕ, List}
 use Rattle.st_core.specs.declared.types.Act.{Act}
 use Rattle.st_core.specs.Laws.{NoReset}
@@ -13,7 +13,8 @@ pub record IsShownInOneTrace (top : ℕ) (streams : List Stream) : Type 0 where
   pub shows : Shows top streams acts
   pub one_trace : NoReset acts
 
--- a completion of the streams of which all is so
+-- a completion of the streams: whole streams whose told events are the streams, and which have the
+-- property `Is`
 pub record IsCompleted (Is : ℕ → List Stream → Type 0) (top : ℕ)
     (streams : List Stream) : Type 0 where
   pub wholes : List Whole

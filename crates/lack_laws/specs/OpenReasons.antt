@@ -1,4 +1,4 @@
--- The reasons against streams whatever other processes there are.
+-- The four reasons against streams, which hold whatever other processes took part.
 use Rattle.std.specs.Prelude.{◌≡◌, ◌⊎◌, ℕ, ◌<◌, ◌≤◌, ◌||◌, true, false, List, Some, None}
 use Rattle.st_core.specs.declared.types.Pid.{Pid}
 use Rattle.st_core.specs.declared.types.Event.{Event}
@@ -11,7 +11,7 @@ use Rattle.st_order.specs.Items.{is_hidden}
 use Rattle.lack_laws.specs.Needs.{HoldsOfNone, is_late}
 use Rattle.lack_laws.specs.Reasons.{HoldsAt, is_too_high}
 
--- Event i of p is a send or print with prev 0, and an event before it is a receive.
+-- event i of p is a send or print with prev 0, and an earlier event of p is a receive
 pub record IsBehindReceive (streams : List Stream) (p : Pid) (i : ℕ) : Type 0 where
   pub event : Event
   pub at : event_at streams p i ≡ Some event
@@ -23,9 +23,9 @@ pub record IsBehindReceive (streams : List Stream) (p : Pid) (i : ℕ) : Type 0 
   pub receives : is_stamp received ≡ false
   pub behind : index < i
 
--- Each event tells of a stamp of the process that it is from: a send or print is this stamp, and a
--- receive took its message. Event i of p tells of one with prev 0, and some event of one of the
--- same process with a lower count and another prev.
+-- Each event tells of a stamp: a send or print of itself, a receive of the send of its message.
+-- Event i of p tells of a stamp with prev 0, and some event tells of a stamp of the same process
+-- with a lower count and another prev.
 pub record IsZeroBehind (streams : List Stream) (p : Pid) (i : ℕ) : Type 0 where
   pub event : Event
   pub at : event_at streams p i ≡ Some event
@@ -38,46 +38,42 @@ pub record IsZeroBehind (streams : List Stream) (p : Pid) (i : ℕ) : Type 0 whe
   pub lower : first.serial.this < event.serial.this
   pub above : 0 < first.serial.prev
 
--- Event i of p is a send or print with prev 0, or the receive of a hidden send with prev 0, and
--- some event tells of a stamp of the same process with a lower count and another prev.
+-- event i of p is a send, a print or the receive of a hidden send; it has prev 0, and some event
+-- tells of a stamp of the same process with a lower count and another prev
 pub record IsBehindStamp (streams : List Stream) (p : Pid) (i : ℕ) : Type 0 where
   pub zero : IsZeroBehind streams p i
   pub tells : (is_stamp zero.event || is_hidden streams zero.event) ≡ true
 
--- Event i of p is a send or print with prev 0 after a receive; or it is a send, a print or the
--- receive of a hidden send, has prev 0, and some event tells of a stamp of the same process with a
--- lower count and another prev.
+-- event i of p is unfounded if it is behind a receive or a stamp, after which no prev can be 0
 abbrev pub IsUnfounded : List Stream → Pid → ℕ → Type 0
 IsUnfounded streams p i = IsBehindReceive streams p i ⊎ IsBehindStamp streams p i
 
--- Pairing accepts the streams; no reported stamp is late; no reported stamp with prev 0 is after a
--- receive; if a stamp has prev 0, reported or hidden, no event tells of one of the same process
--- with a lower count and another prev; and a clock can have each count.
+-- no reason holds: pairing finds no fault, no stamp is late, no event is unfounded, and each count
+-- is at most TOP
 pub record HasNoOpenReason (top : ℕ) (streams : List Stream) : Type 0 where
   pub accepted : refusal streams ≡ None
   pub timely : HoldsOfNone is_late streams
   pub founded : (p : Pid) (i : ℕ) → ¬ IsUnfounded streams p i
   pub within : (p : Pid) (i : ℕ) (e : Event) → event_at streams p i ≡ Some e → e.serial.this ≤ top
 
--- A reason against streams, whatever other processes there are, at a place. Refused: one of
--- pairing's. Late: the send or print has a count that isn't above those before it. Unfounded: it is
--- a send or print with prev 0 after a receive; or it, or the hidden send of the receive there, has
--- prev 0, and some event tells of a stamp of the same process with a lower count and another prev.
--- TooHigh: no clock can have the count.
+-- A reason against streams, with its place. Refused: pairing finds a fault. Late: the count of a
+-- send or print isn't above all counts of its process before it. Unfounded: the event has prev 0
+-- and is behind a receive or a stamp, after which no prev can be 0. TooHigh: the count is above
+-- TOP.
 pub data OpenReason : Type 0 where
   Refused : PairFault → OpenReason
   Late : Pid → ℕ → OpenReason
   Unfounded : Pid → ℕ → OpenReason
   TooHigh : Pid → ℕ → OpenReason
 
--- the reason holds of these streams
+-- the reason holds of the streams at its place
 abbrev pub StandsAgainstOpen : ℕ → List Stream → OpenReason → Type 0
 StandsAgainstOpen top streams (Refused f) = refusal streams ≡ Some f
 StandsAgainstOpen top streams (Late p i) = HoldsAt is_late streams p i
 StandsAgainstOpen top streams (Unfounded p i) = IsUnfounded streams p i
 StandsAgainstOpen top streams (TooHigh p i) = HoldsAt (is_too_high top) streams p i
 
--- it holds at this place, and at none before it
+-- the property holds at this place, and at none before it
 pub record IsLeastPlace (Holds : Pid → ℕ → Type 0) (p : Pid) (i : ℕ) : Type 0 where
   pub holds : Holds p i
   pub least : (q : Pid) (j : ℕ) → IsEarlier q j p i → ¬ Holds q j

@@ -23,15 +23,15 @@ loud_message m = record m { token = option_map loud_token m.token }
 abbrev pub loud_local : LocalState → LocalState
 loud_local l = record l { token = option_map loud_token l.token; traced = true }
 
--- a process that is traced, with all flags set on its token and on each that is queued
+-- the process traced, and with all flags set on its token and on each queued one
 abbrev pub loud : Process → Process
 loud r = record r { local = loud_local r.local; queue = map loud_message r.queue }
 
--- the event of an act of a process: what it would report if it were traced and all flags were set
+-- the event of an act: its report if its process were traced and all flags were set
 abbrev pub event_by : ℕ → Process → Act → Option Event
 event_by top r a = option_and_then (λ done. done.report) (acted top (loud r) a)
 
--- the event of an act in this state
+-- the event of an act in state s
 abbrev pub event_in : ℕ → State → Act → Option Event
 event_in top s a = option_and_then (λ r. event_by top r a) (process s (actor a))
 
@@ -39,7 +39,7 @@ abbrev pub marked_if : Bool → Option Event → List Marked
 marked_if told None = []
 marked_if told (Some e) = record { event = e; told = told } ∷ []
 
--- the events of p's acts in a run from s, in order, each told if it was reported
+-- all events of p's acts in a run from s, in order; each is told if its act reported
 abbrev pub whole_from : ℕ → State → List Act → List Outcome → Pid → List Marked
 whole_from top s [] os p = []
 whole_from top s (a ∷ rest) [] p = []
@@ -47,7 +47,7 @@ whole_from top s (a ∷ rest) (o ∷ os) p =
     (if pid_eq (actor a) p then marked_if (is_some o.report) (event_in top s a) else [])
     ++ whole_from top o.after rest os p
 
--- each listed process with all its events in this run
+-- each listed process with all its events in the run
 abbrev pub wholes_of : ℕ → List Stream → List Act → List Outcome → List Whole
 wholes_of top streams acts os = map (λ x. record {
   pid = x.pid;

@@ -1,4 +1,4 @@
--- The lemma says it.
+-- Putting the counts back gives the streams, and keeps the order of counts.
 use Rattle.lack_laws.proofs.Ranks.{renumbered_shown}
 use Rattle.lack_laws.proofs.closed_world.shown_if_renumbered_is.Goals as goal
 

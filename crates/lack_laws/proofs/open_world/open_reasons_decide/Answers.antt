@@ -1,4 +1,4 @@
--- The lemma says it.
+-- No reason holds of a run's streams, and streams without a reason have a completion.
 use Rattle.lack_laws.proofs.OpenReasons.{open_decides}
 use Rattle.lack_laws.proofs.open_world.open_reasons_decide.Goals as goal
 
