@@ -1,6 +1,6 @@
--- Reported events show this of each run: all that its processes do are full streams, of which the
--- streams are what is told. So a stamp that a reported event tells of is there, with its serial,
--- and so is each message's send as its receive shows it.
+-- All that the processes of a run do are full streams, whose told events are the streams. So each
+-- stamp that a reported event tells of is in the run with its serial, and each received message's
+-- send is there as its receive shows it.
 use Rattle.std.proofs.Common.{[], ◌≡◌, inl, inr, ℕ, zero, suc, ◌≤◌, ◌==◌, ◌&&◌, ◌||◌, nat_lt}
 use Rattle.std.proofs.Common.{Bool, true, false, not, List, ◌∷◌, length, Option, Some, None}
 use Rattle.std.proofs.Common.{slice_get, refl, sym, ◌∙◌, ap}
@@ -48,7 +48,7 @@ send_kind kind.Send is = refl
 send_kind kind.Receive is = absurd (false≢true is)
 send_kind kind.Print is = absurd (false≢true is)
 
--- the two events, if they are there
+-- the two events are there and show a loss
 abbrev are_shown : List Event → Pid → ℕ → ℕ → Pid × ℕ → Option Event → Option Event → Bool
 are_shown es p i v other one two = not (nat_lt (length es) i) && elim one [
   | None ↦ false
@@ -60,7 +60,7 @@ module _ (top : ℕ) (wholes : List Whole) (sound : IsStreams (all_streams whole
   abbrev told : List Stream
   told = told_streams wholes
 
-  -- a reported event tells of a stamp, which is there
+  -- the stamp that a reported event tells of is in the run
   stamped : (p q : Pid) (j : ℕ) (e : Event) → event_at told q j ≡ Some e → pid_eq e.from p ≡ true
       → IsStamped (marked_of wholes p) e.serial.prev e.serial.this
   stamped p q j e at from =
@@ -79,7 +79,7 @@ module _ (top : ℕ) (wholes : List Whole) (sound : IsStreams (all_streams whole
         count = ap (λ (x : Event). x.serial.this) m.2 ∙ s.count;
       }
 
-  -- the two events show a loss
+  -- if two events show a loss, the run has a lost receive
   two_show : (p : Pid) (i v : ℕ) (e f : Event) (one other : Pid × ℕ)
       → event_at told one.0 one.1 ≡ Some e → event_at told other.0 other.1 ≡ Some f
       → i ≤ length (told_events (marked_of wholes p))
@@ -200,7 +200,7 @@ module _ (top : ℕ) (wholes : List Whole) (sound : IsStreams (all_streams whole
 
 -- IN ALL RUNS
 
--- the law of `lack_laws` on runs
+-- the law of `lack_laws` that each run has a full completion
 abbrev AreCompleted : Type 0
 AreCompleted = (top : ℕ) (streams : List Stream) (acts : List Act) (shows : Shows top streams acts)
     → NoReset acts → IsRising (pids_of streams)
@@ -208,7 +208,7 @@ AreCompleted = (top : ℕ) (streams : List Stream) (acts : List Act) (shows : Sh
     × IsStreams (all_streams (wholes_of top streams acts shows.0))
     × IsFull top (all_streams (wholes_of top streams acts shows.0))
 
--- and on processes that report nothing
+-- the law of `lack_laws` that streams stay streams with processes that report nothing
 abbrev StayStreams : Type 0
 StayStreams = (streams : List Stream) (others : List Pid) → IsStreams streams
     → IsStreams (with_silent streams others)

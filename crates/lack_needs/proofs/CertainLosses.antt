@@ -1,6 +1,6 @@
--- Two reported events show a loss. In a run the stamp that the one tells of stands after event
--- i - 1 and not after event i, by the counts. What the other tells of, or event i - 1, leaves
--- another prev, and a count above that prev is known there. So a receive was lost between.
+-- By the counts, the stamp that one event tells of is after event i - 1 and not after event i.
+-- Event i - 1, or the stamp that the other event tells of, leaves another prev than that stamp
+-- has, and a count up to there is above this prev. So a receive between was lost.
 use Rattle.std.proofs.Common.{[], ◌≡◌, inl, inr, ℕ, zero, suc, ◌<◌, ◌≤◌, ◌==◌, ◌&&◌, nat_lt}
 use Rattle.std.proofs.Common.{Bool, true, false, cond, List, ◌∷◌, length, take, Option, Some}
 use Rattle.std.proofs.Common.{None, slice_get, get_or, refl, sym, ◌∙◌, ap, arith}
@@ -20,7 +20,7 @@ use Rattle.lack_needs.specs.Losses.{event_before, is_behind, is_up_to, leaves_ot
 use Rattle.lack_needs.proofs.LostReceives.{before_stamp, left_of, lost, told_grows, told_most}
 use Rattle.lack_needs.proofs.LostReceives.{told_next}
 
--- a stamp of this serial is among these events
+-- a stamp with prev v and count c is among the events
 pub record IsStamped (ms : List Marked) (v c : ℕ) : Type 0 where
   pub index : ℕ
   pub marked : Marked
@@ -32,7 +32,7 @@ pub record IsStamped (ms : List Marked) (v c : ℕ) : Type 0 where
 abbrev mark : Event → Marked
 mark e = record { event = e; told = true }
 
--- told event i, where as many are told before it
+-- event i of the told ones is e, and i told events are before it
 record IsInTurn (ms : List Marked) (i : ℕ) (e : Event) : Type 0 where
   index : ℕ
   at : slice_get ms index ≡ Some (mark e)
@@ -139,7 +139,7 @@ module _ (ms : List Marked) (go_on : GoOn ms) where
 
     -- WHAT IS BEFORE IT
 
-    -- from this place on prev v isn't left, and isn't a new trace's
+    -- from an event on that is after told event i - 1, prev v isn't left and isn't a new trace's
     record IsStart : Type 0 where
       index : ℕ
       marked : Marked
@@ -156,7 +156,7 @@ module _ (ms : List Marked) (go_on : GoOn ms) where
         s.before stamp.at stamp.stamps stamp.prev)
         s.turn end
 
-    -- event i - 1 leaves another prev, and event n of those before i has a count above v
+    -- event i - 1 leaves another prev, and event n before i has a count above v
     told_start : (j n : ℕ) (b f : Event) (at_b : slice_get (told_events ms) j ≡ Some b)
         → slice_get (told_events ms) n ≡ Some f → i ≡ suc j → n < i → v < f.serial.this
         → ¬ (prev_after (b ∷ []) ≡ v) → (in_turn ms j b at_b).index < stamp.index → IsStart
@@ -207,7 +207,7 @@ module _ (ms : List Marked) (go_on : GoOn ms) where
             turn = turn;
           }
 
-      -- event i - 1 doesn't leave v after it
+      -- event i - 1 can't leave v after the other stamp
       stamp_start : (j : ℕ) (b : Event) (at_b : slice_get (told_events ms) j ≡ Some b)
           → i ≡ suc j → may_leave (Some b) v d ≡ false
           → (in_turn ms j b at_b).index < stamp.index → IsStart

@@ -1,5 +1,5 @@
--- Why the counts that are found are 0 and those of the streams. All counts are noted, sorted, and
--- each is kept once. Two lists that rise and have the same members are one list.
+-- All counts of the streams are noted with 0, sorted, and kept once each, and two rising lists
+-- with the same members are one list. So the counts that are found are those of the definition.
 use Rattle.std.proofs.Common.{◌≡◌, ℕ, ◌+◌, zero, suc, ◌<◌, ◌⊎◌, inl, inr, List, [], ◌∷◌, ◌++◌}
 use Rattle.std.proofs.Common.{length, drop, get_or, refl, sym, ◌∙◌, ap, subst, arith}
 use Rattle.std.specs.List.{AllPairs, Contains}
@@ -19,7 +19,7 @@ use Rattle.lack_needs.specs.Counts.{all_counts, counts_in}
 
 -- NOTING THE COUNTS
 
--- one process more
+-- the counts of one more process are noted
 pub process_noted : (old now more : List ℕ) (streams : List Stream) (pids : List Pid) (k : ℕ)
     (d : Pid)
     (es : List Event) → IsRising (pids_of streams) → pids ≡ pids_of streams → k < length pids
@@ -36,7 +36,7 @@ process_noted old now more streams pids k d es rising are within is noted so_far
 
 -- LISTS THAT RISE
 
--- which members of a list another one has
+-- each member of one list is in the other
 abbrev pub AreIn : List ℕ → List ℕ → Type 0
 AreIn cs ds = (c : ℕ) → IsIn c cs → IsIn c ds
 
@@ -188,7 +188,7 @@ increasing_climbs (x ∷ xs) pairs = (
       (omega (arith, within))),
 )
 
--- noted counts that were sorted, each kept once
+-- noted counts, sorted and kept once each, are the counts of the streams
 pub counts_are : (streams : List Stream) (noted counts : List ℕ) → noted ≡ 0 ∷ all_counts streams
     → IsStrictlyIncreasing counts → ((c : ℕ) → Contains noted c → Contains counts c)
     → ((c : ℕ) → Contains counts c → Contains noted c) → counts ≡ counts_of streams

@@ -1,4 +1,5 @@
--- Where a test holds first, at a loop's index and in what is left.
+-- The first event of which a test holds is the next one, or else the first of the rest. So the
+-- first that a loop finds is at the least place.
 use Rattle.std.proofs.Common.{◌≡◌, ℕ, ◌+◌, ◌<◌, suc, Bool, true, false, cond, List, [], ◌∷◌, length}
 use Rattle.std.proofs.Common.{get_or, take, drop, slice_get, Option, None, Some, refl, sym, ◌∙◌, ap}
 use Rattle.std.proofs.Common.{subst, arith}
@@ -48,7 +49,7 @@ same_from r t p same i (e ∷ es) = ap (λ (o : Option (Pid × ℕ)).
     or_else o (first_from r p (i + 1) es)) (same i e)
     ∙ ap (or_else (t p i e)) (same_from r t p same (i + 1) es)
 
--- the events of a process are those of its stream
+-- a test reads the same events from a process as from its stream
 pub in_streams : (test : List Event → Event → Bool) (streams : List Stream) (p : Pid)
     (es : List Event)
     → es ≡ events_of streams p → first_from (place_where test es) p 0 es
@@ -86,7 +87,7 @@ pub none_false : {X : Type 0} (b : Bool) (x : X) → cond b (Some x) None ≡ No
 none_false true x is = absurd (none-some x (sym is))
 none_false false x is = refl
 
--- what a test gives first is the least place at which it holds
+-- the first place at which a test holds is the least
 pub least_there : (test : List Event → Event → Bool) (streams : List Stream) (p : Pid) (i : ℕ)
     → IsRising (pids_of streams) → first (flaw_place test streams) streams ≡ Some (p, i)
     → IsLeastPlace (HoldsAt test streams) p i

@@ -1,5 +1,5 @@
--- The lemmas that proofs of the crates above may cite: on what events leave, and on the told events
--- of whole streams.
+-- The lemmas that proofs of the crates above may cite, on what events leave, and on the told
+-- events of whole streams.
 
 pub use Rattle.lack_needs.proofs.Passed.{more_passed, one_place}
 pub use Rattle.lack_needs.proofs.Leaving.{left_more}

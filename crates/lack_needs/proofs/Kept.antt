@@ -1,5 +1,5 @@
--- Streams and their marks are whole streams: their events are those of the streams, and
--- the marks of a process are those at its place.
+-- Streams with marks are whole streams: marks change no event, and the marks of a process are
+-- those at its place.
 use Rattle.std.proofs.Common.{◌≡◌, ℕ, zero, suc, Bool, true, false, cond, List, [], ◌∷◌, map}
 use Rattle.std.proofs.Common.{slice_get, get_or, find, Option, Some, None, option_map, refl}
 use Rattle.std.proofs.Common.{sym, ◌∙◌, ap, drop}
@@ -59,7 +59,8 @@ marked_in o = elim o [ None ↦ [] | Some w ↦ w.marked ]
 abbrev found : Pid → List Whole → Option Whole
 found p wholes = find (λ (w : Whole). pid_eq w.pid p) wholes
 
--- those of the first process, or of one of the others
+-- the marked events of p are those of the first process if it is p, else those of p among the
+-- others
 first_kept : (x : Stream) (streams : List Stream) (lists : List (List Bool)) (p : Pid) (b : Bool)
     → pid_eq x.pid p ≡ b → marked_of (wholes_with (x ∷ streams) lists) p
     ≡ cond b (marked_with x.events (get_or lists 0 []))
@@ -72,7 +73,7 @@ first_kept x streams lists p b is =
     ∙ elim b as (λ c. marked_in (cond c (Some w) others) ≡ cond c w.marked (marked_in others))
     [ true ↦ refl | false ↦ refl ]
 
--- the marked events of the process at a place
+-- the process at place k has the marks at place k
 pub marked_kept : (streams : List Stream) (lists : List (List Bool)) (k : ℕ) (p : Pid)
     → IsRising (pids_of streams) → slice_get (pids_of streams) k ≡ Some p
     → marked_of (wholes_with streams lists) p ≡ marked_with (events_of streams p)

@@ -1,4 +1,5 @@
--- One more event leaves the greater count, and what it leaves by itself.
+-- After one more event the greatest count is the greater of both, and the event leaves its own
+-- prev or count.
 use Rattle.std.proofs.Common.{◌≡◌, ℕ, ◌+◌, List, [], ◌∷◌, ◌++◌, max, take, slice_get, Some, sym}
 use Rattle.std.proofs.Common.{◌∙◌, ap, add-one}
 use Rattle.st_core.specs.declared.types.Event.{Event}

@@ -1,7 +1,6 @@
--- A receive was certainly lost if what a process did before a stamp leaves another prev than the
--- stamp has, and a greater count than that prev. Then no new trace gives the prev, and only a
--- receive of that count does. It comes after the event that leaves another prev, since whatever
--- stands between that receive and the stamp leaves the prev.
+-- A receive was lost before a stamp if an event before it leaves another prev than the stamp has,
+-- and a count up to there is above the stamp's prev: no new trace has that prev then, so only a
+-- receive after the event can have left it.
 use Rattle.std.proofs.Common.{[], ◌≡◌, inl, inr, ℕ, zero, suc, ◌<◌, ◌≤◌, Bool, true, false, not}
 use Rattle.std.proofs.Common.{cond, ◌+◌}
 use Rattle.std.proofs.Common.{List, ◌∷◌, ◌++◌, length, take, Some, None, slice_get, refl, sym, ◌∙◌}
@@ -41,7 +40,7 @@ greatest_grows (e ∷ es) (suc m) (suc n) most =
 
 -- BACK FROM A PREV
 
--- a receive of count v is after index k and before index l
+-- a receive with count v is after index k and before index l
 pub record IsReceivedBetween (ms : List Marked) (k l v : ℕ) : Type 0 where
   pub index : ℕ
   pub marked : Marked
@@ -63,7 +62,7 @@ further ms k l v r = let before = r.before in record {
   before = omega arith;
 }
 
--- what the events up to this one leave is what it leaves
+-- the events up to index l leave what event l leaves
 left_at : (ms : List Marked) (l : ℕ) (m : Marked) → slice_get ms l ≡ Some m
     → prev_after (take (suc l) (events ms)) ≡ prev_after (m.event ∷ [])
 left_at ms l m at =
@@ -78,7 +77,7 @@ left_of e b is = ap (λ c. cond (not c) e.serial.this e.serial.prev) (sym is) �
 module _ (ms : List Marked) (go_on : GoOn ms) (k v : ℕ) (d : Marked)
     (at : slice_get ms k ≡ Some d) (other : ¬ (prev_after (d.event ∷ []) ≡ v))
     (high : v < greatest_count (take (suc k) (events ms))) where
-  -- if the events before index l leave v, a receive of v is between
+  -- if the events before index l leave v, a receive with count v is between k and l
   pub back : (l : ℕ) → k < l → prev_after (take l (events ms)) ≡ v → IsReceivedBetween ms k l v
   back zero less left = absurd (omega arith)
   back (suc l) less left = elim (cases_lt k l) [
@@ -113,7 +112,7 @@ module _ (ms : List Marked) (go_on : GoOn ms) (k v : ℕ) (d : Marked)
         ] refl
   ]
 
-  -- so one is before a stamp with prev v
+  -- a receive with count v is between k and a stamp with prev v
   pub before_stamp : (l : ℕ) (m : Marked) → k < l → slice_get ms l ≡ Some m
       → is_stamp m.event ≡ true → m.event.serial.prev ≡ v → IsReceivedBetween ms k l v
   before_stamp l m less there stamps prev =
@@ -169,7 +168,7 @@ told_next ms k m at told =
     let front = told_events (take k ms) in
     omega (arith, ap length (told_push ms k m at told) ∙ length-append front (m.event ∷ []))
 
--- a receive between these places is after i told events, and isn't told itself
+-- a receive between events i - 1 and i of the told ones is untold
 pub lost : (ms : List Marked) (k l i v : ℕ) → IsReceivedBetween ms k l v
     → i ≤ length (told_events (take (suc k) ms)) → length (told_events (take l ms)) ≤ i
     → HasLostReceive i v ms

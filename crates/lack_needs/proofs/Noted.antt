@@ -1,6 +1,5 @@
--- The lowest count of each process is noted at its place. An event tells of a stamp of one process,
--- so its count alone changes; and the lowest of events is that of those before with the one of the
--- last.
+-- An event tells of one process's stamp, so only the lowest count at its place changes, and the
+-- lowest count of more events is the lower of those before and the new one.
 use Rattle.std.proofs.Common.{◌≡◌, ◌≢◌, ℕ, zero, suc, ◌+◌, ◌<◌, ◌&&◌, ◌||◌, not, nat_lt, Bool}
 use Rattle.std.proofs.Common.{true, false, cond, List, [], ◌∷◌, ◌++◌, length, take, get_or}
 use Rattle.std.proofs.Common.{slice_get, slice_set, Option, Some, None, inl, inr, refl, sym, ◌∙◌}
@@ -156,7 +155,7 @@ noted_here ps low lows new e place rising here some was read put noted =
           ] refl;
     })
 
--- at first nothing is known
+-- at first no count is known
 none_there : (n k : ℕ) → k < n → slice_get (replicate {A = Option ℕ} n None) k ≡ Some None
 none_there zero k less = absurd (omega arith)
 none_there (suc n) zero less = refl

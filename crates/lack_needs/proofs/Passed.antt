@@ -1,5 +1,5 @@
--- What a loop has passed: what holds of the items before an index, and of the one there, holds of
--- those before the next index. And pids that rise occur once.
+-- A property that holds of each item before an index, and of the item there, holds of each before
+-- the next index; and pids that rise occur once.
 use Rattle.std.proofs.Common.{◌≡◌, ℕ, ◌+◌, ◌<◌, zero, suc, List, [], ◌∷◌, Some, inl, inr, slice_get}
 use Rattle.std.proofs.Common.{refl, sym, ◌∙◌, ap, subst, arith}
 use Rattle.std.proofs.lemmas.Bool.{cases_lt}

@@ -1,6 +1,5 @@
--- Why the streams that are built are those with ranks for counts. Of counts that rise those less
--- than one come first, so the place where the others begin is how many they are. And each process
--- comes after those before it, so that only memory can be lacking.
+-- Among rising counts the lesser ones come first, so the place where the others begin is the rank.
+-- And each process comes after those before it, so that only memory can run out.
 use Rattle.std.proofs.Common.{◌≡◌, ℕ, ◌+◌, zero, suc, ◌<◌, ◌≤◌, nat_lt, true, false, cond, List, []}
 use Rattle.std.proofs.Common.{◌∷◌, ◌++◌, map, length, take, get_or, slice_get, Option, Some, None}
 use Rattle.std.proofs.Common.{is_some, option_map, refl, sym, ◌∙◌, ap, subst, arith}
@@ -26,7 +25,7 @@ none_less (x ∷ xs) c each =
     let rest = none_less xs c (λ k d within. each (suc k) d (omega (arith, within))) in
     ap (λ b. cond b 1 0 + rank xs c) (each 0 0 (omega arith)) ∙ (omega arith)
 
--- the place before which all are less, and after which none is
+-- the rank is the place before which all counts are less, and after which none is
 pub rank_is : (xs : List ℕ) (c i : ℕ) → i ≤ length xs
     → ((k d : ℕ) → k < i → nat_lt (get_or xs k d) c ≡ true)
     → ((k d : ℕ) → i ≤ k → k < length xs → nat_lt (get_or xs k d) c ≡ false) → rank xs c ≡ i
@@ -62,7 +61,7 @@ added_last (x ∷ xs) p es e last =
     y ∷ added (xs ++ record { pid = p; events = es } ∷ []) p e) (IsBelow-apart x.pid p last.0)
     ∙ ap (λ ys. x ∷ ys) (added_last xs p es e last.1)
 
--- one event more
+-- one more event has its ranks
 pub ranked_more : (counts : List ℕ) (old now next : List Stream) (p : Pid) (es : List Event) (i : ℕ)
     → ComesLast old p → i < length es → now ≡ old ++ ranked_stream counts p (take i es) ∷ []
     → next ≡ added now p (event_with (rank counts) (get_or es i blank))
@@ -115,7 +114,7 @@ own_events streams pids k d es rising own are within is =
     let at = stream_here streams pids k d es rising are within is in
     all_at (λ (x : Stream). AllByRecursion (λ e. is_own x.pid e ≡ true) x.events) streams k _ own at
 
--- one process more
+-- one more process has its ranks
 pub streams_more : (counts : List ℕ) (streams : List Stream) (pids : List Pid) (k : ℕ) (d : Pid)
     (es : List Event)
     (now next : List Stream) → IsRising (pids_of streams) → pids ≡ pids_of streams → k < length pids
@@ -132,7 +131,7 @@ streams_more counts streams pids k d es now next rising are within is so_far ste
 
 -- THE EVENTS OF A PROCESS
 
--- one event more
+-- one more event comes last
 pub event_more : (old now next : List Stream) (p : Pid) (es : List Event) (i : ℕ) → ComesLast old p
     → i < length es → now ≡ old ++ record { pid = p; events = take i es } ∷ []
     → next ≡ added now p (get_or es i blank)

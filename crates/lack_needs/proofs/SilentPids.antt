@@ -1,6 +1,5 @@
--- The pids of streams with further processes are those of both, sorted. A process is put in by its
--- pid, and moves no other. Of two lists with the same pids, one rising and the other sorted, each
--- begins with the least, and so do the rests.
+-- The pids of streams with further processes are the pids of both, sorted: two lists with the same
+-- pids, one rising and the other sorted, begin with the same least pid, and so do their rests.
 use Rattle.std.proofs.Common.{◌≡◌, ℕ, ◌+◌, zero, suc, ◌<◌, true, false, cond, List, [], ◌∷◌, ◌++◌}
 use Rattle.std.proofs.Common.{slice_get, Some, sum_by, append-nil, refl, sym, ◌∙◌, ap, subst}
 use Rattle.std.proofs.Common.{arith, get_or}
@@ -85,7 +84,7 @@ rest_sorted p ps sorted k d low less =
     subst (λ n. is_lt (pid_cmp (get_or (p ∷ ps) n d) (get_or ps k d)) ≡ false) next
     (sorted (suc k) d (omega arith) (omega arith))
 
--- the first of both, if each occurs in the other list
+-- a rising and a sorted list that hold each other's first pid begin with one pid
 first_is : (x y : Pid) (xs ys : List Pid) → IsRising (x ∷ xs) → AreSorted (y ∷ ys)
     → (j k : ℕ) → slice_get (x ∷ xs) j ≡ Some y → slice_get (y ∷ ys) k ≡ Some x → y ≡ x
 first_is x y xs ys rising sorted zero k at there = sym (same_Some x y at)
@@ -118,7 +117,7 @@ sorted_is (x ∷ xs) (y ∷ ys) rising sorted same =
     ∙ ap (λ ps. x ∷ ps) (sorted_is xs ys rising.1 (rest_sorted y ys sorted) (λ f.
     omega (arith, same f, sum_by-cons f x xs, sum_by-cons f y ys, ap f first)))
 
--- so both together, sorted, are the pids
+-- the pids of the streams and the others, sorted, are those of the longer streams
 pub silent_pids : (streams : List Stream) → IsStreams streams → (qs before after : List Pid)
     → AllByRecursion (λ q. lists streams q ≡ false) qs → IsRising qs
     → before ≡ pids_of streams ++ qs → IsPermutation before after → AreSorted after

@@ -1,5 +1,5 @@
--- The told events of whole streams: one event more, all processes place by place, and how many are
--- untold.
+-- The told events of whole streams are the streams if those of each process are its stream's, and
+-- the untold events are all but these.
 use Rattle.std.proofs.Common.{◌≡◌, ℕ, ◌+◌, ◌<◌, zero, suc, Bool, true, false, not, cond, List, []}
 use Rattle.std.proofs.Common.{◌∷◌, length, drop, slice_get, get_or, map, Some, refl, sym, ◌∙◌, ap}
 use Rattle.std.proofs.Common.{arith}
@@ -13,7 +13,7 @@ use Rattle.st_plan.specs.Marks.{all_streams, told_events, told_streams, Marked, 
 use Rattle.lack_needs.specs.Completions.{added_in, marked_with, wholes_with}
 use Rattle.lack_needs.proofs.Kept.{marks_later, wholes_next}
 
--- the first of the marked events from an index on
+-- a told event is the first of the told ones from its index on
 pub told_more : (es : List Event) (ms : List Bool) (i : ℕ) (e : Event) → slice_get es i ≡ Some e
     → get_or ms i false ≡ true
     → told_events (drop i (marked_with es ms)) ≡ e ∷ told_events (drop (suc i) (marked_with es ms))
@@ -43,7 +43,7 @@ told_end (d ∷ es) ms zero len = absurd (omega arith)
 told_end (d ∷ es) [] (suc i) len = told_end es [] i (omega arith)
 told_end (d ∷ es) (b ∷ ms) (suc i) len = told_end es ms i (omega arith)
 
--- at this place both have one process, and its told events are the stream's
+-- at place k both have one process, and its told events are the stream's
 pub record IsToldAt (all : List Stream) (lists : List (List Bool)) (streams : List Stream) (k : ℕ) :
     Type 0 where
   pub whole : Stream
@@ -53,7 +53,7 @@ pub record IsToldAt (all : List Stream) (lists : List (List Bool)) (streams : Li
   pub pid : whole.pid ≡ stream.pid
   pub told : told_events (marked_with whole.events (get_or lists k [])) ≡ stream.events
 
--- so at each place, so of all
+-- the told events of whole streams are the streams if they are at each place
 pub all_told : (all : List Stream) (lists : List (List Bool)) (streams : List Stream)
     → length all ≡ length streams → ((k : ℕ) → k < length streams → IsToldAt all lists streams k)
     → told_streams (wholes_with all lists) ≡ streams

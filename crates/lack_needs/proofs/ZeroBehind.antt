@@ -1,6 +1,6 @@
--- Which events are unfounded. A count that is less than n is the lowest of some events exactly if
--- one of these events tells of one. So an event with prev 0 counts higher than the lowest of its
--- process exactly if some event tells of a lower count of this process with another prev.
+-- The lowest count of some events is below n exactly if one of the events has a count below n. So
+-- an event with prev 0 has a count above the lowest of its process exactly if some event tells of
+-- a stamp of the process with a lower count and another prev.
 use Rattle.std.proofs.Common.{◌≡◌, inl, inr, ℕ, ◌+◌, zero, suc, ◌<◌, ◌==◌, ◌&&◌, ◌||◌, nat_lt, min}
 use Rattle.std.proofs.Common.{Bool, true, false, not, cond, List, [], ◌∷◌, take, slice_get, Option}
 use Rattle.std.proofs.Common.{Some, None, is_some, if◌then◌else◌, refl, sym, ◌∙◌, ap, arith}
@@ -57,7 +57,7 @@ some_if : (b : Bool) (x : Pid × ℕ) → is_some (cond b (Some x) None) ≡ b
 some_if true x = refl
 some_if false x = refl
 
--- one event more
+-- after one more event a count below n is known if one was, or if the event has one
 below_step : (tells less : Bool) (low : Option ℕ) (m n : ℕ) → less ≡ nat_lt m n
     → is_known_below (cond tells (Some (lower_count low m)) low) n
     ≡ (is_known_below low n || (tells && less))
@@ -98,7 +98,7 @@ lower_there : (streams : List Stream) (rising : IsRising (pids_of streams)) (q :
 lower_there streams rising q n is =
     some_of (first (below q n) streams) (sym (all_below q n None streams) ∙ is)
 
--- a receive among the first events
+-- one of the first i events is a receive
 record HasReceive (es : List Event) (i : ℕ) : Type 0 where
   index : ℕ
   event : Event

@@ -1,5 +1,4 @@
--- For the parts alone: the sends of a process whose messages were received and which nobody
--- reported, as their receives are, and those whose counts rise.
+-- For the parts alone: hidden sends, which nobody reported though their messages were received.
 use Rattle.std.specs.Prelude.{Bool, true, false, Option, Some, None}
 use Rattle.st_pair.specs.declared.answer.Source.{Source}
 use Rattle.st_pair.specs.declared.answer.Source.TheVariants as source

@@ -5,8 +5,8 @@ pub mod Completions
 pub mod Flaws
 pub mod AllRuns
 pub mod Losses
--- For the parts alone: where a test holds first; all counts in turn; which stamps with prev 0
--- can't begin a trace; and which sources are hidden.
+-- For the parts alone: the place of an event of which a test holds, all counts in a row, stamps
+-- with prev 0 that can't begin a trace, and hidden sources.
 pub mod Places
 pub mod Counts
 pub mod Unfounded

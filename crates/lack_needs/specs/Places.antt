@@ -5,7 +5,7 @@ use Rattle.st_core.specs.declared.types.Event.{Event}
 use Rattle.st_core.specs.Run.{Stream}
 use Rattle.st_core.specs.Streams.{events_of}
 
--- the place of an event of which the test holds
+-- place (p, i), if the test holds of event e there
 abbrev pub place_where : (List Event → Event → Bool) → List Event → Pid → ℕ → Event
     → Option (Pid × ℕ)
 place_where test es p i e = if test (take i es) e then Some (p, i) else None

@@ -1,4 +1,4 @@
-//! A completion of streams: all events of each process, and which of them the streams tell.
+//! Completions of streams: all events of each process, and which of them the streams tell.
 
 ghost use Rattle.std.specs.Prelude.{◌≡◌, length, option_map, slice_get, List, get_or, false, []};
 ghost use Rattle.st_core.specs.declared.types.Event.{Event as EventValue};
@@ -12,17 +12,16 @@ use st_core::{Pid, Sequence, Streams};
 use st_plan::Tells;
 use std::marker::Model;
 
-/// All events of each process, and for each whether it is told, that is, whether it is one of the
-/// streams that were completed; and which of the processes these don't list. It takes 1 byte an
-/// event more than the streams of all events.
+/// All events of each process, whether the completed streams tell each of them, and the processes
+/// that these streams don't list. It takes 1 byte an event more than the streams of all events.
 #[derive(Debug, Drop)]
 pub struct Completion {
     pub(crate) streams: Streams,
-    /// The marks of each process, by its place; events past the end of the marks are untold.
+    /// The marks of each process, by its place; events past the end of its marks are untold.
     pub(crate) told: Vec<Sequence<bool>>,
     /// The processes that the streams don't list, by rising pid.
     pub(crate) unlisted: Vec<Pid>,
-    /// How many events are untold.
+    /// The number of untold events.
     pub(crate) added: u64,
 }
 
@@ -40,8 +39,8 @@ impl Model for Completion {
     ghost invariant = { λ a. a.added ≡ added_in (wholes_with a.streams a.told.items) };
 }
 
-/// The completion of the streams with all these events and their marks, and with these processes
-/// that the streams don't list. It copies no event.
+/// Returns the completion with all these events and marks. Its told events are those of the
+/// streams, and the unlisted processes tell none. It copies no event.
 pub fn completion_of(
     streams: &Streams,
     all: Streams,
@@ -62,7 +61,7 @@ pub fn completion_of(
     }
 }
 
-/// The marks of the process at this place; none past the end of the lists.
+/// Returns the marks of the process at a place; none past the end of the lists.
 pub fn marks_at(lists: &[Sequence<bool>], place: usize) -> &[bool]
     ensures { result.now ≡ get_or lists.now place [] }
 {
@@ -72,7 +71,7 @@ pub fn marks_at(lists: &[Sequence<bool>], place: usize) -> &[bool]
     }
 }
 
-/// The mark at this index; events past the end of the marks are untold.
+/// Returns whether the event at an index is told; events past the end of the marks aren't.
 pub fn is_marked(marks: &[bool], index: usize) -> bool
     ensures { result ≡ get_or marks.now index false }
 {
@@ -82,7 +81,7 @@ pub fn is_marked(marks: &[bool], index: usize) -> bool
     false
 }
 
-/// Returns the mark of the event at this index, if a process with this many events has it.
+/// Returns whether the event at an index is told; `None` past the last event.
 fn mark_at(event_count: u64, marks: &[bool], index: u64) -> Option<bool>
     ensures { (es : List EventValue) → length es ≡ event_count →
         result ≡ option_map (λ m. m.told) (slice_get (marked_with es marks.now) index) }
@@ -94,21 +93,22 @@ fn mark_at(event_count: u64, marks: &[bool], index: u64) -> Option<bool>
 }
 
 impl Completion {
-    /// All events, told or not.
+    /// Returns all events, told or not.
     pub fn streams(&self) -> &Streams
         ensures { result.now ≡ all_streams self.now.wholes }
     {
         &self.streams
     }
 
-    /// The marks of each process, by its place; events past the end of the marks are untold.
+    /// Returns the marks of each process, by its place; events past the end of its marks are
+    /// untold.
     pub fn marks(&self) -> &[Sequence<bool>]
         ensures { wholes_with (all_streams self.now.wholes) result.now ≡ self.now.wholes }
     {
         &self.told
     }
 
-    /// The marks of this process; its events past the end of them are untold.
+    /// Returns the marks of a process; its events past the end of them are untold.
     pub fn marks_of(&self, pid: Pid) -> &[bool]
         ensures { marked_with (events_of (all_streams self.now.wholes) pid) result.now
             ≡ marked_of self.now.wholes pid }
@@ -120,7 +120,7 @@ impl Completion {
         }
     }
 
-    /// Whether the event at this index of the process is told; none if there is no event.
+    /// Returns whether the event at an index of a process is told; `None` if there is no event.
     pub fn told(&self, pid: Pid, index: u64) -> Option<bool>
         ensures { result
             ≡ option_map (λ m. m.told) (slice_get (marked_of self.now.wholes pid) index) }
@@ -134,15 +134,15 @@ impl Completion {
         }
     }
 
-    /// The processes that take part and that the streams don't list, by rising pid. None of their
-    /// events is told.
+    /// Returns the processes that the streams don't list, by rising pid. None of their events is
+    /// told.
     pub fn unlisted(&self) -> &[Pid]
         ensures { result.now ≡ self.now.unlisted }
     {
         &self.unlisted
     }
 
-    /// The number of untold events.
+    /// Returns the number of untold events.
     pub fn added(&self) -> u64
         ensures { result ≡ added_in self.now.wholes }
     {

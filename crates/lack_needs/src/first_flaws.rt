@@ -1,4 +1,4 @@
-//! The first event with a flaw.
+//! Finds the first event with a flaw.
 
 ghost use Rattle.std.specs.Prelude.{◌≡◌, IfNone, IfSome};
 ghost use Rattle.st_pair.specs.Places.{first, first_from};
@@ -11,7 +11,6 @@ ghost use Rattle.lack_needs.specs.Places.{flaw_place, place_where};
 use crate::flaws::{Flaw, Left};
 use st_core::{Event, Pid, Streams};
 
-/// The first of these events with the flaw.
 fn first_in(pid: Pid, events: &[Event], flaw: Flaw) -> Option<(Pid, u64)>
     ensures { result ≡ first_from (place_where (test_of flaw) events.now) pid 0 events.now }
 {
@@ -25,7 +24,6 @@ fn first_in(pid: Pid, events: &[Event], flaw: Flaw) -> Option<(Pid, u64)>
     None
 }
 
-/// The least place of an event with the flaw.
 fn first_flaw(streams: &Streams, flaw: Flaw) -> Option<(Pid, u64)>
     ensures { result ≡ first (flaw_place (test_of flaw) streams.now) streams.now }
 {
@@ -37,8 +35,8 @@ fn first_flaw(streams: &Streams, flaw: Flaw) -> Option<(Pid, u64)>
     None
 }
 
-/// The least place of an event with the flaw: the first process that has one, and its first such
-/// event. It looks at each event once.
+/// Returns the place of the first event with the flaw, by rising pid and then index; `None` if no
+/// event has it. It looks at each event once.
 pub fn find_flaw(streams: &Streams, flaw: Flaw) -> Option<(Pid, u64)>
     ensures some { IfSome result
         (λ at. IsLeastPlace (HoldsAt (test_of flaw) streams.now) at.0 at.1) }

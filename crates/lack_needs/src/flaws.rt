@@ -1,4 +1,4 @@
-//! The flaws that an event may have after those of its process before it.
+//! The flaws that an event may have, given the events of its process before it.
 
 ghost use Rattle.std.specs.Prelude.{◌≡◌, ◌↔◌, [], ◌∷◌, ◌++◌, List, IsTrue};
 ghost use Rattle.st_core.specs.declared.types.Event.{Event as EventValue};
@@ -8,30 +8,30 @@ ghost use Rattle.lack_needs.specs.Flaws.{left_by, test_of, GoesOnWithin};
 
 use st_core::{Event, Kind};
 
-/// The state that the events of a process leave to its next one. It is two numbers, so one pass
-/// over the events finds what is wrong with each.
+/// The two numbers that the events of a process leave to its next one. They are enough to find its
+/// flaws, so one pass tests all events.
 #[derive(Clone, Copy, Debug)]
 pub struct Left {
-    /// The greatest count of these events, 0 of none.
+    /// The greatest count of the events; 0 if there is none.
     pub greatest: u64,
-    /// The prev that the last of them leaves: that of a send or print, the count of a receive; 0 of
-    /// none.
+    /// The prev that the last event leaves: its own if it is a send or print, its count if it is a
+    /// receive; 0 if there is no event.
     pub prev: u64,
 }
 
-/// The flaws that an event may have after those of its process before it.
+/// A flaw that an event may have, given the events of its process before it.
 #[derive(Clone, Copy, Debug)]
 pub enum Flaw {
-    /// A send or print that counts no higher than one of them.
+    /// A send or print whose count isn't above all counts before it.
     Late,
-    /// A send or print with a prev that they don't leave and no new trace has: a receive is
-    /// missing.
+    /// A send or print whose prev the events before it don't leave and no new trace has: a receive
+    /// is missing.
     Need,
-    /// An event that counts above this.
+    /// An event whose count is above the given one.
     TooHigh(u64),
 }
 
-/// Whether the event is a send or a print.
+/// Returns whether the event is a send or a print.
 pub fn is_stamp(event: &Event) -> bool
     ensures { result ≡ is_stamp event.now }
 {
@@ -41,7 +41,8 @@ pub fn is_stamp(event: &Event) -> bool
     }
 }
 
-/// The prev that an event leaves: its own if it is a send or print, the count of a receive.
+/// Returns the prev that an event leaves: its own if it is a send or print, its count if it is a
+/// receive.
 pub fn prev_left(event: &Event) -> u64
     ensures { result ≡ prev_after (event.now ∷ []) }
 {
@@ -52,7 +53,7 @@ pub fn prev_left(event: &Event) -> u64
 }
 
 impl Left {
-    /// Returns the state that no events leave.
+    /// Returns what no events leave.
     pub fn by_none() -> Left
         ensures { result ≡ left_by [] }
     {
@@ -62,7 +63,7 @@ impl Left {
         }
     }
 
-    /// Returns the state after one event more.
+    /// Returns what the events leave with one more event.
     pub fn after(self, event: &Event) -> Left
         ensures { (es : List EventValue) → self ≡ left_by es → result
             ≡ left_by (es ++ event.now ∷ []) }
@@ -73,7 +74,7 @@ impl Left {
         }
     }
 
-    /// Whether the next event has the flaw.
+    /// Returns whether the next event has the flaw.
     pub fn flaws(self, event: &Event, flaw: Flaw) -> bool
         ensures { (es : List EventValue) → self ≡ left_by es → result ≡ test_of flaw es event.now }
     {
@@ -84,7 +85,7 @@ impl Left {
         }
     }
 
-    /// Whether a receive of the event's prev is missing before it.
+    /// Returns whether the event is a need: a receive with its prev as count is missing before it.
     pub fn lacks(self, event: &Event) -> bool
         ensures { (es : List EventValue) → self ≡ left_by es → result
             ≡ test_of Flaw.Need es event.now }
@@ -92,8 +93,8 @@ impl Left {
         is_stamp(event) && (event.serial.prev != self.prev && event.serial.prev < self.greatest)
     }
 
-    /// Whether the serial of the next event rises, to no count above this, and the event is neither
-    /// late nor a need.
+    /// Returns whether the next event goes on from the events: its serial rises, its count is at
+    /// most `top`, and it is neither late nor a need.
     pub fn goes_on(self, event: &Event, top: u64) -> bool
         ensures { (es : List EventValue) → self ≡ left_by es
             → (IsTrue result ↔ GoesOnWithin top es event.now) }

@@ -1,8 +1,7 @@
-//! Completions: all events of each process, and which of them are told; the flaws that an event may
-//! have after those of its process before it; and the needs of streams.
+//! Completions; the flaws that an event may have; what streams need, and what they certainly lost.
 //!
-//! A send or print is a need if its prev is a count that the events before it don't leave, so that
-//! a receive is missing. Here are the first event with a flaw, and the first that no trace founds.
+//! A send or print is a need if the events before it don't leave its prev and no new trace has it,
+//! so that a receive is missing.
 #![tactic(auto)]
 
 mod completion;

@@ -1,5 +1,5 @@
-//! Tells events that happened in every run without a reset, though nobody reported them: receives
-//! that were lost, and sends of messages that were received.
+//! Events that happened in every run without a reset, even if nobody reported them: receives that
+//! were lost, and sends of messages that were received.
 
 ghost use Rattle.std.specs.Prelude.{◌≡◌, ◌↔◌, ℕ, true, Some, IsTrue};
 ghost use Rattle.st_core.specs.Streams.{events_of};
@@ -16,7 +16,7 @@ use lack_laws::closed_world::runs_have_full_completions;
 use lack_laws::open_world::with_silent_processes_streams_are_streams;
 use st_core::{Event, Kind, Pid, Streams};
 
-/// The event of the process before this index.
+/// Returns the event of the process before an index.
 fn event_before(streams: &Streams, pid: Pid, index: u64) -> Option<Event>
     ensures { result ≡ event_before (events_of streams.now pid) index }
 {
@@ -26,7 +26,8 @@ fn event_before(streams: &Streams, pid: Pid, index: u64) -> Option<Event>
     streams.event(pid, index - 1)
 }
 
-/// Whether a stamp of this count is the next event, or comes after the one before.
+/// Returns whether a send or print with this count is the next event, or certainly comes after the
+/// event before, if there is one.
 fn is_behind(before: Option<Event>, next: Option<Event>, count: u64) -> bool
     ensures { result ≡ is_behind before next count }
 {
@@ -41,7 +42,7 @@ fn is_behind(before: Option<Event>, next: Option<Event>, count: u64) -> bool
     }
 }
 
-/// Whether a stamp of this count doesn't come after the next event.
+/// Returns whether a send or print with this count doesn't come after the next event.
 fn is_up_to(next: Option<Event>, count: u64) -> bool
     ensures { result ≡ is_up_to next count }
 {
@@ -51,7 +52,7 @@ fn is_up_to(next: Option<Event>, count: u64) -> bool
     }
 }
 
-/// Whether the event leaves another prev than this.
+/// Returns whether there is an event before, and it leaves another prev.
 fn leaves_other(before: Option<Event>, prev: u64) -> bool
     ensures { result ≡ leaves_other before prev }
 {
@@ -61,7 +62,7 @@ fn leaves_other(before: Option<Event>, prev: u64) -> bool
     }
 }
 
-/// Whether the event may come after the stamp of this count, and leave this prev.
+/// Returns whether the event before may leave the prev after a send or print with this count.
 fn may_leave(before: Option<Event>, prev: u64, count: u64) -> bool
     ensures { result ≡ may_leave before prev count }
 {
@@ -72,8 +73,8 @@ fn may_leave(before: Option<Event>, prev: u64, count: u64) -> bool
     }
 }
 
-/// Whether the event, at this place, is one of the process before this index, and counts above the
-/// prev; and what is before this index leaves another one.
+/// Returns whether the event at `place` is an earlier one of the process with a count above the
+/// prev, and the event before the index leaves another prev.
 fn rules_out_told(
     before: Option<Event>,
     pid: Pid,
@@ -87,8 +88,8 @@ fn rules_out_told(
     place.0 == pid && (place.1 < index && (prev < event.serial.this && leaves_other(before, prev)))
 }
 
-/// Whether the event tells of a stamp of the process with another prev, and with a count above that
-/// prev and below this; and what is before this index doesn't leave the prev after that stamp.
+/// Returns whether the event tells of a send or print of the process with another prev and a count
+/// between the prev and `count`, after which the event before the index can't leave the prev.
 fn rules_out_stamp(before: Option<Event>, pid: Pid, prev: u64, count: u64, event: &Event) -> bool
     ensures { result ≡ rules_out_stamp before pid prev count event.now }
 {
@@ -99,7 +100,6 @@ fn rules_out_stamp(before: Option<Event>, pid: Pid, prev: u64, count: u64, event
     !may_leave(before, prev, serial.this)
 }
 
-/// Whether the two events show the loss.
 fn is_shown(
     streams: &Streams,
     pid: Pid,
@@ -125,7 +125,6 @@ fn is_shown(
         || rules_out_stamp(before, pid, count, serial.this, other)
 }
 
-/// Whether the events at these places show the loss.
 fn are_shown(
     streams: &Streams,
     pid: Pid,
@@ -148,10 +147,10 @@ fn are_shown(
     is_shown(streams, pid, index, count, &shown, other, &apart)
 }
 
-/// Whether the reported events at these places show that a receive was lost: after as many reported
-/// events of the process as the index says, and before its next one, it received a message of this
-/// count, and didn't report that. The first tells of a send or print that has the count as its
-/// prev; the other rules out that the prev was left before, or that a trace began there with it.
+/// Returns whether two reported events show that the process received a message with this count
+/// between its reported events `index - 1` and `index`, and didn't report it. The event at `stamp`
+/// tells of a send or print with the count as its prev; the event at `other` rules out that an
+/// earlier event left this prev, or that a trace began with it.
 pub fn shows_loss(
     streams: &Streams,
     pid: Pid,
@@ -170,7 +169,7 @@ pub fn shows_loss(
     are_shown(streams, pid, index, count, stamp, other)
 }
 
-/// The receive of a send.
+/// Returns the receive of a send.
 pub fn receive_of(sent: &Event) -> Event
     ensures { result ≡ receipt_of sent.now }
 {
@@ -180,7 +179,6 @@ pub fn receive_of(sent: &Event) -> Event
     }
 }
 
-/// Whether the event is a send.
 fn is_send(event: &Event) -> bool
     ensures { result ≡ is_send event.now }
 {
@@ -190,7 +188,6 @@ fn is_send(event: &Event) -> bool
     }
 }
 
-/// Whether this is a send, and the event at this place is its receive.
 fn is_received(streams: &Streams, event: &Event, receive: (Pid, u64)) -> bool
     ensures { IsTrue result ↔ (is_send event.now ≡ true)
         × (event_at streams.now receive.0 receive.1 ≡ Some (receipt_of event.now)) }
@@ -204,7 +201,8 @@ fn is_received(streams: &Streams, event: &Event, receive: (Pid, u64)) -> bool
     }
 }
 
-/// Whether the reported event at this place is the receive of this send: then it was sent.
+/// Returns whether the event is a send, and the reported event at `receive` its receive. If so,
+/// every run has the send.
 pub fn is_sent(streams: &Streams, event: &Event, receive: (Pid, u64)) -> bool
     ensures received { IsTrue result ↔ (is_send event.now ≡ true)
         × (event_at streams.now receive.0 receive.1 ≡ Some (receipt_of event.now)) }

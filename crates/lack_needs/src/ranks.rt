@@ -1,5 +1,5 @@
-//! Streams with small counts: each count is replaced by its rank, which is its place among 0 and
-//! all counts of the streams, each taken once, by rising count.
+//! Streams with small counts: each count is replaced by its rank among 0 and all counts of the
+//! streams.
 
 ghost use Rattle.std.specs.Prelude.{◌≡◌, ◌∷◌, ◌++◌, [], nat_lt, true, IfOk, None, OnOk};
 ghost use Rattle.std.specs.List.{AllByRecursion};
@@ -32,8 +32,8 @@ fn all_counts(alloc: Global, streams: &Streams) -> Result<Vec<u64>, AllocError>
     Ok(counts)
 }
 
-/// 0 and all counts, prevs among them, each once, by rising count. It sorts them, which takes a
-/// nearly linear time.
+/// Returns 0 and all counts of the streams, prevs too, each once, rising. It sorts them, which
+/// takes nearly linear time. It fails if memory runs out.
 pub fn counts_of(alloc: Global, streams: &Streams) -> Result<Vec<u64>, AllocError>
     ensures is { IfOk result (λ counts. counts.items ≡ counts_of streams.now) }
     ensures rises { IfOk result (λ counts. IsNonDecreasing counts.items) }
@@ -44,7 +44,7 @@ pub fn counts_of(alloc: Global, streams: &Streams) -> Result<Vec<u64>, AllocErro
     Ok(counts)
 }
 
-/// How many of the counts are less than this one.
+/// Returns how many of the counts are less.
 fn rank(counts: &[u64], count: u64) -> u64
     requires { IsNonDecreasing counts.now }
     ensures { result ≡ rank counts.now count }
@@ -55,7 +55,7 @@ fn rank(counts: &[u64], count: u64) -> u64
     counts.partition_point(less) as u64
 }
 
-/// The event with its counts' ranks.
+/// Returns the event with the ranks of its counts.
 fn renumbered_event(counts: &[u64], event: &Event) -> Event
     requires { IsNonDecreasing counts.now }
     ensures { result ≡ event_with (rank counts.now) event.now }
@@ -94,7 +94,7 @@ pub(crate) fn add_own(draft: &mut Draft, pid: Pid, event: Event) -> Result<(), A
     }
 }
 
-/// Adds a process that comes last, and its events with their counts' ranks.
+/// Adds a process that comes last, and its events with the ranks of their counts.
 fn add_renumbered(
     draft: &mut Draft,
     counts: &[u64],
@@ -113,7 +113,7 @@ fn add_renumbered(
     Ok(())
 }
 
-/// Closes a draft in which every pid is listed.
+/// Closes a draft in which every named pid is listed.
 pub(crate) fn close_draft(draft: Draft) -> Streams
     requires { unlisted draft ≡ None }
     ensures { result ≡ draft }
@@ -124,9 +124,9 @@ pub(crate) fn close_draft(draft: Draft) -> Streams
     }
 }
 
-/// The streams with each count replaced by its rank among 0 and all their counts. If acts without a
-/// reset show the result, such acts show the streams too, and the higher the counts of the streams
-/// are, the more acts the result saves. It fails only if memory runs out.
+/// Returns the streams with each count replaced by its rank among 0 and all their counts. If acts
+/// without a reset show the result, such acts show the streams too, so a search for them doesn't
+/// grow with the counts. It fails if memory runs out.
 pub fn renumbered(alloc: Global, streams: &Streams) -> Result<Streams, AllocError>
     ensures { IfOk result (λ ranked. ranked ≡ renumbered_streams streams.now) }
 {

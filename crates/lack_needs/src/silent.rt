@@ -11,7 +11,7 @@ use crate::ranks::{add_own, close_draft, open_last};
 use st_core::{Draft, Event, Pid, Streams};
 use std::alloc::{AllocError, Global};
 
-/// Whether the streams don't list the process.
+/// Returns whether the streams don't list the process.
 pub fn is_unlisted(streams: &Streams, pid: Pid) -> bool
     ensures { result ≡ not (lists streams.now pid) }
 {
@@ -22,7 +22,7 @@ pub fn is_unlisted(streams: &Streams, pid: Pid) -> bool
     }
 }
 
-/// The pids of the streams and of these processes, all by rising pid.
+/// Returns the pids of the streams and the others, rising. It fails if memory runs out.
 pub fn pids_with(alloc: Global, streams: &Streams, others: &[Pid]) -> Result<Vec<Pid>, AllocError>
     requires apart { AllByRecursion (λ q. lists streams.now q ≡ false) others.now }
     requires rising { IsRising others.now }
@@ -34,7 +34,7 @@ pub fn pids_with(alloc: Global, streams: &Streams, others: &[Pid]) -> Result<Vec
     Ok(pids)
 }
 
-/// Adds a process that comes last, with these events.
+/// Adds a process that comes last, and its events.
 fn add_process(draft: &mut Draft, pid: Pid, events: &[Event]) -> Result<(), AllocError>
     requires last { ComesLast draft.old pid }
     requires own { AllByRecursion (λ e. is_own pid e ≡ true) events.now }
@@ -49,7 +49,8 @@ fn add_process(draft: &mut Draft, pid: Pid, events: &[Event]) -> Result<(), Allo
     Ok(())
 }
 
-/// The streams, and one without events of each of these processes. It copies all events.
+/// Returns the streams with the other processes, which have no events. It copies all events, and
+/// fails if memory runs out.
 pub fn with_silent(alloc: Global, streams: &Streams, others: &[Pid]) -> Result<Streams, AllocError>
     requires apart { AllByRecursion (λ q. lists streams.now q ≡ false) others.now }
     requires rising { IsRising others.now }

@@ -1,7 +1,7 @@
 //! Stamps with prev 0 that can't begin a trace. Each event tells of a send or print: a send or
-//! print of itself, a receive of the send of its message. If one of these has prev 0, and another
-//! of the same process counts lower and has another prev, or a receive comes before it, no acts
-//! without a reset show the streams.
+//! print of itself, a receive of the send of its message. No acts without a reset show the streams
+//! if a stamp with prev 0 comes after a receive, or after a stamp of its process with a lower
+//! count and another prev.
 
 ghost use Rattle.std.specs.Prelude.{◌≡◌, ◌||◌, ℕ, true, not, IfNone, IfOk, IfSome, List, None};
 ghost use Rattle.std.specs.Prelude.{Option, Some};
@@ -23,7 +23,6 @@ use st_core::{Event, Pid, Streams};
 use st_pair::{Pairing, Source};
 use std::alloc::{AllocError, Global};
 
-/// Whether the source is a hidden send, as pairing found it.
 fn is_hidden_source(source: Option<Source>) -> bool
     ensures { result ≡ is_hidden_in source }
 {
@@ -33,7 +32,7 @@ fn is_hidden_source(source: Option<Source>) -> bool
     }
 }
 
-/// The lower one of the count that is known, if one is, and this count.
+/// Returns the lower of a count and the lowest one that is known.
 fn lower_count(low: Option<u64>, count: u64) -> u64
     ensures { result ≡ lower_count low count }
 {
@@ -52,8 +51,8 @@ fn is_known_below(low: Option<u64>, count: u64) -> bool
     }
 }
 
-/// Notes the stamp that the event tells of, if its prev isn't 0: `lows` has for each process, by
-/// its place, the lowest count of such a stamp.
+/// Notes the count of the stamp that the event tells of, if its prev isn't 0. `lows` has the
+/// lowest noted count of each process, by its place.
 fn note_event(lows: &mut Vec<Option<u64>>, streams: &Streams, event: &Event)
     ensures { (low : PidValue → Option ℕ) → IsNoted (pids_of streams.now) low lows.old.items
         → IsNoted (pids_of streams.now) (λ q. lowest_with q (low q) event.now) lows.new.items }
@@ -79,7 +78,8 @@ fn note_events(lows: &mut Vec<Option<u64>>, streams: &Streams, events: &[Event])
     }
 }
 
-/// For each process the lowest count of a stamp with another prev than 0 of which events tell.
+/// Returns for each process, by its place, the lowest count among its stamps with another prev
+/// than 0, as far as events tell of them.
 fn lowest_counts(alloc: Global, streams: &Streams) -> Result<Vec<Option<u64>>, AllocError>
     ensures { IfOk result (λ lows.
         IsNoted (pids_of streams.now) (lowest_count streams.now) lows.items) }
@@ -91,7 +91,7 @@ fn lowest_counts(alloc: Global, streams: &Streams) -> Result<Vec<Option<u64>>, A
     Ok(lows)
 }
 
-/// The lowest such count of a listed process.
+/// Returns the lowest noted count of a listed process.
 fn lowest_at(streams: &Streams, lows: &[Option<u64>], pid: Pid) -> Option<u64>
     requires noted { IsNoted (pids_of streams.now) (lowest_count streams.now) lows.now }
     requires listed { lists streams.now pid ≡ true }
@@ -107,8 +107,8 @@ fn lowest_at(streams: &Streams, lows: &[Option<u64>], pid: Pid) -> Option<u64>
     *low
 }
 
-/// Whether another event tells of a stamp of the event's sender with a lower count and another prev
-/// than 0.
+/// Returns whether some event tells of a stamp of the same sender with a lower count and another
+/// prev than 0.
 fn is_behind_stamp(streams: &Streams, lows: &[Option<u64>], event: &Event) -> bool
     requires noted { IsNoted (pids_of streams.now) (lowest_count streams.now) lows.now }
     requires listed { lists streams.now event.now.from ≡ true }
@@ -118,8 +118,8 @@ fn is_behind_stamp(streams: &Streams, lows: &[Option<u64>], event: &Event) -> bo
     is_known_below(lowest_at(streams, lows, event.from), event.serial.this)
 }
 
-/// Whether the event at this place is unfounded; `received` says whether a receive of its process
-/// comes before it.
+/// Returns whether the event is unfounded; `received` says whether a receive of its process comes
+/// before it.
 fn is_unfounded(
     streams: &Streams,
     pairing: &Pairing,
@@ -144,14 +144,12 @@ fn is_unfounded(
     is_hidden_source(pairing.source(place.0, place.1)) && is_behind_stamp(streams, lows, event)
 }
 
-/// Whether one of the events so far, or this one, is a receive.
 fn is_received(received: bool, event: &Event) -> bool
     ensures { result ≡ (received || not (is_stamp event.now)) }
 {
     received || !is_stamp(event)
 }
 
-/// The first unfounded event of the process.
 fn first_in(
     streams: &Streams,
     pairing: &Pairing,
@@ -175,7 +173,6 @@ fn first_in(
     None
 }
 
-/// The least place of an unfounded event in all streams.
 fn first_unfounded(streams: &Streams, pairing: &Pairing, lows: &[Option<u64>]) -> Option<(Pid, u64)>
     requires paired { IsPairing streams.now pairing.now }
     requires noted { IsNoted (pids_of streams.now) (lowest_count streams.now) lows.now }
@@ -189,8 +186,8 @@ fn first_unfounded(streams: &Streams, pairing: &Pairing, lows: &[Option<u64>]) -
     None
 }
 
-/// The least place at which a stamp with prev 0 can't begin a trace; of a hidden send that is the
-/// place of its receive. It looks at each event twice.
+/// Returns the first place of a stamp with prev 0 that can't begin a trace; a hidden send has the
+/// place of its receive. It looks at each event twice, and fails if memory runs out.
 pub fn find_unfounded(
     alloc: Global,
     streams: &Streams,

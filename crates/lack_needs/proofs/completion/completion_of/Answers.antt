@@ -1,4 +1,4 @@
--- The events that the completion has more than the streams are untold.
+-- All events but those of the streams are untold.
 use Rattle.std.proofs.Common.{◌∙◌, ap, arith}
 use Rattle.st_core.specs.Streams.{total_of}
 use Rattle.lack_needs.specs.Completions.{wholes_with}

@@ -1,4 +1,4 @@
--- An event has the mark at its index, and past the end of the marks none.
+-- An event has the mark at its index, and is untold past the end of the marks.
 use Rattle.std.proofs.Common.{◌<◌, length, get_or, option_map, Some, false, sym, ◌∙◌, ap, arith}
 use Rattle.st_core.specs.declared.types.Event.{Event}
 use Rattle.st_pair.proofs.ForCallers.{at_get_or, blank}

@@ -1,4 +1,4 @@
--- The rule's first fault is at some place.
+-- The first place at which a test holds is the least, by pid and then index.
 use Rattle.std.proofs.Common.{sym}
 use Rattle.lack_needs.specs.Flaws.{test_of}
 use Rattle.lack_needs.proofs.Flawed.{holds_of_none, least_there}

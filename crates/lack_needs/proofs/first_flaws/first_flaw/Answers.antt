@@ -1,4 +1,4 @@
--- A stream's first such place is the first of all if no stream before it has one.
+-- The first flaw of a stream is the first of all if no stream before has one.
 use Rattle.std.proofs.Common.{◌∙◌}
 use Rattle.lack_needs.specs.Places.{flaw_place}
 use Rattle.lack_needs.specs.Flaws.{test_of}

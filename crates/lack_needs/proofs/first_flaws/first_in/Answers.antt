@@ -1,4 +1,4 @@
--- An event is tested against what those before it leave.
+-- Each event is tested against what the events before it leave.
 use Rattle.std.proofs.Common.{sym, ◌∙◌, take, get_or}
 use Rattle.st_pair.proofs.ForCallers.{at_get_or, blank}
 use Rattle.lack_needs.specs.Places.{place_where}

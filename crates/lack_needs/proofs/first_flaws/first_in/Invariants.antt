@@ -1,11 +1,11 @@
--- No event that was taken has the flaw.
+-- No event taken so far has the flaw.
 use Rattle.std.proofs.Common.{◌≡◌, drop, take}
 use Rattle.st_pair.specs.Places.{first_from}
 use Rattle.lack_needs.specs.Flaws.{left_by, test_of}
 use Rattle.lack_needs.specs.Places.{place_where}
 use Rattle.lack_needs.proofs.first_flaws.first_in.Given as goal
 
--- what they leave is known, and what is left has the first of all
+-- `left` is what these events leave, and the first flaw is that of the remaining ones
 abbrev pub invariant-loop-i : goal.invariant-loop-i
 invariant-loop-i l = record {
   left : l.left ≡ left_by (take l.i l.events);

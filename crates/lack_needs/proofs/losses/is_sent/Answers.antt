@@ -1,4 +1,4 @@
--- The lemma says it of each run.
+-- Each run has the send of a received message, as its receive shows it.
 use Rattle.lack_needs.proofs.AllRuns.{sent_in_all}
 use Rattle.lack_needs.proofs.losses.is_sent.Goals as goal
 

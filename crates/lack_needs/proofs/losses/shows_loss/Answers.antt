@@ -1,4 +1,4 @@
--- The lemma says it of each run.
+-- In each run the stamp that one event tells of has a prev that only a lost receive can have left.
 use Rattle.std.proofs.Common.{sym, ◌∙◌}
 use Rattle.lack_needs.proofs.AllRuns.{lost_in_all}
 use Rattle.lack_needs.proofs.losses.shows_loss.Goals as goal

@@ -1,4 +1,4 @@
--- One process more.
+-- The counts of a process come after those of the processes before it.
 use Rattle.lack_needs.proofs.Counted.{process_noted}
 use Rattle.lack_needs.proofs.ranks.all_counts.Goals as goal
 

@@ -1,4 +1,4 @@
--- All counts, sorted and each kept once.
+-- Sorting keeps all counts, and dropping repeats keeps each once.
 use Rattle.std.proofs.lemmas.List.Filters.{dedup_is}
 use Rattle.std.proofs.lemmas.List.Kept.{Contains-dedup_nat, Contains-from_dedup}
 use Rattle.std.proofs.lemmas.List.Sorted.{Contains-permutation, IsPermutation-sym}

@@ -1,4 +1,4 @@
--- Those less come first, so the place where the others begin is their number.
+-- Lesser counts come first, so the place where the others begin is their number.
 use Rattle.std.proofs.Common.{nat_lt, rules, sym, arith}
 use Rattle.std.proofs.lemmas.List.Sorted.{IsPartitionedBy-ltb, IsPartitionPoint-from_clause}
 use Rattle.lack_needs.proofs.Ranking.{rank_is}

@@ -1,5 +1,5 @@
--- Each process comes after those before it, with its own events; and all that these name are
--- listed, as before.
+-- Each process comes after those before it, with its own events, and all pids that these name are
+-- listed as before.
 use Rattle.std.proofs.Common.{◌∙◌, ap, arith, length, rules}
 use Rattle.std.proofs.lemmas.List.{take_all}
 use Rattle.st_core.specs.Streams.{unlisted}

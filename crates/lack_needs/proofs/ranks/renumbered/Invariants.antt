@@ -1,4 +1,4 @@
--- The draft has the streams that were taken, with their ranks.
+-- The draft has the ranks of the streams taken so far.
 use Rattle.std.proofs.Common.{◌≡◌, take}
 use Rattle.lack_laws.specs.Renumbering.{rank, with_counts}
 use Rattle.lack_needs.proofs.ranks.renumbered.Given as goal

@@ -1,4 +1,4 @@
--- The process is last, so each event goes to its end.
+-- The process is last, so each event goes to the end of the draft.
 use Rattle.std.proofs.Common.{rules, ◌∙◌, ap}
 use Rattle.st_core.specs.Streams.{lists}
 use Rattle.lack_needs.proofs.Ranking.{event_more, lists_last}

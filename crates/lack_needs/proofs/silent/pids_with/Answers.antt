@@ -1,4 +1,4 @@
--- The pids of both, sorted, are those of the streams with these processes.
+-- The sorted pids of the streams and the others are those of the longer streams, which rise.
 use Rattle.std.proofs.Common.{rules}
 use Rattle.lack_needs.proofs.SilentPids.{silent_pids}
 use Rattle.lack_needs.proofs.silent.pids_with.Goals as goal

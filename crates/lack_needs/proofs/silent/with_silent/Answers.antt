@@ -1,4 +1,4 @@
--- One process more, with its events, after all those before it.
+-- Each process comes after those before it, with the events that it has in the streams.
 use Rattle.std.proofs.Common.{◌≡◌, ◌+◌, ◌++◌, ◌∷◌, [], true, length, slice_get, suc, take, Some}
 use Rattle.std.proofs.Common.{get_or, sym, ◌∙◌, ap, subst, arith}
 use Rattle.std.specs.List.{AllByRecursion}
@@ -17,7 +17,7 @@ use Rattle.lack_needs.proofs.silent.with_silent.Goals as goal
 abbrev none : Pid
 none = record { node = 0; number = 0 }
 
--- the process that comes next
+-- the next process of the longer streams
 stream_at : (c : goal.After-events) → slice_get (with_silent c.args.streams.now c.args.others.now)
     c.loop-pid.pid-index
     ≡ Some (record {
@@ -65,7 +65,7 @@ loop-pid-preserved c =
     c.in_ok-add_process.ensures ∙ ap (λ xs. xs ++ x ∷ []) c.loop-pid.invariant
     ∙ sym (take_more all i x at) ∙ ap (λ n. take n all) next
 
--- in the end all were taken
+-- after the loop the draft has all processes
 all_there : (c : goal.After-loop-pid) → c.loop-pid.draft
     ≡ with_silent c.args.streams.now c.args.others.now
 all_there c =

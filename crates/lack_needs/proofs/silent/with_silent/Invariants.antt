@@ -1,4 +1,4 @@
--- The draft has the processes that were taken.
+-- The draft has the processes taken so far.
 use Rattle.std.proofs.Common.{◌≡◌, take}
 use Rattle.lack_laws.specs.Silent.{with_silent}
 use Rattle.lack_needs.proofs.silent.with_silent.Given as goal

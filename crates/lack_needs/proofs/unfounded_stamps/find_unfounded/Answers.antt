@@ -1,4 +1,4 @@
--- The first place that is found is the least, and if none is found there is none.
+-- The first place that is found is the least, and no place is found only if no event is unfounded.
 use Rattle.std.proofs.Common.{sym, ◌∙◌}
 use Rattle.std.proofs.lemmas.Bool.{false≢true}
 use Rattle.lack_needs.specs.Unfounded.{is_unfounded}

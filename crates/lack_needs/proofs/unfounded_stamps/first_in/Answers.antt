@@ -1,4 +1,4 @@
--- An event is unfounded, or what is left has the first.
+-- The first unfounded event is the next one, or is among those after it.
 use Rattle.std.proofs.Common.{◌||◌, not, slice_get, take, get_or, refl, sym, ◌∙◌, ap}
 use Rattle.st_pair.specs.Places.{is_stamp}
 use Rattle.st_pair.proofs.ForCallers.{at_get_or, blank}

@@ -1,4 +1,4 @@
--- A stream's first such place is the first of all if no stream before it has one.
+-- The first unfounded event of a stream is the first of all if no stream before has one.
 use Rattle.std.proofs.Common.{◌∙◌}
 use Rattle.lack_needs.specs.Places.{flaw_place}
 use Rattle.lack_needs.specs.Unfounded.{is_unfounded}

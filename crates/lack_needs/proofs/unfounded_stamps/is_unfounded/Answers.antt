@@ -1,4 +1,4 @@
--- The sender of each event is listed.
+-- The sender of each event is listed, so its lowest count is noted.
 use Rattle.std.specs.Option.{option_map_or}
 use Rattle.std.proofs.Common.{true}
 use Rattle.std.proofs.lemmas.Bool.{and_parts}

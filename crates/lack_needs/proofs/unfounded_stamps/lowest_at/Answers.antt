@@ -1,4 +1,4 @@
--- Each listed process has its count at its place.
+-- Each listed process has its lowest count at its place.
 use Rattle.std.proofs.Common.{sym, ◌∙◌}
 use Rattle.std.proofs.lemmas.Bool.{false≢true}
 use Rattle.st_core.specs.Run.{pids_of}

@@ -1,4 +1,4 @@
--- One process more.
+-- The lowest counts of more processes are those so far, lowered by the events of the next process.
 use Rattle.std.proofs.Common.{◌≤◌, ℕ, List, None, Option, length, take, subst, arith, ap, rules}
 use Rattle.std.proofs.lemmas.List.{length-map, take_all}
 use Rattle.st_core.specs.declared.types.Pid.{Pid}

@@ -1,4 +1,4 @@
--- The events of the processes that were taken are noted.
+-- The lowest counts noted so far are those of the processes taken so far.
 use Rattle.std.proofs.Common.{take, None}
 use Rattle.st_core.specs.Run.{pids_of}
 use Rattle.lack_needs.specs.Unfounded.{lowest_from, IsNoted}

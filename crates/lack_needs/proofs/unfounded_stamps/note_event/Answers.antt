@@ -1,4 +1,4 @@
--- The count at the event's process alone changes.
+-- Only the lowest count of the event's sender changes.
 use Rattle.std.proofs.Common.{refl, arith}
 use Rattle.std.proofs.lemmas.Option.{slice_get_within}
 use Rattle.st_core.specs.Run.{pids_of}

@@ -1,4 +1,4 @@
--- One event more.
+-- The lowest counts of more events are those so far, lowered by the next event.
 use Rattle.std.proofs.Common.{ℕ, Option, take, get_or, subst}
 use Rattle.std.proofs.lemmas.List.{take_all}
 use Rattle.st_core.specs.declared.types.Pid.{Pid}

@@ -1,4 +1,4 @@
--- The events that were taken are noted.
+-- The lowest counts noted so far are those of the events taken so far.
 use Rattle.std.proofs.Common.{take, ℕ, Option}
 use Rattle.st_core.specs.declared.types.Pid.{Pid}
 use Rattle.st_core.specs.Run.{pids_of}

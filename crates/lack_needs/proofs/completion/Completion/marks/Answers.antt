@@ -1,4 +1,4 @@
--- The events with these marks are the completion.
+-- The streams with their marks are the completion's whole streams.
 use Rattle.std.proofs.Common.{sym, ◌∙◌, ap}
 use Rattle.st_plan.specs.Marks.{all_streams}
 use Rattle.lack_needs.specs.Completions.{wholes_with, Completed}

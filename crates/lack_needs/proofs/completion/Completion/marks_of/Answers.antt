@@ -1,4 +1,4 @@
--- The marks of a process are those at its place; a process that isn't there has no events.
+-- The marks of a process are those at its place; a process that isn't listed has no events.
 use Rattle.std.proofs.Common.{◌≡◌, List, [], get_or, map, sym, ◌∙◌, ap}
 use Rattle.st_core.specs.Streams.{events_of}
 use Rattle.st_plan.specs.Marks.{all_streams, Marked}

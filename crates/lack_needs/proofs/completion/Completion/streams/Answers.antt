@@ -1,4 +1,4 @@
--- The marks change no event.
+-- Marks change no event.
 use Rattle.std.proofs.Common.{◌∙◌, sym, ap}
 use Rattle.st_plan.specs.Marks.{all_streams}
 use Rattle.lack_needs.specs.Completions.{Completed}

@@ -1,4 +1,4 @@
--- One event more raises the greatest count to its own, and leaves its own prev or count.
+-- One more event raises the greatest count to its own, and leaves its own prev or count.
 use Rattle.std.proofs.Common.{max, ◌∙◌, ap}
 use Rattle.lack_needs.specs.declared.flaws.Left.{Left}
 use Rattle.lack_needs.proofs.Leaving.{left_push}
