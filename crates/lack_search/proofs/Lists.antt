@@ -1,4 +1,4 @@
--- A list of which one item is replaced by one that counts the same.
+-- A list keeps what it counts if an item is replaced by one that counts the same.
 use Rattle.std.proofs.Common.{◌≡◌, ℕ, zero, suc, List, [], ◌∷◌, map, get_or, refl, ◌∙◌, ap}
 use Rattle.std.proofs.Math.ListN.{set}
 use Rattle.lack_search.specs.declared.asks.Ask.{Ask}
@@ -12,7 +12,7 @@ map_set_same f [] i x d same = refl
 map_set_same f (y ∷ xs) zero x d same = ap (λ z. z ∷ map f xs) same
 map_set_same f (y ∷ xs) (suc i) x d same = ap (λ zs. f y ∷ zs) (map_set_same f xs i x d same)
 
--- what a read past the end gives
+-- the stamp that is read past the end
 abbrev none : Ask
 none = record {
   process = record { node = 0; number = 0 };
@@ -22,7 +22,7 @@ none = record {
   message = given.Missing;
 }
 
--- a stamp that gets a message is the same stamp
+-- a stamp that gets a message changes in nothing else
 pub message_given : (old new : List Ask) (i : ℕ) (m : GivenMessage)
     → new ≡ set old i (record (get_or old i none) { message = m })
     → without_messages new ≡ without_messages old

@@ -1,6 +1,6 @@
--- A candidate tells the streams. Each event is put at the end of the process that was begun last,
--- with its mark, so the process tells what it told, and the event if that was reported. When no
--- event is left it tells all of its reported events. So do all processes.
+-- A candidate tells the streams: each event goes to the end of the process that was begun last,
+-- with its mark, so the process tells what it told before, and the event if that was reported.
+-- When no event is left, each process tells all of its reported events.
 use Rattle.std.proofs.Common.{◌≡◌, ℕ, ◌+◌, ◌<◌, ◌≤◌, zero, suc, Bool, true, false, cond, List, []}
 use Rattle.std.proofs.Common.{◌∷◌, ◌++◌, length, take, get_or, slice_get, Some, append-nil}
 use Rattle.std.proofs.Common.{append_assoc, refl, sym, ◌∙◌, ap, arith}
@@ -81,7 +81,7 @@ adds_both p xs ys a b c first second before told under =
       tells = then.tells ∙ append_assoc told xs ys;
     }
 
--- of all these reported events some were added, and the others are left
+-- some of the reported events were added, and the others are left
 pub record IsToldSoFar (p : Pid) (all left : List Event) (old new : Assembly) : Type 0 where
   pub told : List Event
   pub adds : AddsTold p told old new
@@ -90,7 +90,7 @@ pub record IsToldSoFar (p : Pid) (all left : List Event) (old new : Assembly) : 
 pub told_start : (p : Pid) (all : List Event) (a : Assembly) → IsToldSoFar p all all a a
 told_start p all a = record { told = []; adds = adds_none p a; whole = refl }
 
--- invented sends, and then an event, which was reported or not
+-- invented sends are added, and then an event, which was reported or not
 pub told_step : (p : Pid) (all left rest more : List Event) (a b c d : Assembly)
     → IsToldSoFar p all left a b → AddsTold p [] b c → AddsTold p more c d → left ≡ more ++ rest
     → IsToldSoFar p all rest a d
@@ -101,7 +101,7 @@ told_step p all left rest more a b c d so_far sends event parts = record {
       ∙ so_far.whole;
 }
 
--- and the invented sends that come last
+-- after the invented sends that come last all reported events are told
 pub told_whole : (p : Pid) (all left : List Event) (a b c : Assembly)
     → IsToldSoFar p all left a b → left ≡ [] → AddsTold p [] b c → AddsTold p all a c
 told_whole p all left a b c so_far none sends before told under =
@@ -128,7 +128,7 @@ wholes_push (y ∷ xs) (m ∷ ls) x l even =
     ap (λ (ws : List Whole). record { pid = y.pid; marked = marked_with y.events m } ∷ ws)
     (wholes_push xs ls x l (omega arith))
 
--- the first k of these processes were added, and tell what the streams have of them
+-- the first k processes were added, and tell their events in the streams
 pub record AreAssembled (streams : List Stream) (pids : List Pid) (k : ℕ) (draft : List Stream)
     (lists : List (List Bool)) : Type 0 where
   pub even : length lists ≡ length draft
@@ -141,7 +141,7 @@ none_assembled streams pids draft lists none unmarked = record {
   told = ap (λ ss. told_streams (wholes_with ss lists)) none;
 }
 
--- one process more
+-- one more process tells its events
 pub process_assembled : (streams : List Stream) (pids : List Pid) (k : ℕ) (d : Pid)
     (old new : List Stream) (lists more : List (List Bool)) (marks : List Bool) → k < length pids
     → IsAdded streams (get_or pids k d) old new marks → more ≡ lists ++ marks ∷ []
@@ -172,7 +172,7 @@ process_assembled streams pids k d old new lists more marks within is is_more so
           ∙ sym (map_more own pids k d within);
     }
 
--- so all of them
+-- after all processes the candidate tells all events
 pub all_assembled : (streams : List Stream) (pids : List Pid) (k : ℕ) (draft : List Stream)
     (lists : List (List Bool)) → length pids ≤ k → AreAssembled streams pids k draft lists
     → told_streams (wholes_with draft lists) ≡ streams_of_pids streams pids
@@ -203,7 +203,7 @@ events_there xs k x rising at =
     ap events_in here.found
     ∙ ap (λ (s : Stream). s.events) (same_Some here.stream x (sym here.at ∙ at))
 
--- the streams with the further processes, of which each has nothing
+-- a further process tells no event, so all processes tell the streams with the further ones
 pub reported_with_silent : (streams : List Stream) (qs : List Pid) → IsStreams streams
     → streams_of_pids streams (pids_of (with_silent streams qs)) ≡ with_silent streams qs
 reported_with_silent streams qs sound =
@@ -211,7 +211,7 @@ reported_with_silent streams qs sound =
     rebuilt streams all (λ k x at. sym (silent_events streams sound qs x.pid)
     ∙ events_there all k x (silent_sound streams sound qs).draft.rising at)
 
--- how many events one process more has
+-- one more process adds the number of its events
 pub counts_more : (streams : List Stream) (pids : List Pid) (k : ℕ) (d : Pid) (es : List Event)
     (counts : List ℕ) (n : ℕ) → IsRising (pids_of streams) → pids ≡ pids_of streams
     → k < length pids → es ≡ events_of streams (get_or pids k d) → n ≡ length es

@@ -9,7 +9,7 @@ use Rattle.lack_search.specs.declared.asks.Asks.{Asks}
 use Rattle.lack_search.specs.declared.asks.GivenMessage.{GivenMessage}
 use Rattle.lack_search.specs.declared.asks.GivenMessage.TheVariants as given
 
--- the send of the message that the stamp gets, if it gets one
+-- the send of the message that the stamp gets
 abbrev pub sent_for : List Stream → Ask → GivenMessage → Option Event
 sent_for streams ask given.Missing = None
 sent_for streams ask (given.Lost from index) = event_at streams from index
@@ -22,7 +22,7 @@ sent_for streams ask (given.Invented from prev) = Some (record {
   value = 0;
 })
 
--- the message is an invented one
+-- the message is invented
 abbrev pub is_invented : GivenMessage → Bool
 is_invented given.Missing = false
 is_invented (given.Lost from index) = false
@@ -32,7 +32,7 @@ is_invented (given.Invented from prev) = true
 abbrev pub HasNoInvention : Ask → Type 0
 HasNoInvention ask = is_invented ask.message ≡ false
 
--- no stamp has, so that each message that was given is a lost one
+-- no stamp has an invented message, so each message that was given is a lost one
 pub record AreGivenLost (asks : Asks) : Type 0 where
   pub needs : All HasNoInvention asks.needs.items
   pub beginnings : All HasNoInvention asks.beginnings.items

@@ -1,4 +1,4 @@
--- For the parts alone, but for `TellsStreams`: how whole streams are put together, and what they
+-- For the parts alone, but for `TellsStreams`: whole streams that are put together, and what they
 -- tell.
 use Rattle.std.specs.Prelude.{◌≡◌, List, [], ◌∷◌, ◌++◌, map, length, Bool}
 use Rattle.st_core.specs.declared.types.Pid.{Pid}
@@ -11,14 +11,14 @@ use Rattle.lack_needs.specs.Completions.{marked_with, wholes_with}
 use Rattle.lack_search.specs.declared.assembly.Assembly.{Assembly}
 use Rattle.lack_search.specs.declared.candidate.Candidate.{Candidate}
 
--- The candidate keeps the processes and the events of the streams, in their order: what it adds
--- isn't told, and of its unlisted processes nothing is.
+-- The candidate tells the streams: it keeps their processes and events in order, and what it adds
+-- isn't told, nor any event of its unlisted processes.
 abbrev pub TellsStreams : List Stream → Candidate → Type 0
 TellsStreams streams candidate = told_streams (wholes_with candidate.streams candidate.told.items)
     ≡ with_silent streams candidate.unlisted.items
 
--- The process was begun last, after those streams. Each of its events has a mark, and these are
--- told.
+-- Process p was begun last, after the streams `before`. Each of its events has a mark, and its
+-- told events are these.
 pub record IsUnderWay (before : List Stream) (p : Pid) (told : List Event)
     (assembly : Assembly) : Type 0 where
   pub last : ComesLast before p
@@ -27,18 +27,18 @@ pub record IsUnderWay (before : List Stream) (p : Pid) (told : List Event)
   pub even : length assembly.marks.items ≡ length events
   pub tells : told_events (marked_with events assembly.marks.items) ≡ told
 
--- the process that was begun last tells these further events
+-- process p, which was begun last, tells these further events
 abbrev pub AddsTold : Pid → List Event → Assembly → Assembly → Type 0
 AddsTold p more old new = (before : List Stream) (told : List Event)
     → IsUnderWay before p told old → IsUnderWay before p (told ++ more) new
 
--- the process comes after those of the old streams, and its marked events are those of the streams
+-- process p was added after the old streams, and its told events are those of the streams
 pub record IsAdded (streams : List Stream) (p : Pid) (old new : List Stream)
     (marks : List Bool) : Type 0 where
   pub events : List Event
   pub draft : new ≡ old ++ record { pid = p; events = events } ∷ []
   pub told : told_events (marked_with events marks) ≡ events_of streams p
 
--- these processes, each with its events in the streams
+-- the processes, each with its events in the streams
 abbrev pub streams_of_pids : List Stream → List Pid → List Stream
 streams_of_pids streams pids = map (λ p. record { pid = p; events = events_of streams p }) pids

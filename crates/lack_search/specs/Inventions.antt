@@ -1,4 +1,4 @@
--- For the parts alone: messages that are invented.
+-- For the parts alone: invented messages.
 use Rattle.std.specs.Prelude.{◌≡◌, ℕ, ◌+◌, ◌&&◌, nat_le, nat_lt, List, map, length, Option, Some}
 use Rattle.std.specs.Prelude.{None, if◌then◌else◌, vec_len}
 use Rattle.st_core.specs.declared.types.Pid.{Pid}
@@ -23,7 +23,8 @@ sent_as invention = record {
   value = 0;
 }
 
--- the prev of a send with this count after what left this, before the event that comes next
+-- the prev of an invented send with this count before event e: that of e, if a trace can begin
+-- with it there, else the one that the events before leave
 abbrev pub prev_before : Left → ℕ → Option Event → ℕ
 prev_before left count None = left.prev
 prev_before left count (Some e) =
@@ -35,14 +36,14 @@ abbrev pub LeavesPrevs : Inventor → Inventor → Type 0
 LeavesPrevs old new =
     vec_len new.prevs + length new.inventions.now ≡ vec_len old.prevs + length old.inventions.now
 
--- the send, with prev 0, by this process of the message for the need
+-- the invention is the send, with prev 0, of the sender's message for the need
 pub record IsSendFor (turn : Turn) (sender : Pid) (invention : Invention) : Type 0 where
   pub count : invention.count ≡ turn.count
   pub prev : invention.prev ≡ 0
   pub from : invention.sender ≡ sender
   pub ask : invention.ask ≡ turn.ask
 
--- the stamp, without what it got
+-- the stamp without its message
 abbrev pub without_message : Ask → Ask
 without_message ask = record ask { message = given.Missing }
 

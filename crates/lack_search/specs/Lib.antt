@@ -1,4 +1,4 @@
--- For the parts alone, but for what a candidate tells.
+-- For the parts alone, but for `TellsStreams` in `Assembly`, which says what a candidate tells.
 pub mod Sends
 pub mod Unlisted
 pub mod Walk

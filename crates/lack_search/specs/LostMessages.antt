@@ -13,12 +13,13 @@ use Rattle.lack_search.specs.declared.lost_messages.Choice.TheVariants as choice
 use Rattle.lack_search.specs.declared.lost_messages.LostMessage.{LostMessage}
 use Rattle.lack_search.specs.declared.lost_messages.MessageKey.{MessageKey}
 
--- the label, if it counts
+-- the label, if it must be the stamp's
 abbrev pub counted_label : Choice → Label → Option Label
 counted_label choice.OwnLabel label = Some label
 counted_label choice.AnyLabel label = None
 
--- what a message to this process with this count and label must have in common with a stamp
+-- the key that a message with this receiver, count and label shares with the stamps that can get
+-- it
 abbrev pub key_of : Choice → Pid → ℕ → Label → MessageKey
 key_of choice to count label = record {
   to = to;
@@ -26,7 +27,7 @@ key_of choice to count label = record {
   label = counted_label choice label;
 }
 
--- the message is that of a reported send, which no receive is paired with
+-- the message is that of a reported send, and no receive is paired with it
 pub record IsLostIn (streams : List Stream) (pairing : List ProcessLinks)
     (message : LostMessage) : Type 0 where
   pub sent : Event
@@ -37,6 +38,6 @@ pub record IsLostIn (streams : List Stream) (pairing : List ProcessLinks)
   pub label : sent.label ≡ message.label
   pub unreceived : IsPairing streams pairing → receiver_at streams message.from message.index ≡ None
 
--- each of these is
+-- each message is that of a reported send, and no receive is paired with it
 abbrev pub AreLostIn : List Stream → List ProcessLinks → List LostMessage → Type 0
 AreLostIn streams pairing lost = All (IsLostIn streams pairing) lost

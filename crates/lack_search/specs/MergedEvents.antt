@@ -6,7 +6,7 @@ use Rattle.lack_search.specs.declared.merged_events.MergedEvents.{MergedEvents}
 use Rattle.lack_search.specs.declared.merged_events.Origin.{Origin}
 use Rattle.lack_search.specs.declared.merged_events.Origin.TheVariants as origin
 
--- an event of this origin was reported
+-- an event with this origin was reported
 abbrev pub is_told : Origin → Bool
 is_told origin.Reported = true
 is_told origin.Hidden = false
@@ -20,6 +20,6 @@ told_if from e = if is_told from then e ∷ [] else []
 abbrev pub told_in : MergedEvent → List Event
 told_in m = told_if m.origin m.event
 
--- how many events are left, with those that won't come
+-- the number of events that may still come
 abbrev pub events_left : MergedEvents → ℕ
 events_left merged = length merged.reported.now + length merged.hidden.now + length merged.asks.now

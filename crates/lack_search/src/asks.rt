@@ -1,5 +1,5 @@
-//! The stamps that ask for a message: sends and prints whose prev isn't what is before them
-//! leaves.
+//! The stamps that ask for a message: sends and prints whose prev the events before them don't
+//! leave.
 
 ghost use Rattle.std.specs.Prelude.{◌≡◌, ◌++◌, All, IfOk, OnOk};
 ghost use Rattle.lack_search.specs.Asks.{sent_for, AreGivenLost, HasNoInvention};
@@ -12,31 +12,31 @@ use st_core::{Event, Kind, Label, Pid, Serial, Streams};
 use std::alloc::{AllocError, Global};
 use std::cmp::Ordering;
 
-/// The message that a stamp gets.
+/// The message that a stamp gets, if it gets one.
 #[derive(Clone, Copy, PartialEq, Eq)]
 pub(crate) enum GivenMessage {
     Missing,
-    /// That of a reported send which nobody received, of this process and with this index there:
-    /// its receive was lost.
+    /// The message of a reported send that nobody received, by its sender and its index among the
+    /// sender's reported events: its receive was lost.
     Lost(Pid, u32),
-    /// One that is invented, of this process, which sends it with this prev.
+    /// An invented message, by its sender and its prev.
     Invented(Pid, u64),
 }
 
-/// A send or print that asks for a message of its prev.
+/// A send or print that asks for a message with its prev as count.
 #[derive(Clone, Copy)]
 pub(crate) struct Ask {
     pub process: Pid,
-    /// The stamp's index among the reported events and hidden sends of its process.
+    /// The index of the stamp among the reported events and hidden sends of its process.
     pub index: u32,
     pub label: Label,
-    /// The stamp's prev.
+    /// The prev of the stamp.
     pub count: u64,
     pub message: GivenMessage,
 }
 
 impl Ask {
-    /// The send of the message that it got.
+    /// Returns the send of the message that the stamp got.
     pub(crate) fn sent(&self, streams: &Streams) -> Option<Event>
         ensures { result ≡ sent_for streams.now self.now self.now.message }
     {
@@ -58,18 +58,18 @@ impl Ask {
     }
 }
 
-/// The stamps that ask, by process and index.
+/// The stamps that ask for a message.
 #[derive(Drop)]
 pub(crate) struct Asks {
-    /// The needs: their prev is below the clock, so that only a message can give it.
+    /// The needs: stamps whose prev is below the clock, so that only a message can give it.
     pub needs: Vec<Ask>,
-    /// Those whose prev is above the clock. The machine would let a trace begin there, but it is
-    /// more likely that a message brought the count.
+    /// The stamps whose prev is above the clock. The machine would let a trace begin there, but it
+    /// is more likely that a message brought the count.
     pub beginnings: Vec<Ask>,
 }
 
 impl Asks {
-    /// Notes what an event of the process asks for, behind what these events left.
+    /// Notes what an event of the process asks for, after events that leave `left`.
     fn note(
         &mut self,
         process: Pid,
@@ -93,7 +93,7 @@ impl Asks {
         };
         match count.cmp(&left.greatest) {
             Ordering::Less => self.needs.push(ask)?,
-            // A trace that begins at the clock asks for nothing, so that a full trace doesn't.
+            // A trace may begin at the clock without a message, so a full trace asks for nothing.
             Ordering::Equal => {}
             Ordering::Greater => self.beginnings.push(ask)?,
         }
@@ -114,7 +114,8 @@ impl Asks {
         Ok(())
     }
 
-    /// The stamps that ask in these streams with their hidden sends.
+    /// Returns the stamps that ask among the events and hidden sends of the streams, by process
+    /// and index.
     pub(crate) fn of(
         alloc: Global,
         streams: &Streams,
@@ -138,7 +139,7 @@ impl Asks {
         Ok(asks)
     }
 
-    /// All needs, and the beginnings that got a message, by process and index.
+    /// Returns all needs, and the beginnings that got a message, by process and index.
     pub(crate) fn into_fed(self) -> Result<Vec<Ask>, AllocError>
         requires { AreGivenLost self }
         ensures { IfOk result (λ fed. All HasNoInvention fed.items) }
@@ -152,7 +153,7 @@ impl Asks {
                 fed.push(*ask)?;
             }
         }
-        // Needs that got no lost message are still in order.
+        // Without lost messages the needs are still in order.
         if !fed.is_sorted_by_key(|ask| (ask.process, ask.index)) {
             fed.sort_by_key(|ask| (ask.process, ask.index))?;
         }
@@ -160,7 +161,7 @@ impl Asks {
     }
 }
 
-/// The stamps that ask of the processes up to this one, and the others.
+/// Splits the stamps into those of the processes up to `pid` and those of the others.
 pub(crate) fn split_asks(asks: &[Ask], pid: Pid) -> (&[Ask], &[Ask])
     ensures { result.0.now ++ result.1.now ≡ asks.now }
 {

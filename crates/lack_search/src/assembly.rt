@@ -1,4 +1,4 @@
-//! The whole streams of a candidate, put together from its parts.
+//! Puts the whole streams of a candidate together from its parts.
 
 ghost use Rattle.std.specs.Prelude.{◌≡◌, [], IfOk, IfSome, OnOk};
 ghost use Rattle.lack_search.specs.Assembly.{streams_of_pids, AddsTold, IsAdded, IsUnderWay};
@@ -22,22 +22,22 @@ use st_pair::Pairing;
 use std::alloc::{AllocError, Global};
 use std::mem::replace;
 
-/// The events and processes that are added to streams.
+/// The events and processes that a candidate adds to the streams.
 #[derive(Drop)]
 pub(crate) struct Parts {
     pub hidden: Vec<HiddenSend>,
     /// The stamps that got messages, by process and index.
     pub fed: Vec<Ask>,
-    /// The sends of the messages that are invented, by sender and count.
+    /// The sends of the invented messages, by sender and count.
     pub inventions: Vec<Invention>,
     pub unlisted: Vec<Pid>,
 }
 
-/// Whole streams that are being put together, with the parts that are left.
+/// The whole streams so far, and the parts that are left.
 #[derive(Drop)]
 struct Assembly<'a> {
     draft: Draft,
-    /// Where the events are that were added.
+    /// The indexes of the events so far.
     positions: Positions,
     /// The marks of the process whose events are being added.
     marks: Vec<bool>,
@@ -86,7 +86,8 @@ impl<'a> Assembly<'a> {
         Ok(())
     }
 
-    /// Adds the invented sends, of these of the process, that count up to this. Returns the others.
+    /// Adds the invented sends of the process with counts up to `most`, and returns those that are
+    /// left.
     fn add_sends<'b>(
         &mut self,
         pid: Pid,
@@ -153,7 +154,7 @@ impl<'a> Assembly<'a> {
         Ok(replace(&mut self.marks, Vec::new(alloc)))
     }
 
-    /// Adds all events of these processes, and returns the marks of each.
+    /// Adds all events of the processes, and returns the marks of each.
     fn add_all(
         &mut self,
         alloc: Global,
@@ -185,7 +186,7 @@ impl<'a> Assembly<'a> {
     }
 }
 
-/// The streams with what is added; nothing if the parts don't make streams.
+/// Returns the candidate of the streams and the parts; `None` if they don't make streams.
 pub(crate) fn assemble(
     alloc: Global,
     streams: &Streams,

@@ -1,13 +1,13 @@
 //! Whole streams that may be a completion: the streams, with what must have happened unreported.
 //!
-//! They are built if no reason holds of the streams, by rules that always give the same for the
-//! same streams, in nearly linear time:
+//! If no reason holds of the streams, they are built in nearly linear time, and the same streams
+//! always get the same ones:
 //!
-//! 1. Hidden sends get places among their process's receives (`walk`).
+//! 1. Hidden sends get places among the receives of their processes (`walk`).
 //! 2. Messages that were sent and never received are given to stamps that ask for them
 //!    (`lost_messages`).
-//! 3. The needs that are left get messages that are invented, of listed processes that stamp their
-//!    count nowhere, then of processes that the streams don't list (`senders`, `inventions`).
+//! 3. The needs that are left get invented messages, from listed processes that don't stamp their
+//!    count, or else from processes that the streams don't list (`senders`, `inventions`).
 
 ghost use Rattle.std.specs.Prelude.{IfOk, IfSome};
 ghost use Rattle.lack_search.specs.Assembly.{TellsStreams};
@@ -25,18 +25,18 @@ use st_core::{Pid, Sequence, Streams};
 use st_pair::Pairing;
 use std::alloc::{AllocError, Global};
 
-/// Whole streams that may be a completion.
+/// Whole streams that may be a completion, and their links.
 #[derive(Drop)]
 pub struct Candidate {
-    /// All events, of the listed processes and the unlisted ones.
+    /// All events of the listed and the unlisted processes.
     pub streams: Streams,
-    /// For each process, by its place, whether each of its events is told.
+    /// The marks of each process, by its place: whether each of its events is told.
     pub told: Vec<Sequence<bool>>,
-    /// For each process, by its place, and each of its events the index of the other end of its
-    /// message: of a receive among the events of its sender, of a send among those of its receiver.
-    /// That of an event without another end may be any number.
+    /// The links of each process, by its place. The link of a receive is the index of its send
+    /// among all events of the sender, that of a send the index of its receive; that of any other
+    /// event may be any number.
     pub links: Vec<Sequence<u32>>,
-    /// The processes that weren't listed, by rising pid.
+    /// The processes that the streams don't list, by rising pid.
     pub unlisted: Vec<Pid>,
 }
 
@@ -63,10 +63,10 @@ fn parts_of(alloc: Global, streams: &Streams, pairing: &Pairing) -> Result<Parts
     })
 }
 
-/// Builds the candidate of streams of which no reason holds: pairing accepts them, no event is
-/// late, none is unfounded, none counts too high. The judge finds out whether anything is missing
-/// in it. It returns none only if what it builds isn't streams, or if a further process was found
-/// twice; no test has seen either.
+/// Builds a candidate of streams of which no reason holds. Whether anything is missing in it, the
+/// judge of `lack_decide` finds out. It returns `None` only if the parts don't make streams, or if
+/// an unlisted process was found twice; no test has seen either. It fails if memory runs out, or
+/// if every pid is listed and one more is needed.
 pub fn build_candidate(
     alloc: Global,
     streams: &Streams,

@@ -1,4 +1,4 @@
-//! Hidden sends: sends that only their receives tell of.
+//! Hidden sends, which only their receives tell of.
 
 ghost use Rattle.std.specs.Prelude.{◌≡◌, ◌++◌, IfOk, OnOk};
 ghost use Rattle.lack_search.specs.Sends.{AreSendsIn};
@@ -7,19 +7,19 @@ use st_core::{Event, Kind, Pid, Streams};
 use st_pair::{Pairing, Source};
 use std::alloc::{AllocError, Global};
 
-/// A hidden send.
+/// A send that only its receive tells of.
 #[derive(Clone, Copy)]
 pub(crate) struct HiddenSend {
     /// The send, as its receive tells of it.
     pub event: Event,
-    /// The index of its sender's reported event that it is before, the number of these events
-    /// if it is after all; 0 until the walk has found it.
+    /// The index of the sender's reported event that the send goes before; the number of these
+    /// events if it goes after all; 0 until the walk has found it.
     pub place: u32,
-    /// The index of its receive among its receiver's reported events.
+    /// The index of the receive among the reported events of its process.
     pub receipt: u32,
 }
 
-/// The hidden sends of the processes up to this one, and the others.
+/// Splits the hidden sends into those of the processes up to `pid` and those of the others.
 pub(crate) fn split_hidden(hidden: &[HiddenSend], pid: Pid) -> (&[HiddenSend], &[HiddenSend])
     ensures { result.0.now ++ result.1.now ≡ hidden.now }
 {
@@ -59,8 +59,8 @@ fn note_hidden(
     Ok(())
 }
 
-/// The hidden sends of streams, by sender and count, without places. Pairing accepts no two
-/// receives of one sender and count, so no two of the sends have the same key.
+/// Returns the hidden sends of the streams, by sender and count, without places. Pairing accepts
+/// no two receives with one sender and count, so no two sends have one key.
 pub(crate) fn hidden_sends(
     alloc: Global,
     streams: &Streams,

@@ -1,4 +1,4 @@
-//! The sends of the messages that are invented, and their prevs.
+//! Invents messages: their sends, with prevs.
 
 ghost use Rattle.std.specs.Prelude.{◌≡◌, ◌++◌, [], length, vec_len, IfOk, IfSome, OnOk};
 ghost use Rattle.std.specs.Option.{option_copied};
@@ -13,17 +13,17 @@ use lack_needs::{Left, is_stamp};
 use st_core::{Event, Kind, Label, Pid, Serial, Streams};
 use std::alloc::{AllocError, Global};
 
-/// The send of an invented message. It is before the first event of its sender that doesn't
-/// count lower, or at the end.
+/// The send of an invented message. It goes before the first event of its sender that has its
+/// count or a greater one, or after all events.
 #[derive(Clone, Copy)]
 pub(crate) struct Invention {
     pub count: u64,
     pub prev: u64,
     pub sender: Pid,
     pub to: Pid,
-    /// The label of the stamp that gets it.
+    /// The label of the stamp that gets the message.
     pub label: Label,
-    /// The number of this stamp, among those that get messages.
+    /// The number of the stamp among those that get messages.
     pub ask: u32,
 }
 
@@ -45,7 +45,7 @@ impl Invention {
     }
 }
 
-/// The invented sends of the processes up to this one, and the others.
+/// Splits the invented sends into those of the processes up to `pid` and those of the others.
 pub(crate) fn split_inventions(inventions: &[Invention], pid: Pid) -> (&[Invention], &[Invention])
     ensures { result.0.now ++ result.1.now ≡ inventions.now }
 {
@@ -53,9 +53,10 @@ pub(crate) fn split_inventions(inventions: &[Invention], pid: Pid) -> (&[Inventi
     inventions.split_at(count)
 }
 
-/// The prev of an invented send before an event: what is before leaves, so that it costs
-/// nothing; or the event's own prev, if that lies between the clock and the send's count. Then the
-/// trace of the event begins before the invented send, and the event costs nothing behind it.
+/// Returns the prev of an invented send before an event. It is what the events before leave, so
+/// that the send needs no message; or the event's own prev, if that lies between the clock and the
+/// send's count: then the trace of the event begins before the send, and the event needs no
+/// message either.
 fn prev_before(left: Left, count: u64, next: Option<&Event>) -> u64
     ensures { result ≡ prev_before left count (option_copied next.entry) }
 {
@@ -67,20 +68,20 @@ fn prev_before(left: Left, count: u64, next: Option<&Event>) -> u64
     }
 }
 
-/// The invented sends of one process, on a walk over its events.
+/// The walk over the events of a process that finds the prevs of its invented sends.
 #[derive(Drop)]
 struct Inventor<'a> {
     /// The sends that have no prev yet.
     inventions: &'a [Invention],
-    /// The counters after the events so far.
+    /// The greatest count and the prev that the events so far leave.
     left: Left,
     /// The prevs of all sends so far.
     prevs: Vec<u64>,
 }
 
 impl Inventor<'_> {
-    /// Finds the prevs of the sends that are before this event, or of all if there is no more
-    /// event.
+    /// Finds the prevs of the sends before the next event, or of all that are left if there is
+    /// none.
     fn come_to(&mut self, next: Option<&Event>) -> Result<(), AllocError>
         ensures prevs { OnOk result (LeavesPrevs self.old self.new) }
         ensures all { next.entry ≡ None → OnOk result (self.new.inventions.now ≡ []) }
@@ -113,8 +114,8 @@ impl Inventor<'_> {
     }
 }
 
-/// Finds the prevs of invented sends, which come by sender and count. A process that the streams
-/// don't list sends all of its messages with prev 0.
+/// Returns the prevs of invented sends, which come by sender and count. A process that the streams
+/// don't list sends all its messages with prev 0.
 fn prevs_of(
     alloc: Global,
     streams: &Streams,
@@ -154,8 +155,8 @@ fn prevs_of(
     Ok(prevs)
 }
 
-/// Gives invented sends their prevs, and tells the stamps that get their messages. Both know of
-/// prev 0.
+/// Gives the invented sends, and the stamps that get their messages, their prevs, which were 0 so
+/// far.
 fn set_prevs(sends: &mut [Invention], fed: &mut [Ask], prevs: &[u64])
     ensures { without_messages fed.new ≡ without_messages fed.old }
 {
@@ -171,7 +172,7 @@ fn set_prevs(sends: &mut [Invention], fed: &mut [Ask], prevs: &[u64])
     }
 }
 
-/// The send, with prev 0, of a message for the stamp whose turn it is, which learns of it.
+/// Gives the stamp whose turn it is an invented message with prev 0, and returns the send.
 fn give(fed: &mut [Ask], turn: Turn, sender: Pid) -> Option<Invention>
     ensures send { IfSome result (IsSendFor turn sender) }
     ensures stamps { without_messages fed.new ≡ without_messages fed.old }
@@ -191,7 +192,7 @@ fn give(fed: &mut [Ask], turn: Turn, sender: Pid) -> Option<Invention>
     })
 }
 
-/// Gives these stamps the messages of their senders. Returns the sends, with prev 0.
+/// Gives each stamp whose turn it is a message of its sender, and returns the sends, with prev 0.
 fn give_all(
     alloc: Global,
     turns: &[Turn],
@@ -209,8 +210,8 @@ fn give_all(
     Ok(sends)
 }
 
-/// Gives the needs that are left among these stamps messages, of these senders. Returns their
-/// sends, by sender and count.
+/// Gives each need that is left a message of its sender, and returns the sends, by sender and
+/// count.
 pub(crate) fn invent(
     alloc: Global,
     streams: &Streams,

@@ -1,8 +1,8 @@
-//! Whole streams that may be a completion of streams, and which sends and receives of them are
-//! paired.
+//! Candidates: whole streams that may be a completion of streams, with links between their sends
+//! and receives.
 //!
-//! It is proved that a candidate tells the streams. Whether anything is missing in it isn't: the
-//! judge of `lack_decide` looks at all of it, and a wrong part or link costs time and no more.
+//! It is proved that a candidate tells the streams, and not that nothing is missing in it: the
+//! judge of `lack_decide` looks at all of it, and a wrong part or link only costs time.
 #![tactic(auto)]
 
 mod asks;

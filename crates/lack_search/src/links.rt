@@ -1,7 +1,6 @@
-//! Which send each receive of a candidate has, and which receive each send. It is known where each
-//! event is, and each message is from the pairing, a hidden send, or what a stamp got: nothing is
-//! searched. The judge looks at both ends of a message before it believes them, so nothing has to
-//! hold of what is found here.
+//! Links each receive of a candidate to its send. Nothing is searched: the index of each event is
+//! known, and each message comes from the pairing, a hidden send, or what a stamp got. Nothing has
+//! to hold of links, since the judge looks at both ends of a message before it believes them.
 
 ghost use Rattle.std.specs.Prelude.{◌≡◌, length, map, vec_len, IfOk, IfSome};
 ghost use Rattle.st_core.specs.Run.{pids_of};
@@ -16,25 +15,26 @@ use st_core::{Event, Kind, Pid, Sequence, Streams};
 use st_pair::Pairing;
 use std::alloc::{AllocError, Global};
 
-/// One end of a message: an event of the whole streams.
+/// One end of a message, which is an event of the whole streams.
 #[derive(Clone, Copy)]
 struct MessageEnd {
     process: usize,
     index: u32,
 }
 
-/// The links of whole streams, as far as they were found.
+/// The links that were found so far.
 #[derive(Drop)]
 struct Linker<'a> {
     streams: &'a Streams,
     whole: &'a Streams,
     positions: &'a Positions,
-    /// For each process, by its place, and each of its events the index of its other end.
+    /// The links of each process, by its place: for each event the index of the other end of its
+    /// message.
     rows: Vec<Vec<u32>>,
 }
 
 impl Linker<'_> {
-    /// The end at an event of this process, by its index in the whole streams.
+    /// Returns the end at an event of a process, by its index in the whole streams.
     fn end_at(&self, pid: Pid, index: u32) -> Option<MessageEnd>
         ensures { IfSome result (IsMessageEndIn self.now.whole.now pid) }
     {
@@ -42,7 +42,7 @@ impl Linker<'_> {
         Some(MessageEnd { process, index })
     }
 
-    /// The end at a reported event.
+    /// Returns the end at a reported event, by its index in the streams.
     fn end_at_reported(&self, pid: Pid, index: usize) -> Option<MessageEnd>
         ensures { IfSome result (IsMessageEndIn self.now.whole.now pid) }
     {
@@ -50,7 +50,7 @@ impl Linker<'_> {
         self.end_at(pid, self.positions.of_reported(process, index)?)
     }
 
-    /// Notes what is at the other end of the message at this one.
+    /// Notes at one end of a message the index of the other.
     fn note(&mut self, end: MessageEnd, other: MessageEnd)
         ensures { KeepsShape self.old self.new }
     {
@@ -143,8 +143,7 @@ fn no_links(alloc: Global, whole: &Streams) -> Result<Vec<Vec<u32>>, AllocError>
     Ok(rows)
 }
 
-/// The links of the whole streams that were put together of these streams and parts, which are
-/// there.
+/// Returns the links of the whole streams that were put together from the streams and the parts.
 pub(crate) fn links_of(
     alloc: Global,
     streams: &Streams,

@@ -1,9 +1,8 @@
-//! Messages that were sent and never received: the receives that were lost.
+//! Messages that were sent and never received, so that their receives were lost.
 //!
-//! A reported send whose receive isn't reported is given to a stamp of its receiver that asks for
-//! its count. First to needs, which can't do without a message; no stamp that isn't a need takes
-//! one from a need. If all sends were reported there are as many such sends as needs, so that no
-//! message is invented.
+//! A reported send without a reported receive is given to a stamp of its receiver that asks for
+//! its count: first to needs, which can't do without a message. If all sends were reported, there
+//! is one for each need, so no message is invented.
 
 ghost use Rattle.std.specs.Prelude.{◌≡◌, ◌≤◌, false, length, slice_get, All, IfOk, IfSome, OnOk};
 ghost use Rattle.lack_search.specs.Asks.{AreGivenLost, HasNoInvention};
@@ -14,28 +13,28 @@ use st_core::{Event, Kind, Label, Pid, Streams};
 use st_pair::Pairing;
 use std::alloc::{AllocError, Global};
 
-/// A reported send which nobody received.
+/// A reported send that nobody received.
 #[derive(Clone, Copy)]
 struct LostMessage {
     count: u64,
     to: Pid,
     from: Pid,
-    /// Its index there.
+    /// The index of the send among the reported events of its process.
     index: u32,
     label: Label,
-    /// Whether a stamp got it.
+    /// Whether a stamp got the message.
     given: bool,
 }
 
-/// Which messages a stamp may get.
+/// The labels of the messages that a stamp may get.
 #[derive(Clone, Copy, PartialEq, Eq)]
 enum Choice {
     OwnLabel,
     AnyLabel,
 }
 
-/// A key of a stamp and of the messages that it can get: the receiver, the count, and the label if
-/// it has to be the stamp's, else no label.
+/// The key that a stamp shares with the messages that it can get: the receiver, the count, and the
+/// label if it must be the stamp's.
 #[derive(Clone, Copy, PartialEq, Eq, PartialOrd, Ord)]
 struct MessageKey {
     to: Pid,
@@ -44,7 +43,8 @@ struct MessageKey {
 }
 
 impl Choice {
-    /// The key of a message to this process with this count and label, which a stamp asks for too.
+    /// Returns the key of a message with this receiver, count and label, and of the stamps that
+    /// ask for it.
     fn key(self, to: Pid, count: u64, label: Label) -> MessageKey
         ensures { result ≡ key_of self to count label }
     {
@@ -55,7 +55,6 @@ impl Choice {
         MessageKey { to, count, label }
     }
 
-    /// The key of the messages that a stamp can get.
     fn key_of_ask(self, ask: &Ask) -> MessageKey
         ensures { result ≡ key_of self ask.now.process ask.now.count ask.now.label }
     {
@@ -111,7 +110,8 @@ fn lost_messages(
     Ok(lost)
 }
 
-/// The number of the first message from this one on that isn't given and whose key isn't less.
+/// Returns the number of the first message from `start` on that isn't given and has the key or a
+/// greater one; the number of all messages if there is none.
 fn first_left(lost: &[LostMessage], start: usize, choice: Choice, key: MessageKey) -> usize
     requires { start ≤ length lost.now }
     ensures from { start ≤ result }
@@ -127,8 +127,8 @@ fn first_left(lost: &[LostMessage], start: usize, choice: Choice, key: MessageKe
     lost.len()
 }
 
-/// Gives each stamp without a message the first that is left of its key. Stamps and messages both
-/// come by rising key, so that no message is looked at twice.
+/// Gives each stamp without a message the first message left with its key. Stamps and messages
+/// come by rising key, so each search goes on where the last one ended.
 fn deal(asks: &mut [Ask], lost: &mut [LostMessage], choice: Choice)
     requires { All HasNoInvention asks.old }
     ensures { All HasNoInvention asks.new }
@@ -147,7 +147,8 @@ fn deal(asks: &mut [Ask], lost: &mut [LostMessage], choice: Choice)
     }
 }
 
-/// Gives these stamps messages: stamps by rising index, messages by rising sender.
+/// Gives the stamps messages. Among those with one key, the stamp with the least index gets the
+/// message of the least sender.
 fn give(asks: &mut Vec<Ask>, lost: &mut Vec<LostMessage>, choice: Choice) -> Result<(), AllocError>
     requires { All HasNoInvention asks.old.items }
     ensures { OnOk result (All HasNoInvention asks.new.items) }
@@ -161,9 +162,8 @@ fn give(asks: &mut Vec<Ask>, lost: &mut Vec<LostMessage>, choice: Choice) -> Res
     Ok(())
 }
 
-/// Gives the messages that nobody received to stamps that ask for them: first to needs, to each one
-/// of its own label; then to the needs that are left; then in the same two turns to the stamps
-/// whose prev is above the clock.
+/// Gives messages that nobody received to stamps that ask for them: first to needs, those with the
+/// need's label before the others; then likewise to stamps whose prev is above the clock.
 pub(crate) fn give_lost(
     alloc: Global,
     streams: &Streams,

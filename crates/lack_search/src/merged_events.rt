@@ -1,4 +1,4 @@
-//! The events of a process with those that were added so far among them.
+//! Merges the events of a process with those that were added so far.
 
 ghost use Rattle.std.specs.Prelude.{◌≡◌, ◌+◌, ◌<◌, [], ◌++◌, IfNone, IfSome, OnSome};
 ghost use Rattle.lack_search.specs.MergedEvents.{events_left, is_told, told_in};
@@ -7,15 +7,15 @@ use crate::asks::Ask;
 use crate::hidden_sends::HiddenSend;
 use st_core::{Event, Kind, Streams};
 
-/// Where an event comes from.
+/// The origin of an event of a candidate.
 #[derive(Clone, Copy)]
 pub(crate) enum Origin {
     Reported,
-    /// It is a hidden send.
+    /// The event is a hidden send.
     Hidden,
-    /// It is the receive that a stamp got.
+    /// The event is the receive that a stamp got.
     Fed,
-    /// It is the send of a message that was invented.
+    /// The event is the send of an invented message.
     Invented,
 }
 
@@ -36,14 +36,14 @@ pub(crate) struct MergedEvent {
     pub origin: Origin,
 }
 
-/// The events of a process in order: the reported ones, its hidden sends at their places, and right
-/// before the stamps that ask the receives that they got.
+/// The events of a process in order: the reported ones, its hidden sends at their places, and the
+/// receives that stamps got, each right before its stamp.
 #[derive(Drop)]
 pub(crate) struct MergedEvents<'a> {
     streams: &'a Streams,
     reported: &'a [Event],
     hidden: &'a [HiddenSend],
-    /// The stamps that ask, of those that are left.
+    /// The stamps that ask and are still to come.
     asks: &'a [Ask],
     /// The index of the next reported event.
     place: u32,
@@ -70,8 +70,8 @@ impl<'a> MergedEvents<'a> {
         }
     }
 
-    /// Takes the next event: a receive that a stamp got, else a hidden send whose place it is, else
-    /// a reported event. Returns none if no event comes any more.
+    /// Takes the next event: a receive that a stamp got, else a hidden send at its place, else a
+    /// reported event; `None` if no event is left.
     pub(crate) fn take_next(&mut self) -> Option<MergedEvent>
         ensures some { IfSome result (λ next.
             self.old.reported.now ≡ told_in next ++ self.new.reported.now) }

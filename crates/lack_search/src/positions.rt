@@ -1,4 +1,4 @@
-//! Where the events of a candidate are in its whole streams.
+//! The indexes of a candidate's events in its whole streams.
 
 ghost use Rattle.std.specs.Prelude.{◌≡◌, [], ◌∷◌, ◌++◌, vec_len, IfOk, OnOk};
 ghost use Rattle.std.specs.Option.{option_and_then};
@@ -9,22 +9,22 @@ use crate::merged_events::Origin;
 use st_core::Streams;
 use std::alloc::{AllocError, Global};
 
-/// The index of each event among all of its process, in the order in which they were added: that of
-/// what they come from.
+/// The index of each event among all events of its process, by origin, in the order in which the
+/// events were added.
 #[derive(Drop)]
 pub(crate) struct Positions {
-    /// For each process of the streams, by its place, the number of its first event among the
-    /// reported ones of all.
+    /// For each listed process, by its place, the number of reported events of the processes
+    /// before it.
     pub starts: Vec<usize>,
     pub reported: Vec<u32>,
     pub hidden: Vec<u32>,
-    /// The receives that stamps got.
+    /// The indexes of the receives that stamps got.
     pub fed: Vec<u32>,
     pub invented: Vec<u32>,
 }
 
 impl Positions {
-    /// None yet, with room for the events of these streams and parts.
+    /// Returns empty lists with room for the events of the streams and the parts.
     pub(crate) fn new(
         alloc: Global,
         streams: &Streams,
@@ -62,8 +62,8 @@ impl Positions {
         Ok(())
     }
 
-    /// The index of the event that has this index among the reported ones of the process at this
-    /// place.
+    /// Returns the index, among all events of a process, of its reported event at `index`;
+    /// `process` is its place.
     pub(crate) fn of_reported(&self, process: usize, index: usize) -> Option<u32>
         ensures { result ≡ index_of_reported self.now process index }
     {

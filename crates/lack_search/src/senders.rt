@@ -1,8 +1,8 @@
-//! Who sends the messages that must be invented.
+//! Finds senders for the messages that must be invented.
 //!
-//! A need that is left gets its message from a process that stamps its count nowhere: first from
-//! listed processes, by rising pid, then from processes that the streams don't list. A process
-//! stamps each count at most once, so each may send one message of a count.
+//! A process stamps each count at most once. So a need without a message gets one from a process
+//! that doesn't stamp its count: a listed one, by rising pid, or else one that the streams don't
+//! list.
 
 ghost use Rattle.std.specs.Prelude.{◌≡◌, ◌*◌, ◌-◌, ◌%◌, ◌<◌, ◌^◌, length, min, true, vec_len, All};
 ghost use Rattle.std.specs.Prelude.{Contains, IfOk, IfSome, OnOk};
@@ -24,12 +24,12 @@ struct Stamp {
     process: Pid,
 }
 
-/// Which counts needs ask for, as far as their remainders tell: a stamp of another one is in
-/// nobody's way, and is left out.
+/// The remainders of the counts that needs ask for. A stamp whose count has another remainder is
+/// in no need's way, and is left out.
 #[derive(Drop)]
 struct Asked {
-    /// For each remainder whether a need asks for a count that has it. Counts are mostly lower than
-    /// twice the needs.
+    /// Whether a need asks for a count with the remainder, by remainder. There are twice as many
+    /// as needs, since most counts are lower than that.
     remainders: Vec<bool>,
 }
 
@@ -68,7 +68,7 @@ impl Asked {
     }
 }
 
-/// Notes the stamps among the events of a process whose counts may be asked for.
+/// Notes the stamps among the events of a process whose counts needs may ask for.
 fn note_stamps(
     stamps: &mut Vec<Stamp>,
     asked: &Asked,
@@ -87,7 +87,7 @@ fn note_stamps(
     Ok(())
 }
 
-/// The stamps, reported and hidden, whose counts needs may ask for, by count and process.
+/// Returns the reported and hidden stamps whose counts needs may ask for, by count and process.
 fn stamps_in_the_way(
     alloc: Global,
     streams: &Streams,
@@ -113,26 +113,26 @@ fn stamps_in_the_way(
     Ok(stamps)
 }
 
-/// Gives senders out. The counts that are asked for must rise.
+/// Gives out senders for counts that never fall.
 #[derive(Drop)]
 struct Giver<'a> {
     streams: &'a Streams,
-    /// The stamps whose counts may be asked for, by count and process.
+    /// The stamps whose counts needs may ask for, by count and process.
     stamps: Vec<Stamp>,
-    /// The number of the stamp that is looked at next.
+    /// The number of the next stamp to look at.
     stamp: usize,
-    /// The count that was asked for last.
+    /// The count for which a sender was given out last.
     count: u64,
-    /// How many of the listed processes had their turn for this count.
+    /// The number of listed processes that were tried for the count.
     listed: usize,
-    /// How many of the others send this count.
+    /// The number of unlisted processes that were given out for the count.
     others: usize,
     unlisted: UnlistedPids,
 }
 
 impl Giver<'_> {
-    /// Whether the process stamps this count. Stamps are by count and process, and so are the
-    /// questions, so that no stamp is looked at twice.
+    /// Returns whether the process stamps the count. Stamps are sorted by count and process, and
+    /// callers ask in this order, so each search goes on where the last one ended.
     fn is_stamped(&mut self, count: u64, process: Pid) -> bool
         ensures stamped { result ≡ true
             → Contains self.old.stamps.items (record { count = count; process = process }) }
@@ -182,25 +182,26 @@ impl Giver<'_> {
     }
 }
 
-/// A need without a message.
+/// A need without a message, which gets one in its turn.
 #[derive(Clone, Copy)]
 pub(crate) struct Turn {
     pub count: u64,
-    /// Its number among the stamps that get messages.
+    /// The number of the need among the stamps that get messages.
     pub ask: u32,
 }
 
-/// The needs that are left among stamps, and who sends their messages.
+/// The needs without a message, and the senders of their messages.
 #[derive(Drop)]
 pub(crate) struct Senders {
-    /// The needs, by count, and those of one count in the order of the streams.
+    /// The needs, by count, and those with one count in the order of the streams.
     pub turns: Vec<Turn>,
     pub senders: Vec<Pid>,
-    /// The processes among these that the streams don't list, by rising pid.
+    /// The senders that the streams don't list, by rising pid.
     pub unlisted: Vec<Pid>,
 }
 
-/// The needs that are left among these stamps, by count, those of one count in their order here.
+/// Returns the needs without a message, by count, and those with one count in the order of the
+/// stamps.
 fn turns_of(alloc: Global, fed: &[Ask]) -> Result<Vec<Turn>, AllocError>
     ensures { IfOk result (λ turns. AreTurnsOf fed.now turns.items) }
 {
@@ -220,7 +221,7 @@ fn turns_of(alloc: Global, fed: &[Ask]) -> Result<Vec<Turn>, AllocError>
     Ok(turns)
 }
 
-/// The senders of the messages of these needs. It fails too if no pid is left for one.
+/// Returns the senders for the needs. It also fails if no pid is left for one.
 fn take_turns(alloc: Global, giver: &mut Giver<'_>, turns: &[Turn]) -> Result<Vec<Pid>, AllocError>
     requires { AreUnlisted giver.old.streams.now giver.old.unlisted.pids.items }
     ensures senders { IfOk result (λ senders. vec_len senders ≡ length turns.now) }
@@ -236,8 +237,9 @@ fn take_turns(alloc: Global, giver: &mut Giver<'_>, turns: &[Turn]) -> Result<Ve
     Ok(senders)
 }
 
-/// Finds a sender for each need that is left among the stamps that get messages, which come by
-/// process and index. The unlisted processes are as few as needs of one count are left over.
+/// Finds a sender for each need without a message among the stamps, which come by process and
+/// index. It takes as few unlisted processes as can send all messages, since each sends one
+/// message of a count.
 pub(crate) fn find_senders(
     alloc: Global,
     streams: &Streams,

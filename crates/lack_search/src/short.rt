@@ -2,8 +2,8 @@
 
 ghost use Rattle.std.specs.Prelude.{◌≡◌, ◌-◌, ◌^◌, min};
 
-/// An index in half the memory, of which a candidate has many. One past what that holds is a wrong
-/// index, and the judge refuses what comes of it.
+/// Returns an index in half the memory, since a candidate has many. An index that doesn't fit
+/// becomes a wrong one, and the judge refuses what comes of it.
 pub(crate) fn short(index: usize) -> u32
     ensures { result ≡ min index (2 ^ 32 - 1) }
 {

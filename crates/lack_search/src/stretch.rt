@@ -1,5 +1,5 @@
-//! Stretches, and what the walk asks of one: a stretch has the receives between two neighbouring
-//! reported stamps of a process.
+//! Stretches: the receives of a process between two neighbouring reported stamps, and the
+//! questions that the walk asks of them.
 //!
 //! The gaps of a stretch are the places among its receives, counted from 0: gap 0 comes before all
 //! of them, and gap g right after the g-th.
@@ -12,17 +12,18 @@ use std::alloc::{AllocError, Global};
 /// The receives of a stretch, and the reported stamps at its ends.
 #[derive(Clone, Copy)]
 pub(crate) struct Stretch<'a> {
-    /// The stamp before it; none at the start of a process.
+    /// The stamp before the stretch; `None` at the start of a process.
     pub before: Option<&'a Event>,
     pub receives: &'a [Event],
-    /// The stamp that ends it; none at the end of a process.
+    /// The stamp after the stretch; `None` at the end of a process.
     pub stamp: Option<&'a Event>,
 }
 
-/// How far from where a search ended the next one looks first.
+/// The distance from where a search ended within which the next one looks first.
 const REACH: usize = 4;
 
-/// How many items pass. Those that pass come first, and are most often about as many as `near`.
+/// Returns how many items pass. Those that pass come first, and are most often about as many as
+/// `near`.
 fn count_passing<T, F: Fn(&T) -> bool>(items: &[T], near: usize, passes: &F) -> usize
     requires { F.IsAlwaysCallable passes.now }
     ensures { result ≤ length items.now }
@@ -35,18 +36,18 @@ fn count_passing<T, F: Fn(&T) -> bool>(items: &[T], near: usize, passes: &F) -> 
     items.partition_point(|item| passes(item))
 }
 
-/// Tables of a stretch, so that each question about it takes no more than a binary search, and
-/// mostly less: it begins near where the last one ended. They are filled anew for each stretch, so
-/// that their memory is taken once.
+/// Tables of a stretch, so that each question about it takes a binary search at most, and mostly
+/// less, since a search begins near where the last one ended. They are filled anew for each
+/// stretch, so that their memory is taken once.
 #[derive(Drop)]
 pub(crate) struct GapTables {
-    /// The clock at each gap: the greatest count of what the process reported before it.
+    /// The clock at each gap: the greatest count that the process reported before it.
     clocks: Vec<u64>,
     /// The count of each receive and the gap after it, sorted.
     by_count: Vec<(u64, usize)>,
     /// The count and the label of each receive and the gap after it, sorted.
     by_label: Vec<(u64, Label, usize)>,
-    /// Where the last search in each of them ended.
+    /// The place at which the last search in each table ended.
     near_clock: usize,
     near_count: usize,
     near_label: usize,
@@ -84,7 +85,7 @@ impl GapTables {
         self.clocks.clear();
         self.by_count.clear();
         self.by_label.clear();
-        // No stamp is late, so that the stamp before counts higher than all before it.
+        // No stamp is late, so the stamp before has the greatest count so far.
         let mut clock = match stretch.before {
             None => 0,
             Some(stamp) => stamp.serial.this,
@@ -105,7 +106,7 @@ impl GapTables {
         self.by_count.len()
     }
 
-    /// The clock at a gap; 0 past the last.
+    /// Returns the clock at a gap; 0 past the last one.
     pub(crate) fn clock(&self, gap: usize) -> u64
         ensures { result ≡ slice_index self.now.clocks.items gap }
     {
@@ -115,7 +116,7 @@ impl GapTables {
         0
     }
 
-    /// The last gap at which the clock is lower than this count.
+    /// Returns the last gap at which the clock is below the count; 0 if there is none.
     pub(crate) fn last_below(&mut self, count: u64) -> usize
         ensures gap { result ≤ vec_len self.new.by_count }
         ensures tables { self.new.by_count ≡ self.old.by_count }
@@ -125,7 +126,7 @@ impl GapTables {
         self.near_clock.saturating_sub(1)
     }
 
-    /// The last gap at which the clock isn't above this count.
+    /// Returns the last gap at which the clock isn't above the count; 0 if there is none.
     pub(crate) fn last_up_to(&mut self, count: u64) -> usize
         ensures gap { result ≤ vec_len self.new.by_count }
         ensures tables { self.new.by_count ≡ self.old.by_count }
@@ -135,7 +136,7 @@ impl GapTables {
         self.near_clock.saturating_sub(1)
     }
 
-    /// How many of the receives by count come up to this count and gap.
+    /// Returns how many rows of `by_count` come up to this count and gap.
     fn rows_up_to(&mut self, count: u64, gap: usize) -> usize
         ensures rows { result ≤ vec_len self.new.by_count }
         ensures tables { self.new.by_count ≡ self.old.by_count }
@@ -145,7 +146,7 @@ impl GapTables {
         self.near_count
     }
 
-    /// The last gap right after a receive of this count, among those up to a limit.
+    /// Returns the last gap right after a receive with this count, up to a limit.
     pub(crate) fn last_after(&mut self, count: u64, limit: usize) -> Option<usize>
         ensures gap { IfSome result (λ gap. gap ≤ limit) }
         ensures tables { self.new.by_count ≡ self.old.by_count }
@@ -161,8 +162,7 @@ impl GapTables {
         None
     }
 
-    /// The first gap right after a receive of this count, among those past a gap and up to a
-    /// limit.
+    /// Returns the first gap right after a receive with this count, past a gap and up to a limit.
     pub(crate) fn next_after(&mut self, count: u64, gap: usize, limit: usize) -> Option<usize>
         ensures gap { IfSome result (λ next. next ≤ limit) }
         ensures tables { self.new.by_count ≡ self.old.by_count }
@@ -178,8 +178,8 @@ impl GapTables {
         None
     }
 
-    /// The first gap right after a receive of this count and label, among those past a gap and up
-    /// to a limit.
+    /// Returns the first gap right after a receive with this count and label, past a gap and up to
+    /// a limit.
     pub(crate) fn next_of_label(
         &mut self,
         count: u64,

@@ -1,4 +1,4 @@
-//! Processes that the streams don't list.
+//! Finds pids that the streams don't list.
 
 ghost use Rattle.std.specs.Prelude.{◌≡◌, [], false, IfOk, IfSome};
 ghost use Rattle.std.specs.List.Sorted.{IsPermutation};
@@ -9,8 +9,8 @@ use lack_needs::is_unlisted;
 use st_core::{Pid, Streams};
 use std::alloc::{AllocError, Global};
 
-/// The pid that is tried after this one: numbers go down on a node, then comes the next node, node
-/// 0 after the last.
+/// Returns the pid that is tried after another: numbers fall on a node, then comes the next node,
+/// and node 0 after the last.
 fn pid_after(pid: Pid) -> Pid
     ensures { result ≡ pid_after pid }
 {
@@ -21,7 +21,7 @@ fn pid_after(pid: Pid) -> Pid
     Pid::on(pid.node(), number - 1)
 }
 
-/// Pids that streams don't list, as many as were asked for.
+/// The unlisted pids that were found so far.
 #[derive(Drop)]
 pub(crate) struct UnlistedPids {
     pids: Vec<Pid>,
@@ -30,8 +30,8 @@ pub(crate) struct UnlistedPids {
 }
 
 impl UnlistedPids {
-    /// None yet. They are sought from the greatest number downwards on the node of the least listed
-    /// pid, since a node gives the low numbers first.
+    /// Returns no pids yet. The search goes down from the greatest number on the node of the least
+    /// listed pid, since a node gives out low numbers first.
     pub(crate) fn new(alloc: Global, streams: &Streams) -> UnlistedPids
         ensures { result.pids.items ≡ [] }
     {
@@ -45,7 +45,7 @@ impl UnlistedPids {
         }
     }
 
-    /// The next pid that isn't listed; none if all are.
+    /// Finds the next unlisted pid; `None` if the streams list all pids.
     fn find_next(&mut self, streams: &Streams) -> Option<Pid>
         ensures unlisted { IfSome result (λ pid. lists streams.now pid ≡ false) }
         ensures pids { self.new.pids ≡ self.old.pids }
@@ -60,8 +60,8 @@ impl UnlistedPids {
         None
     }
 
-    /// The pid with this number among them, which is at most as many as there are; it finds one
-    /// more if there are no more. None if all pids are listed.
+    /// Returns the pid at `number` among those found, or finds the next one if there are no more;
+    /// `None` if the streams list all pids.
     pub(crate) fn nth(
         &mut self,
         streams: &Streams,
@@ -82,7 +82,7 @@ impl UnlistedPids {
         Ok(Some(pid))
     }
 
-    /// All of them, by rising pid.
+    /// Returns the pids that were found, by rising pid.
     pub(crate) fn into_rising(self) -> Result<Vec<Pid>, AllocError>
         ensures { IfOk result (λ pids. IsPermutation self.pids.items pids.items) }
     {

@@ -1,16 +1,16 @@
-//! Where hidden sends are among the events of their processes.
+//! Puts hidden sends among the events of their processes.
 //!
-//! A hidden send is somewhere between the two reported stamps of its sender whose counts are
-//! the nearest, before the first receive that doesn't count lower. Which receives of this stretch
-//! it is behind decides what its prev costs. It costs nothing if the machine could have stamped
-//! it there by what is known: what is before it leaves its prev, or a new trace began, since
-//! its prev isn't below the clock (the greatest count so far). Else a message must be added that
-//! gives the prev.
+//! A hidden send goes between the two reported stamps of its sender with the nearest counts,
+//! before the first receive that has its count or a greater one. Its place among the receives of
+//! this stretch decides what its prev costs. It costs nothing if the machine could have stamped it
+//! there: the events before it leave its prev, or a new trace began, which may be if its prev
+//! isn't below the clock (the greatest count so far). Else a message must be added that gives the
+//! prev.
 //!
-//! The places are found by two walks over each stretch, back and then forth. If all receives were
-//! reported, nothing has to be added: in the run that happened each stamp cost nothing. The walk
-//! back gives no send a last place before the one that it had in that run, so that the walk forth
-//! finds one that costs nothing up to there.
+//! Two walks over each stretch find the places, back and then forth. If all receives were
+//! reported, nothing has to be added, since each stamp cost nothing in the run that happened. The
+//! walk back gives no send a last place before the one that it had in that run, so the walk forth
+//! finds a place up to there that costs nothing.
 
 ghost use Rattle.std.specs.Prelude.{◌≡◌, ◌+◌, ◌≤◌, [], drop, length, max, vec_len, All, None, IfOk};
 ghost use Rattle.std.specs.Prelude.{OnOk};
@@ -30,7 +30,7 @@ struct StretchSend {
     label: Label,
     prev: u64,
     this: u64,
-    /// Its gap: its last place after the walk back, and its place after the walk forth.
+    /// The gap of the send: its last place after the walk back, its place after the walk forth.
     gap: usize,
 }
 
@@ -38,15 +38,15 @@ struct StretchSend {
 #[derive(Clone, Copy, PartialEq, Eq)]
 enum Next {
     Nothing,
-    /// The next hidden send, with this prev.
+    /// The next hidden send, by its prev.
     Send(u64),
-    /// The reported stamp at the end of the stretch, with this prev.
+    /// The reported stamp at the end of the stretch, by its prev.
     Stamp(u64),
 }
 
 impl Next {
-    /// Whether what comes next may be at this gap, which isn't past its last place, the limit. A
-    /// hidden send may move back to it, but the reported stamp has one place, its limit.
+    /// Returns whether the next event may be at a gap up to the limit, which is its last place. A
+    /// hidden send may move back to the gap, but the reported stamp is always at the limit.
     fn may_stand_at(self, gap: usize, limit: usize) -> bool
         ensures { result ≡ may_stand_at self gap limit }
     {
@@ -57,8 +57,8 @@ impl Next {
         }
     }
 
-    /// The last gap for a send from which what comes next can still cost nothing; `limit` is the
-    /// last place of what comes next.
+    /// Returns the last gap at which the send still lets the next event cost nothing; `limit` is
+    /// the last place of the next event.
     fn last_gap_before(self, ground: &mut GapTables, send: &StretchSend, limit: usize) -> usize
         ensures gap { result ≤ limit }
         ensures tables { ground.new.by_count ≡ ground.old.by_count }
@@ -67,18 +67,18 @@ impl Next {
             Next::Nothing => return limit,
             Next::Send(prev) | Next::Stamp(prev) => prev,
         };
-        // The send leaves its own prev, wherever it is.
+        // The send leaves its own prev at any gap.
         if prev == send.prev {
             return limit;
         }
-        // Puts the send before a receive of the next stamp's prev, if one can stand there: the
-        // stamp then costs nothing.
+        // If the next event can stand right after a receive with its prev as count, the send goes
+        // before that receive: the next event then costs nothing.
         let received = match ground.last_after(prev, limit) {
             Some(gap) if self.may_stand_at(gap, limit) => Some(gap.saturating_sub(1)),
             _ => None,
         };
-        // It also costs nothing if a trace can begin behind the send, while the clock isn't above
-        // the prev. Of the two gaps the later one serves.
+        // The next event also costs nothing if a trace can begin after the send, while the clock
+        // isn't above the prev. The later one of the two gaps will do.
         if prev < send.this.max(ground.clock(0)) {
             return received.unwrap_or(limit);
         }
@@ -90,9 +90,9 @@ impl Next {
     }
 }
 
-/// The walk back: gives each send its last place, the last gap from which what comes next in the
-/// stretch can still cost nothing. If there is no such gap, the send's last place is that of what
-/// comes next. No place is behind a receive that doesn't count lower than the send.
+/// Gives each send its last place: the last gap that still lets the next event in the stretch cost
+/// nothing, or the last place of the next event if no gap does. No last place is behind a receive
+/// that has the send's count or a greater one.
 fn walk_back(ground: &mut GapTables, stretch: Stretch<'_>, sends: &mut [StretchSend])
     requires { AreWithin (vec_len ground.old.by_count) sends.old }
     ensures gaps { AreWithin (vec_len ground.old.by_count) sends.new }
@@ -112,16 +112,16 @@ fn walk_back(ground: &mut GapTables, stretch: Stretch<'_>, sends: &mut [StretchS
     }
 }
 
-/// Where the walk forth has come.
+/// The state of the walk forth.
 #[derive(Clone, Copy)]
 struct Standing {
     /// The gap, which never goes back.
     gap: usize,
-    /// The prev that what is before leaves.
+    /// The prev that the events before leave.
     prev: u64,
-    /// The label of what is before; none at the start of a process.
+    /// The label of the stamp or hidden send before; `None` at the start of a process.
     label: Option<Label>,
-    /// The greatest count of what is before.
+    /// The greatest count before.
     clock: u64,
 }
 
@@ -137,9 +137,9 @@ impl Standing {
         }
     }
 
-    /// The place of the next send, up to its last place. It goes no further than it must, since
-    /// what costs nothing here costs nothing later for the sends behind it, too. Labels come first:
-    /// they tell calls apart that have the same counts.
+    /// Returns the place of the next send, up to its last place. The walk goes no further than it
+    /// must, since a place that costs nothing now costs nothing for the sends behind it either.
+    /// Labels come first: they tell calls apart that have the same counts.
     fn place_of(self, ground: &mut GapTables, send: &StretchSend) -> usize
         ensures gap { result ≤ max self.gap send.now.gap }
         ensures tables { ground.new.by_count ≡ ground.old.by_count }
@@ -157,8 +157,8 @@ impl Standing {
         if let Some(gap) = ground.next_after(send.prev, self.gap, limit) {
             return gap;
         }
-        // A trace that began later, at a clock that nothing reported shows: it may be behind
-        // all that counts no higher.
+        // A trace began later, at a clock that no event shows. It may be behind all events with
+        // counts up to that clock.
         if send.prev > self.clock {
             return self.gap.max(limit.min(ground.last_up_to(send.prev)));
         }
@@ -190,9 +190,9 @@ fn walk_forth(ground: &mut GapTables, stretch: Stretch<'_>, sends: &mut [Stretch
     }
 }
 
-/// How many sends at the end of the stretch go right before the reported stamp: those of its prev,
-/// if no receive gives it to them and a trace could begin there. Then they and the stamp are one
-/// trace, that began behind all receives of the stretch.
+/// Returns how many sends at the end of the stretch go right before the reported stamp: those with
+/// its prev, if the last receive doesn't give it and a trace could begin there. Then they and the
+/// stamp are one trace, which began behind all receives of the stretch.
 fn last_with_stamp(ground: &GapTables, stretch: Stretch<'_>, sends: &[StretchSend]) -> usize
     ensures within { result ≤ length sends.now }
     ensures end { stretch.entry.stamp ≡ None → result ≡ 0 }
@@ -247,7 +247,7 @@ fn note_places(sends: &[StretchSend], start: usize, places: &mut Vec<u32>) -> Re
     Ok(())
 }
 
-/// The walk over the stretches of one process after the other.
+/// A walk over the stretches of each process in turn.
 #[derive(Drop)]
 struct StretchWalk {
     ground: GapTables,
@@ -256,7 +256,7 @@ struct StretchWalk {
 }
 
 impl StretchWalk {
-    /// Takes up the hidden sends of a stretch, before all of its receives.
+    /// Takes the hidden sends of a stretch, each at the first gap.
     fn take_sends(&mut self, hidden: &[HiddenSend]) -> Result<(), AllocError>
         ensures count { OnOk result (vec_len self.new.sends ≡ length hidden.now) }
         ensures start { OnOk result (AreWithin 0 self.new.sends.items) }
@@ -331,7 +331,7 @@ impl StretchWalk {
     }
 }
 
-/// Finds the places of hidden sends, which come by sender and count.
+/// Returns the places of hidden sends, which come by sender and count.
 fn places_of(
     alloc: Global,
     streams: &Streams,
@@ -356,7 +356,7 @@ fn places_of(
     Ok(places)
 }
 
-/// Puts hidden sends, which come by sender and count, at their places.
+/// Gives hidden sends, which come by sender and count, their places.
 pub(crate) fn place_hidden(
     alloc: Global,
     streams: &Streams,

@@ -1,4 +1,4 @@
--- All processes were added, so what they tell are the streams with the unlisted ones.
+-- All processes were added, so they tell the streams with the unlisted processes.
 use Rattle.std.proofs.Common.{◌∙◌, ap}
 use Rattle.st_core.specs.Run.{pids_of}
 use Rattle.st_plan.specs.Marks.{told_streams}

@@ -1,4 +1,4 @@
--- The stamp gets a message, and stays the same stamp.
+-- The stamp that gets the message changes in nothing else.
 use Rattle.std.proofs.Common.{refl}
 use Rattle.lack_search.specs.declared.asks.GivenMessage.TheVariants as given
 use Rattle.lack_search.proofs.Lists.{message_given}

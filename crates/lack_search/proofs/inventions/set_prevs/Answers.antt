@@ -1,4 +1,4 @@
--- A stamp that gets its message with another prev stays the same stamp.
+-- A stamp whose message gets another prev changes in nothing else.
 use Rattle.std.proofs.Common.{◌∙◌, ap}
 use Rattle.lack_search.specs.Inventions.{without_messages}
 use Rattle.lack_search.proofs.Lists.{message_given}

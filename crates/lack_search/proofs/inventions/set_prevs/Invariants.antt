@@ -1,4 +1,4 @@
--- Keeps the stamps that get messages.
+-- The stamps change in nothing but their messages.
 use Rattle.std.proofs.Common.{◌≡◌}
 use Rattle.lack_search.specs.Inventions.{without_messages}
 use Rattle.lack_search.proofs.inventions.set_prevs.Given as goal

@@ -1,4 +1,4 @@
--- The rows keep their lengths.
+-- Rows keep their lengths.
 use Rattle.std.proofs.Common.{◌≡◌}
 use Rattle.lack_search.specs.Links.{event_counts, lengths_of}
 use Rattle.lack_search.proofs.links.links_of.Given as goal

@@ -1,4 +1,4 @@
--- One row more, as long as the events of its process.
+-- One more row is as long as its process has events.
 use Rattle.std.proofs.Common.{ℕ, length, [], ◌∷◌, map, Vec, Global, sym, ◌∙◌, ap}
 use Rattle.std.proofs.lemmas.List.{map-append}
 use Rattle.st_core.specs.declared.types.Pid.{Pid}

@@ -1,4 +1,4 @@
--- The rows of the processes that were taken.
+-- Each row so far is as long as its process has events.
 use Rattle.std.proofs.Common.{◌≡◌, length, map, take}
 use Rattle.lack_search.specs.Links.{event_counts}
 use Rattle.lack_search.proofs.links.no_links.Given as goal

@@ -1,4 +1,4 @@
--- No stamp has an invented message so far, and the search is within the messages.
+-- Stamps get lost messages, never invented ones, and the search stays within the messages.
 use Rattle.std.proofs.Common.{◌≤◌, length}
 use Rattle.std.specs.List.{All}
 use Rattle.lack_search.specs.Asks.{HasNoInvention}

@@ -1,4 +1,4 @@
--- The messages so far are lost.
+-- Each message so far is lost.
 use Rattle.lack_search.specs.LostMessages.{AreLostIn}
 use Rattle.lack_search.proofs.lost_messages.note_lost.Given as goal
 

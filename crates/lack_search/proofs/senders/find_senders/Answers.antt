@@ -1,4 +1,4 @@
--- The unlisted processes are those that were given out.
+-- The unlisted processes are those that were given out, sorted.
 use Rattle.std.proofs.Common.{◌≡◌, false}
 use Rattle.std.proofs.lemmas.List.Sorted.{All-permutation}
 use Rattle.st_core.specs.Streams.{lists}

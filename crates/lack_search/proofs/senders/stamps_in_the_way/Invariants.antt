@@ -1,4 +1,4 @@
--- The counts so far may be asked for.
+-- A need may ask for the count of each stamp so far.
 use Rattle.lack_search.specs.Senders.{AreAsked}
 use Rattle.lack_search.proofs.senders.stamps_in_the_way.Given as goal
 

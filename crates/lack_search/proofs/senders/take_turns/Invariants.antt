@@ -1,4 +1,4 @@
--- A sender for each turn that was taken, and the others are unlisted.
+-- Each turn so far has a sender, and the streams list no process of the giver's unlisted ones.
 use Rattle.std.proofs.Common.{◌≡◌, vec_len}
 use Rattle.lack_search.specs.Unlisted.{AreUnlisted}
 use Rattle.lack_search.proofs.senders.take_turns.Given as goal

@@ -1,4 +1,4 @@
--- The turns so far are needs.
+-- Each turn so far is that of a stamp without a message.
 use Rattle.lack_search.specs.Senders.{AreTurnsOf}
 use Rattle.lack_search.proofs.senders.turns_of.Given as goal
 

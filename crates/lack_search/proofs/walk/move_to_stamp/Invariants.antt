@@ -1,4 +1,4 @@
--- No place is past the last gap.
+-- No send is past the last gap.
 use Rattle.std.proofs.Common.{vec_len}
 use Rattle.lack_search.specs.Walk.{AreWithin}
 use Rattle.lack_search.proofs.walk.move_to_stamp.Given as goal

@@ -1,4 +1,4 @@
--- A place for each send that was taken.
+-- Each send taken so far has a place.
 use Rattle.std.proofs.Common.{◌≡◌, ◌+◌, vec_len}
 use Rattle.lack_search.proofs.walk.note_places.Given as goal
 

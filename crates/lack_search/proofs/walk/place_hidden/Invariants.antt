@@ -1,4 +1,4 @@
--- They stay sends of the streams.
+-- A send with another place is still a send of the streams.
 use Rattle.lack_search.specs.Sends.{AreSendsIn}
 use Rattle.lack_search.proofs.walk.place_hidden.Given as goal
 

@@ -1,4 +1,4 @@
--- The sends that are left have no place yet.
+-- All hidden sends but those left have a place.
 use Rattle.std.proofs.Common.{◌≡◌, ◌+◌, length, vec_len}
 use Rattle.lack_search.proofs.walk.places_of.Given as goal
 

@@ -1,4 +1,4 @@
--- No stamp has an invented message so far.
+-- The needs had no invented message, nor has a beginning that is added.
 use Rattle.std.specs.List.{All}
 use Rattle.lack_search.specs.Asks.{HasNoInvention}
 use Rattle.lack_search.proofs.asks.Asks.into_fed.Given as goal

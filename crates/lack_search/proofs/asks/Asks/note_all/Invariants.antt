@@ -1,4 +1,4 @@
--- No stamp has an invented message so far.
+-- No stamp so far has an invented message, since a new one has none.
 use Rattle.lack_search.specs.Asks.{AreGivenLost}
 use Rattle.lack_search.specs.MergedEvents.{events_left}
 use Rattle.lack_search.proofs.asks.Asks.note_all.Given as goal

@@ -1,4 +1,4 @@
--- The event is put at the end, with its mark.
+-- The event goes to the end of the process, with its mark.
 use Rattle.std.proofs.Common.{[], ◌∷◌, ◌++◌, ◌∙◌, ap}
 use Rattle.lack_search.specs.declared.assembly.Assembly.{Assembly}
 use Rattle.lack_search.proofs.Telling.{event_added}

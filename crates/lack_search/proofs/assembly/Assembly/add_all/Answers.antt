@@ -1,4 +1,4 @@
--- One process more.
+-- One more process tells its events after those before it.
 use Rattle.std.proofs.Common.{Bool, List, [], ◌∷◌, ◌++◌, ◌∙◌, ap}
 use Rattle.st_core.specs.declared.types.Pid.{Pid}
 use Rattle.lack_search.proofs.Telling.{process_assembled}

@@ -1,4 +1,4 @@
--- The processes that were added tell what they reported.
+-- The processes added so far tell their events in the streams.
 use Rattle.std.proofs.Common.{◌≡◌, []}
 use Rattle.lack_search.proofs.Telling.{AreAssembled}
 use Rattle.lack_search.proofs.assembly.Assembly.add_all.Given as goal

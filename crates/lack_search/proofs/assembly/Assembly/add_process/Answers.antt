@@ -1,4 +1,4 @@
--- The invented sends before the next event, and then this.
+-- The invented sends before the next event tell nothing, and the event is told if it was reported.
 use Rattle.lack_search.specs.MergedEvents.{told_in}
 use Rattle.lack_search.proofs.Telling.{told_step}
 use Rattle.lack_search.proofs.assembly.Assembly.add_process.Goals as goal

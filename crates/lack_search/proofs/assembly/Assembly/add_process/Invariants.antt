@@ -1,4 +1,4 @@
--- The reported events that were taken are told.
+-- The reported events taken so far are told.
 use Rattle.lack_search.proofs.Telling.{IsToldSoFar}
 use Rattle.lack_search.specs.MergedEvents.{events_left}
 use Rattle.lack_search.proofs.assembly.Assembly.add_process.Given as goal

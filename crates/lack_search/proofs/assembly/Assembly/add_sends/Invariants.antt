@@ -1,4 +1,4 @@
--- No told event is added.
+-- Invented sends tell nothing.
 use Rattle.std.proofs.Common.{[], length}
 use Rattle.lack_search.specs.Assembly.{AddsTold}
 use Rattle.lack_search.proofs.assembly.Assembly.add_sends.Given as goal

@@ -1,4 +1,4 @@
--- Each send that was taken has its prev.
+-- Each send that was taken got a prev.
 use Rattle.std.proofs.Common.{length}
 use Rattle.lack_search.specs.Inventions.{LeavesPrevs}
 use Rattle.lack_search.proofs.inventions.Inventor.come_to.Given as goal

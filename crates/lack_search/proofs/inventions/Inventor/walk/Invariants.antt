@@ -1,4 +1,4 @@
--- Each send that was taken has its prev.
+-- Each send that was taken got a prev.
 use Rattle.lack_search.specs.Inventions.{LeavesPrevs}
 use Rattle.lack_search.specs.MergedEvents.{events_left}
 use Rattle.lack_search.proofs.inventions.Inventor.walk.Given as goal

@@ -1,4 +1,4 @@
--- The links of the rows that were taken.
+-- Each row taken so far is as long as the links that it became.
 use Rattle.std.proofs.Common.{◌≡◌, length, map}
 use Rattle.lack_search.proofs.links.Linker.into_links.Given as goal
 

@@ -1,4 +1,4 @@
--- The rows keep their lengths.
+-- Rows keep their lengths.
 use Rattle.lack_search.specs.Links.{KeepsShape}
 use Rattle.lack_search.proofs.links.Linker.link_invented.Given as goal
 

@@ -1,4 +1,4 @@
--- A row with another link has the same length.
+-- A row keeps its length if one of its links is replaced.
 use Rattle.std.proofs.Common.{ℕ, length, Vec, Global, ◌∙◌, ap}
 use Rattle.std.specs.Vec.{with_item}
 use Rattle.std.proofs.lemmas.List.{length-set}

@@ -1,4 +1,4 @@
--- The table keeps its length.
+-- The list of remainders keeps its length.
 use Rattle.std.proofs.Common.{◌≡◌, ◌*◌, ◌-◌, ◌^◌, length, min, vec_len}
 use Rattle.lack_search.proofs.senders.Asked.of.Given as goal
 

@@ -1,4 +1,4 @@
--- Only the place changes.
+-- The giver only moves on to the next stamp.
 use Rattle.lack_search.specs.Senders.{KeepsStreams}
 use Rattle.lack_search.proofs.senders.Giver.is_stamped.Given as goal
 

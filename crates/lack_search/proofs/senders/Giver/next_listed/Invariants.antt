@@ -1,4 +1,4 @@
--- Only the places change.
+-- The giver only moves on to the next stamp and the next listed process.
 use Rattle.lack_search.specs.Senders.{KeepsStreams}
 use Rattle.lack_search.proofs.senders.Giver.next_listed.Given as goal
 

@@ -1,4 +1,4 @@
--- As many receives as were taken.
+-- The table has a row for each receive taken so far.
 use Rattle.std.proofs.Common.{◌≡◌, vec_len}
 use Rattle.lack_search.proofs.stretch.GapTables.fill.Given as goal
 

@@ -1,4 +1,4 @@
--- The pids that were found stay.
+-- The search adds no pid to those found.
 use Rattle.std.proofs.Common.{◌≡◌}
 use Rattle.lack_search.proofs.unlisted_pids.UnlistedPids.find_next.Given as goal
 

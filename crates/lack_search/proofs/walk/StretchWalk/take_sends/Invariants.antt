@@ -1,4 +1,4 @@
--- As many sends as were taken, all at the first gap.
+-- Each hidden send taken so far is at the first gap.
 use Rattle.std.proofs.Common.{◌≡◌, vec_len}
 use Rattle.lack_search.specs.Walk.{AreWithin}
 use Rattle.lack_search.proofs.walk.StretchWalk.take_sends.Given as goal
