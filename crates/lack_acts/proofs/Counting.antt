@@ -1,5 +1,5 @@
--- A fold over the events of a process, or over all processes, one further: what is left begins with
--- the next one.
+-- A fold over the events of a process, or over all processes, goes on with the next one: the rest
+-- begins with it.
 use Rattle.std.proofs.Common.{◌≡◌, ℕ, ◌+◌, ◌<◌, ◌≤◌, zero, suc, Bool, true, false, ◌||◌, nat_lt}
 use Rattle.std.proofs.Common.{List, [], ◌∷◌, ◌++◌, length, take, drop, get_or, slice_get, Some}
 use Rattle.std.proofs.Common.{add-one, refl, sym, ◌∙◌, ap, arith}
@@ -52,7 +52,7 @@ marked_next es bs i e b at mark =
     ap (λ c. marked e c ∷ drop (i + 1) (marked_with es bs)) mark
     ∙ rw add-one (sym (marked_after es bs i e at))
 
--- the whole stream of a process, and those that are left after it
+-- the whole stream of the next process is the first of the rest
 pub whole_next : (streams : List Stream) (marks : List (List Bool)) (pids : List Pid) (k : ℕ)
     (d : Pid) (es : List Event) (bs : List Bool) → IsRising (pids_of streams)
     → pids ≡ pids_of streams → k < length pids → es ≡ events_of streams (get_or pids k d)
@@ -67,7 +67,7 @@ whole_next streams marks pids k d es bs rising are within events own =
     ∙ rw add-one (sym (drop_next wholes k _ (whole_at streams marks k _
     (stream_here streams pids k d es rising are within events))))
 
--- the stream of a process, and those that are left after it
+-- the stream of the next process is the first of the rest
 stream_next : (streams : List Stream) (pids : List Pid) (k : ℕ) (d : Pid) (es : List Event)
     → IsRising (pids_of streams) → pids ≡ pids_of streams → k < length pids
     → es ≡ events_of streams (get_or pids k d)
@@ -139,7 +139,7 @@ marked_end (d ∷ es) bs zero past = absurd (omega arith)
 marked_end (d ∷ es) [] (suc i) past = marked_end es [] i (omega arith)
 marked_end (d ∷ es) (b ∷ bs) (suc i) past = marked_end es bs i (omega arith)
 
--- a process that saves something, one that doesn't, and no process more
+-- the next process saves something, so the rest does
 pub saves_here : (streams : List Stream) (marks : List (List Bool)) (pids : List Pid) (k : ℕ)
     (d : Pid) (es : List Event) (bs : List Bool) (n : ℕ) → IsRising (pids_of streams)
     → pids ≡ pids_of streams → k < length pids → es ≡ events_of streams (get_or pids k d)

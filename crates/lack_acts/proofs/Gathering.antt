@@ -1,4 +1,4 @@
--- A gap that is noted is one of the streams.
+-- A noted gap is one of the streams, since what the events before it leave is known.
 use Rattle.std.proofs.Common.{◌≡◌, ℕ, true, Bool, List, take, slice_get, Some, refl, sym}
 use Rattle.std.proofs.Common.{◌∙◌, ap, subst}
 use Rattle.st_core.specs.declared.types.Pid.{Pid}

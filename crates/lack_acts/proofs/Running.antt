@@ -1,5 +1,5 @@
--- Acts that are put after acts with a run have a run: none, one that has a step, and several in a
--- row, since the run of all is that of the first and, from where it leads, that of the others.
+-- Acts after acts with a run have a run, whether none, one that has a step, or several: the run of
+-- all is that of the first, and from its last state that of the others.
 use Rattle.std.proofs.Common.{◌≡◌, ℕ, ◌<◌, ◌≤◌, false, List, [], ◌∷◌, ◌++◌, length}
 use Rattle.std.proofs.Common.{Some, option_map}
 use Rattle.std.proofs.Common.{option_and_then, append-nil, append_assoc, length-append, refl, sym}
@@ -42,7 +42,7 @@ extends_then {top} a b c one two = record {
   within = λ h. two.within (one.within h);
 }
 
--- an act that has a step, if there is room for it
+-- one act that has a step, if there is room for it
 pub extends_one : {top : ℕ} (a b : Acts top) (act : Act) (o : Outcome)
     → b.acts ≡ a.acts ++ act ∷ [] → step top a.world act ≡ Some o → b.world ≡ o.after
     → is_reset act ≡ false → b.most ≡ a.most → length a.acts < a.most → Extends a b
@@ -60,7 +60,7 @@ extends_one {top} a b act o acts steps world no_reset most room = record {
       omega (arith, long, most, room);
 }
 
--- acts that go on from the beginning
+-- acts that begin with none have a run from zero clocks
 pub runs_within : {top : ℕ} (pids : List Pid) (most : ℕ) (a b : Acts top) → IsBegun pids most a
     → Extends a b → RunsWithin top most pids b.acts
 runs_within {top} pids most a b begun more =

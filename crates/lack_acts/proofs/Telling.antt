@@ -1,5 +1,5 @@
--- Told events stay told: an untold event more or less changes nothing, and a told one that is
--- passed is put at the end. So each process that is added tells what it told, and so do all.
+-- Told events stay told: untold events can be put in or taken out, and each told one goes to the
+-- end. So each process that is added tells what it told, and so do all.
 use Rattle.std.proofs.Common.{◌≡◌, ℕ, ◌+◌, ◌<◌, ◌≤◌, zero, suc, Bool, true, false, cond, List, []}
 use Rattle.std.proofs.Common.{◌∷◌, ◌++◌, length, map, take, drop, get_or, slice_get}
 use Rattle.std.proofs.Common.{Some, append-nil}
@@ -46,7 +46,7 @@ untold_push ms m untold = told_push ms m ∙ ap (λ b. told_of ms ++ told_one b 
 
 -- AN EVENT OF A PROCESS THAT IS PASSED
 
--- it is put at the end with its mark
+-- the event goes to the end with its mark
 pub event_kept : (all : List Event) (ms : List MarkedEvent) (m : MarkedEvent) (es : List Event)
     (bs : List Bool) (i : ℕ) → slice_get es i ≡ Some m.event → get_or bs i false ≡ m.is_told
     → told_of ms ++ told_events (drop i (marked_with es bs)) ≡ all
@@ -65,7 +65,7 @@ event_kept all ms m es bs i at mark so_far =
     ∙ append_assoc (told_of ms) (told_one m.is_told m.event) rest
     ∙ ap (λ xs. told_of ms ++ xs) here ∙ so_far
 
--- or it is untold and left out
+-- the event is untold and left out
 pub event_dropped : (all : List Event) (ms : List MarkedEvent) (e : Event) (es : List Event)
     (bs : List Bool) (i : ℕ) → slice_get es i ≡ Some e → get_or bs i false ≡ false
     → told_of ms ++ told_events (drop i (marked_with es bs)) ≡ all
@@ -111,13 +111,13 @@ wholes_length [] ls = refl
 wholes_length (x ∷ xs) [] = ap suc (wholes_length xs [])
 wholes_length (x ∷ xs) (l ∷ ls) = ap suc (wholes_length xs ls)
 
--- the first k of the whole streams were added, and tell what they told
+-- the first k processes were added, and tell what they told
 pub record IsToldSoFar (wholes : List Whole) (streams : List Stream) (marks : List (List Bool))
     (k : ℕ) : Type 0 where
   pub even : length marks ≡ length streams
   pub told : told_streams (wholes_with streams marks) ≡ told_streams (take k wholes)
 
--- one process more
+-- one more process tells what it told
 pub process_told : (streams : List Stream) (marks : List (List Bool)) (pids : List Pid) (k : ℕ)
     (d : Pid) (es : List Event) (bs : List Bool) (ms : List MarkedEvent) (now next : List Stream)
     (lists more : List (List Bool)) → IsRising (pids_of streams) → pids ≡ pids_of streams
@@ -163,7 +163,7 @@ process_told streams marks pids k d es bs ms now next lists more rising are with
           ∙ ap (λ n. told_streams (take n wholes)) one;
     }
 
--- so all of them
+-- all processes tell what they told
 pub all_told : (streams : List Stream) (marks : List (List Bool)) (pids : List Pid) (k : ℕ)
     (now : List Stream) (lists : List (List Bool)) → pids ≡ pids_of streams → length pids ≤ k
     → IsToldSoFar (wholes_with streams marks) now lists k
@@ -215,7 +215,7 @@ read_missing streams marks p i missing =
 
 -- AN EVENT THAT IS ADDED TO THE LAST PROCESS
 
--- the other processes are below it
+-- an event goes to the end of the last process, since the others have lower pids
 added_last : (xs : List Stream) (p : Pid) (es : List Event) (e : Event) → ComesLast xs p
     → added (xs ++ record { pid = p; events = es } ∷ []) p e
     ≡ xs ++ record { pid = p; events = es ++ e ∷ [] } ∷ []
@@ -241,7 +241,7 @@ event_put old now next p ms i m last at is step =
     (sym (take_map (λ (x : MarkedEvent). x.event) ms i m at)
     ∙ ap (λ n. map (λ (x : MarkedEvent). x.event) (take n ms)) one)
 
--- no process was added
+-- no process was added yet
 pub none_told : (wholes : List Whole) (streams : List Stream) (marks : List (List Bool))
     → streams ≡ [] → marks ≡ [] → IsToldSoFar wholes streams marks 0
 none_told wholes streams marks none unmarked = record {
@@ -260,13 +260,13 @@ whole_pids : (streams : List Stream) (marks : List (List Bool))
 whole_pids streams marks =
     same_pids (wholes_with streams marks) ∙ ap pids_of (all_kept streams marks)
 
--- streams that tell the same have the same processes
+-- streams that tell the same events have the same processes
 pub tells_pids : (streams : List Stream) (marks : List (List Bool)) (w : MarkedStreams)
     → TellsAs (wholes_with streams marks) w → pids_of w.streams ≡ pids_of streams
 tells_pids streams marks w tells =
     sym (whole_pids w.streams w.marks.items) ∙ ap pids_of tells ∙ whole_pids streams marks
 
--- an untold event at the end
+-- an untold event at the end tells nothing
 pub untold_pushed : (ms next : List MarkedEvent) (m : MarkedEvent) → next ≡ ms ++ m ∷ []
     → m.is_told ≡ false → told_of next ≡ told_of ms
 untold_pushed ms next m is untold = ap told_of is ∙ untold_push ms m untold

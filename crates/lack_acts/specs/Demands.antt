@@ -1,5 +1,5 @@
--- Demands of a stamp on its token, and the act that makes a token meet them: a component is set, or
--- a token is restored if several are wrong.
+-- The demands of a stamp on its token, and the act that makes the token meet them: it sets a
+-- component, or restores a token if several are wrong.
 use Rattle.std.specs.Prelude.{◌==◌, ◌&&◌, ◌||◌, Bool, true, false, not, Option, Some, None, is_none}
 use Rattle.std.specs.Prelude.{if◌then◌else◌, unwrap_or}
 use Rattle.st_core.specs.declared.types.Pid.{Pid}
@@ -19,7 +19,7 @@ abbrev pub is_right : Option Bool → Bool → Bool
 is_right None flag = true
 is_right (Some value) flag = bool_eq value flag
 
--- by a print: its flag, and its label if it is told
+-- a print demands its flag, and its label if it is told
 abbrev pub print_demand : Label → Bool → TokenDemand
 print_demand n told = record {
   label = n;
@@ -29,7 +29,8 @@ print_demand n told = record {
   print = Some told;
 }
 
--- by a send: its flag, that of its receive if there is one, and the label if either is told
+-- a send demands its flag, the flag of its receive if there is one, and its label if either is
+-- told
 abbrev pub send_demand : Label → Bool → Option Bool → TokenDemand
 send_demand n told receipt = record {
   label = n;
@@ -39,7 +40,7 @@ send_demand n told receipt = record {
   print = None;
 }
 
--- the first component that the token needs and hasn't: none if it meets the demand
+-- the first component that keeps the token from meeting the demand
 abbrev pub change : TokenDemand → Token → Option Component
 change d t =
     if d.is_label_told && not (t.label.0 == d.label.0) then Some (component.Label d.label)
@@ -49,7 +50,7 @@ change d t =
     else (if not (is_right d.print t.flags.print) then Some (component.Print (not t.flags.print))
     else None)))
 
--- the token that is restored, of the process p
+-- the token of p that is restored, with the usual flags if the demand leaves them free
 abbrev pub demanded_token : TokenDemand → Pid → Flags → Token
 demanded_token d p usual = record {
   label = d.label;
@@ -65,14 +66,15 @@ demanded_token d p usual = record {
 abbrev pub has_flag : Token → Bool
 has_flag t = t.flags.send || (t.flags.receive || t.flags.print)
 
--- the act for a token that needs a component
+-- the act that changes a wrong component: a set if that is enough and the token has a flag, else a
+-- restore
 abbrev pub act_for : Pid → Token → TokenDemand → Flags → Option Component → Option Act
 act_for p t d usual None = None
 act_for p t d usual (Some c) =
     if has_flag t && is_none (change d (with_component c t)) then Some (act.Set p c)
     else Some (act.Restore p (demanded_token d p usual))
 
--- the act after which p's token meets the demand: none if it does already
+-- the act after which p's token meets the demand; none if it does already
 abbrev pub change_act : Pid → Option Token → TokenDemand → Flags → Option Act
 change_act p None d usual = Some (act.Restore p (demanded_token d p usual))
 change_act p (Some t) d usual = act_for p t d usual (change d t)

@@ -16,7 +16,7 @@ pub record IsInsertion (streams : List Stream) (i : Insertion) : Type 0 where
 abbrev pub AreInsertions : List Stream → List Insertion → Type 0
 AreInsertions streams untold = All (IsInsertion streams) untold
 
--- a send of this count, and its receive
+-- an untold send with this count, and its receive
 pub record IsMessage (streams : List Stream) (count : ℕ) (send receive : Insertion) : Type 0 where
   pub sent : IsInsertion streams send
   pub received : IsInsertion streams receive

@@ -1,7 +1,8 @@
--- Promises that the acts have a run.
+-- The definition of the public contract: acts that have a run.
 pub mod Acts
--- For the parts alone: the demands of a stamp on its token; which flags are usual; how many counts
--- are missing; which events stay told; which are put in; and where messages are sent and received.
+-- For the parts alone: the demands of a stamp on its token; the flags that most events want;
+-- missing counts; told events that stay; untold events that are put in; and the senders and
+-- receivers of messages.
 pub mod Demands
 pub mod Missing
 pub mod Tallies

@@ -1,4 +1,4 @@
-//! The acts of a completion, which is first changed so that few silent acts are needed.
+//! Writes acts for a completion, which it first changes so that few silent acts are needed.
 
 ghost use Rattle.std.specs.Prelude.{IfOk};
 ghost use Rattle.st_core.specs.Run.{pids_of};
@@ -13,7 +13,7 @@ use st_core::{Act, Sequence, Streams};
 use std::alloc::Global;
 use std::thread::Threads;
 
-/// Returns acts for the told events, in which processes share climbs.
+/// Returns acts for the told events, after letting processes share climbs.
 fn shared_acts<const TOP: u64>(
     rt: &(impl Threads + Sync),
     alloc: Global,
@@ -35,10 +35,11 @@ fn shared_acts<const TOP: u64>(
     }
 }
 
-/// Returns acts for the told events of a completion, with few changes of tokens and few silent
-/// acts. That they show these events isn't proved: `lack_decide` lets the checker judge them.
+/// Returns acts for the told events of a completion, at most `most`, with few changes of tokens
+/// and few silent acts. That they show these events isn't proved: `lack_decide` lets the checker
+/// judge them.
 ///
-/// It sorts on several threads, with one result for every number of threads.
+/// It sorts on several threads; the result doesn't depend on their number.
 pub fn lean_acts<const TOP: u64>(
     rt: &(impl Threads + Sync),
     alloc: Global,

@@ -1,15 +1,16 @@
 //! Shared climbs: if several processes pass the same counts unreported, one stamps them all, and
-//! the others take a message of it.
+//! the others take a message from it.
 //!
 //! A process whose next send or print counts far above its clock has passed the counts between.
-//! Each costs a silent print, unless the process received a message with such a count: then its
-//! clock was raised at once. So a completion is completed further, by sends of counts that their
-//! process passes anyway, and by their receives. And a process that seems to begin a new trace
-//! takes a message of that count that nobody received, if there is one: it is what happened.
+//! Each costs a silent print, unless the process received a message with such a count, which
+//! raised its clock at once. So the completion gets further sends, with counts that their
+//! processes pass anyway, and their receives. And a process that seems to begin a new trace takes
+//! a message with that count that nobody received, if there is one: that is likelier than a new
+//! trace.
 //!
-//! A receive also sets the prev of what comes next. So a message is taken before an event that
-//! begins a new trace, and counts no higher than the clock at which that trace begins; or right
-//! before another receive, which sets the prev itself.
+//! A receive also sets the prev of the next event. So a message is taken before an event that
+//! begins a new trace, with a count up to the clock at which that trace begins; or right before
+//! another receive, which sets the prev itself.
 
 ghost use Rattle.std.specs.Prelude.{◌≡◌, ◌≤◌, true, false, All, IfOk, IfSome, OnOk};
 ghost use Rattle.std.specs.BTreeMap.{btree_map_len};
@@ -29,17 +30,17 @@ use st_pair::{PairFault, Pairing, pair};
 use std::alloc::{AllocError, Global};
 use std::collections::BTreeMap;
 
-/// A gap that a message can help over.
+/// A gap that a message can shorten.
 #[derive(Clone, Copy, PartialEq, Eq, PartialOrd, Ord)]
 struct Wish {
-    /// The greatest count of the message.
+    /// The greatest count that the message may have.
     target: u64,
-    /// The gap, by its place.
+    /// The place of the gap among all gaps.
     gap: usize,
 }
 
-/// Returns the gaps that a message can help over, by rising count of it. Offers all counts of the
-/// others.
+/// Returns the gaps that a message can shorten, by the rising count that it may have, and offers
+/// the counts of the other gaps.
 fn wishes_of(alloc: Global, gaps: &[Gap], offers: &mut Offers) -> Result<Vec<Wish>, AllocError>
     ensures { IfOk result (λ wishes. All (IsWishFor gaps.now) wishes.items) }
 {
@@ -57,7 +58,7 @@ fn wishes_of(alloc: Global, gaps: &[Gap], offers: &mut Offers) -> Result<Vec<Wis
     Ok(wishes)
 }
 
-/// The messages that save acts.
+/// The search for messages that save acts.
 #[derive(Drop)]
 struct Sharing {
     gaps: Vec<Gap>,
@@ -66,8 +67,8 @@ struct Sharing {
 }
 
 impl Sharing {
-    /// Lets the process of the gap take the offered message, if this saves enough. Returns what is
-    /// left of the offer.
+    /// Lets the process of the gap take a message with the offered count, if this saves enough.
+    /// Returns what is left of the offer.
     fn accept(
         &mut self,
         streams: &Streams,
@@ -119,14 +120,14 @@ impl Sharing {
     }
 }
 
-/// A message that waits: the place of its process and its count.
+/// The receiver, by its place, and the count of a waiting message.
 #[derive(Clone, Copy, PartialEq, Eq, PartialOrd, Ord)]
 struct Address {
     to: usize,
     count: u64,
 }
 
-/// The sends that nobody receives, each by the message that it leaves.
+/// The sends that nobody receives, by the address of their message.
 #[derive(Drop)]
 struct Waiting {
     sends: BTreeMap<Address, Event>,
@@ -155,8 +156,8 @@ impl Waiting {
         Ok(())
     }
 
-    /// Takes out the send that waits for a process at the count of its new trace, and returns the
-    /// receive.
+    /// Takes out the send whose message waits at the count at which the gap's process begins a new
+    /// trace, and returns the receive.
     fn take(&mut self, streams: &Streams, gap: &Gap) -> Option<Insertion>
         ensures own { IfSome result (IsInsertion streams.now) }
         ensures begins { IfSome result (λ _. opens_trace gap.now ≡ true) }
@@ -173,7 +174,7 @@ impl Waiting {
     }
 }
 
-/// Finds the sends that nobody receives; none if no gap ends in a new trace.
+/// Returns the sends that nobody receives; none if no gap ends in a new trace.
 fn waiting_for(alloc: Global, streams: &Streams, gaps: &[Gap]) -> Result<Waiting, AllocError>
     ensures { IfOk result (λ waiting. All (λ gap. opens_trace gap ≡ false) gaps.now
         → btree_map_len waiting.sends ≡ 0) }
@@ -212,7 +213,7 @@ fn receipt_of(streams: &Streams, gap: &Gap, sent: &Event) -> Option<Insertion>
     })
 }
 
-/// Lets each process that begins a new trace take a message of that count, if one waits: then it
+/// Lets each process that begins a new trace take a message with that count, if one waits: then it
 /// needn't begin a trace.
 fn take_waiting(
     waiting: &mut Waiting,
@@ -233,11 +234,12 @@ fn take_waiting(
     Ok(())
 }
 
-/// Returns the messages by which processes share climbs, and those that waited.
+/// Returns the messages by which processes share climbs, and the receives of messages that waited.
 fn shared_messages(alloc: Global, streams: &Streams) -> Result<Vec<Insertion>, AllocError>
     ensures { IfOk result (λ untold. AreInsertions streams.now untold.items) }
 {
-    // A message saves more than half of the acts only if more counts are missing.
+    // A message saves more than half of the acts only if more counts are missing than twice its
+    // own acts.
     let mut gaps = gaps_of(alloc, streams, 2 * MESSAGE_ACTS)?;
     let mut untold = Vec::new(alloc);
     let mut waiting = waiting_for(alloc, streams, &gaps)?;
@@ -257,7 +259,8 @@ fn shared_messages(alloc: Global, streams: &Streams) -> Result<Vec<Insertion>, A
     Ok(untold)
 }
 
-/// Adds messages by which processes share climbs; returns none if no message saves enough.
+/// Adds messages by which processes share climbs; `None` if no message saves enough, or a pid that
+/// an event names isn't listed.
 pub(crate) fn with_shared_climbs(
     alloc: Global,
     streams: &Streams,

@@ -1,7 +1,7 @@
-//! Demands of a stamp on its token, and the act that makes a token meet them.
+//! The demands of a stamp on its token, and the act that makes the token meet them.
 //!
-//! A stamp demands only what decides whether its event, or the receive of its message, is told. The
-//! label and the other flags are left as they are.
+//! A stamp demands only what decides whether its event, or the receive of its message, is told.
+//! The label and the flags that decide nothing are left as they are.
 
 ghost use Rattle.std.specs.Prelude.{◌≡◌, false, IfSome};
 ghost use Rattle.st_core.specs.Laws.{is_reset};
@@ -10,10 +10,11 @@ ghost use Rattle.lack_acts.specs.Demands.{print_demand, send_demand};
 
 use st_core::{Act, Component, Flags, Label, Pid, Serial, Token};
 
-/// The label and the flags that a stamp demands of its token; no flag that decides nothing.
+/// The label and the flags that a stamp demands of its token; `None` for a flag that decides
+/// nothing.
 #[derive(Clone, Copy)]
 pub(crate) struct TokenDemand {
-    /// The label of the event.
+    /// The label of the stamp's event.
     label: Label,
     /// Whether an event tells the label.
     is_label_told: bool,
@@ -32,7 +33,7 @@ fn is_right(demanded: Option<bool>, flag: bool) -> bool
 }
 
 impl TokenDemand {
-    /// Returns the demand of a print. A print that stands for a missing count is untold.
+    /// Returns the demand of a print. A silent print for a missing count is untold.
     pub(crate) fn by_print(label: Label, is_told: bool) -> TokenDemand
         ensures { result ≡ print_demand label is_told }
     {
@@ -45,7 +46,7 @@ impl TokenDemand {
         }
     }
 
-    /// Returns the demand of a send. Takes whether its receive is told, if there is one.
+    /// Returns the demand of a send; `is_receive_told` is `None` if there is no receive.
     pub(crate) fn by_send(label: Label, is_told: bool, is_receive_told: Option<bool>) -> TokenDemand
         ensures { result ≡ send_demand label is_told is_receive_told }
     {
@@ -58,7 +59,8 @@ impl TokenDemand {
         }
     }
 
-    /// Returns a component that the token lacks; none if the token meets the demand.
+    /// Returns the first component that keeps the token from meeting the demand; `None` if it
+    /// meets it.
     fn change(self, token: Token) -> Option<Component>
         ensures { result ≡ change self token }
     {
@@ -77,8 +79,8 @@ impl TokenDemand {
         None
     }
 
-    /// Returns the token to restore, with the usual flags if the choice is free. The stamp gives
-    /// it a serial.
+    /// Returns the token to restore, with the usual flags if the demand leaves them free. The
+    /// stamp gives it a serial.
     fn token(self, pid: Pid, usual: Flags) -> Token
         ensures { result ≡ demanded_token self pid usual }
     {
@@ -95,15 +97,15 @@ impl TokenDemand {
     }
 }
 
-/// Tells a token with flags from one without, which may have been made just now: then its flags
-/// say nothing of what comes.
+/// Returns whether the token has a flag. A token without flags may just have been made, and then
+/// its flags say nothing of what comes.
 fn has_flag(token: Token) -> bool
     ensures { result ≡ has_flag token }
 {
     token.flags.send || token.flags.receive || token.flags.print
 }
 
-/// Returns the act after which the process's token meets the demand; none if it does already.
+/// Returns the act after which the process's token meets the demand; `None` if it does already.
 pub(crate) fn change_act(
     pid: Pid,
     token: Option<Token>,

@@ -1,4 +1,4 @@
-//! Gaps: the counts that a process passes unreported before one of its sends or prints.
+//! Gaps: the counts that a process passes unreported before a send or print.
 
 ghost use Rattle.std.specs.Prelude.{◌≡◌, true, All, OnOk, IfOk, Some, slice_get};
 ghost use Rattle.st_core.specs.Run.{pids_of};
@@ -12,36 +12,36 @@ use lack_needs::{Left, is_stamp};
 use st_core::{Event, Label, Pid, Serial, Streams};
 use std::alloc::{AllocError, Global};
 
-/// The acts of a message besides its send, which replaces a silent print: its receive, and changes
-/// of the tokens of both processes.
+/// The acts that a message takes besides its send, which replaces a silent print: its receive, and
+/// changes of the tokens of both processes.
 pub(crate) const MESSAGE_ACTS: u64 = 4;
 
-/// Counts that a process passes unreported before one of its sends or prints.
+/// The counts that a process passes unreported before a send or print.
 #[derive(Clone, Copy)]
 pub(crate) struct Gap {
     /// The process, by its place in the streams.
     pub process: usize,
     /// The index of the send or print.
     pub index: usize,
-    /// Its label.
+    /// The label of the send or print.
     pub label: Label,
-    /// Its serial.
+    /// The serial of the send or print.
     pub serial: Serial,
-    /// The counters after the events before it.
+    /// The greatest count and the prev that the events before leave.
     pub left: Left,
-    /// Whether the event right before it is a receive.
+    /// Whether the event right before the send or print is a receive.
     is_behind_receive: bool,
-    /// Whether a message was found for it.
+    /// Whether a waiting message was found for the gap.
     pub is_served: bool,
-    /// The count of the message that the process takes; if it takes none, the greatest count of the
-    /// events before. It passes those above this one by one.
+    /// The count above which the process passes all counts one by one: that of the message that it
+    /// takes, else the greatest count before.
     pub start: u64,
     /// The prev of a send right above the start.
     prev: u64,
 }
 
 impl Gap {
-    /// Returns the gap before an event, if the process takes no message.
+    /// Returns the gap before a send or print whose process takes no message.
     pub(crate) fn before(
         process: usize,
         index: usize,
@@ -65,15 +65,15 @@ impl Gap {
         }
     }
 
-    /// Returns whether the event begins a new trace.
+    /// Returns whether the send or print begins a new trace.
     pub(crate) fn opens_trace(&self) -> bool
         ensures { result ≡ opens_trace self.now }
     {
         self.serial.prev != self.left.prev && self.serial.prev >= self.left.greatest
     }
 
-    /// Returns the greatest count of a message after which the event can still come; none if the
-    /// process can take no message, or took one.
+    /// Returns the greatest count of a message after which the send or print can still come;
+    /// `None` if the process can take no message, or took a waiting one.
     pub(crate) fn target(&self) -> Option<u64>
         ensures { result ≡ target self.now }
     {
@@ -100,7 +100,7 @@ impl Gap {
         }
     }
 
-    /// Returns whether a message of this count saves more than half of the acts.
+    /// Returns whether a message with this count saves more than half of the acts.
     pub(crate) fn gains_by(&self, count: u64) -> bool
         ensures { result ≡ gains_by self.now count }
     {
@@ -109,7 +109,7 @@ impl Gap {
         top.saturating_sub(count) < half.saturating_sub(MESSAGE_ACTS)
     }
 
-    /// Lets the process take a message of this count.
+    /// Lets the process take a message with this count.
     pub(crate) fn enter(&mut self, count: u64)
         ensures { self.new ≡ entered self.old count }
     {
@@ -119,7 +119,7 @@ impl Gap {
         }
     }
 
-    /// Returns the serial of a send of this count, which the process passes.
+    /// Returns the serial of a send with this count, which the process passes.
     pub(crate) fn serial_at(&self, count: u64) -> Serial
         ensures { result ≡ serial_at self.now count }
     {
@@ -132,15 +132,14 @@ impl Gap {
     }
 }
 
-/// Returns whether more counts than `most` are missing before the event, or a new trace begins.
+/// Returns whether more counts than `most` are missing before the event, or it begins a new trace.
 fn is_noted(gap: &Gap, event: &Event, most: u64) -> bool
     ensures { result ≡ true → is_stamp event.now ≡ true }
 {
     is_stamp(event) && (missing_before(gap.left, event) > most || gap.opens_trace())
 }
 
-/// Notes the gaps of a process in which more counts than `most` are missing, or that end in a new
-/// trace.
+/// Notes the gaps of a process with more missing counts than `most`, or that end in a new trace.
 fn note_gaps(
     gaps: &mut Vec<Gap>,
     streams: &Streams,
@@ -166,8 +165,8 @@ fn note_gaps(
     Ok(())
 }
 
-/// Returns the gaps of all processes in which more counts than `most` are missing, or that end in
-/// a new trace.
+/// Returns the gaps of all processes with more missing counts than `most`, or that end in a new
+/// trace.
 pub(crate) fn gaps_of(alloc: Global, streams: &Streams, most: u64) -> Result<Vec<Gap>, AllocError>
     ensures { IfOk result (λ gaps. All (IsGapIn streams.now) gaps.items) }
 {

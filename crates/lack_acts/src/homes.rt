@@ -1,8 +1,9 @@
-//! Where invented messages come from: from a process that needs few silent stamps for them.
+//! Moves invented messages to senders that need few silent stamps for them.
 //!
-//! `complete` gives a need the first process that may have sent its message. If this one reports
-//! nothing more, it passes all counts up to the message's for that message alone. So such messages
-//! move: to a process that passes the count anyway, else to the one whose counts end next below it.
+//! `complete` gives a need the first process that may have sent its message. If that process
+//! reports nothing more, it passes all counts up to the message's for this message alone. So the
+//! message moves: to a process that passes its count anyway, else to the process whose counts end
+//! next below.
 
 ghost use Rattle.std.specs.Prelude.{◌≡◌, [], All, Contains, IfOk, IfSome, OnOk};
 ghost use Rattle.lack_needs.specs.Completions.{wholes_with};
@@ -21,7 +22,7 @@ use lack_needs::Left;
 use st_core::{Event, Sequence, Serial, Streams};
 use std::alloc::{AllocError, Global};
 
-/// A process, with what its events leave, by how high they count.
+/// The end of a process: its number of events and what they leave, ordered by the greatest count.
 #[derive(Clone, Copy, PartialEq, Eq, PartialOrd, Ord)]
 struct ProcessEnd {
     greatest: u64,
@@ -40,7 +41,7 @@ fn left_by(events: &[Event]) -> Left
     left
 }
 
-/// Returns the ends of all processes, by how high they count.
+/// Returns the ends of all processes, by rising greatest count.
 fn ends_of(alloc: Global, streams: &Streams) -> Result<Vec<ProcessEnd>, AllocError>
     ensures { IfOk result (λ ends. All (IsEndIn streams.now) ends.items) }
 {
@@ -59,7 +60,7 @@ fn ends_of(alloc: Global, streams: &Streams) -> Result<Vec<ProcessEnd>, AllocErr
     Ok(ends)
 }
 
-/// Returns the gap before a send of this message after all events of a process.
+/// Returns the gap before a send of the message after all events of a process.
 fn gap_after(end: ProcessEnd, stray: Stray) -> Gap
     ensures { result ≡ gap_after end stray }
 {
@@ -81,7 +82,7 @@ fn gap_after(end: ProcessEnd, stray: Stray) -> Gap
     )
 }
 
-/// Looks for homes, for messages of falling counts.
+/// The search for homes, which takes messages by falling count.
 #[derive(Drop)]
 struct HomeSearch {
     gaps: Vec<Gap>,
@@ -92,7 +93,7 @@ struct HomeSearch {
 }
 
 impl HomeSearch {
-    /// Begins with no message at home.
+    /// Returns a search that has found no home yet.
     fn new(alloc: Global, streams: &Streams) -> Result<HomeSearch, AllocError>
         ensures ends { IfOk result (λ search. All (IsEndIn streams.now) search.ends.items) }
         ensures untold { IfOk result (λ search. search.untold.items ≡ []) }
@@ -110,7 +111,7 @@ impl HomeSearch {
         })
     }
 
-    /// Returns a gap whose process passes this count, and takes the count.
+    /// Returns a gap whose process passes the count, and takes the count out of its offer.
     fn gap_with(&mut self, count: u64) -> Result<Option<Gap>, AllocError>
         ensures found { IfOk result (λ some. IfSome some (Contains self.old.gaps.items)) }
         ensures untold { self.new.untold.items ≡ self.old.untold.items }
@@ -129,8 +130,8 @@ impl HomeSearch {
         Ok(self.gaps.get(offer.gap).copied())
     }
 
-    /// Returns a gap after the process whose counts end next below the message's. The process
-    /// passes the counts between.
+    /// Returns a gap at the end of the process whose counts end next below the message's. The
+    /// process passes the counts between.
     fn gap_at_end(&mut self, stray: Stray) -> Result<Option<Gap>, AllocError>
         ensures found { IfOk result (λ some. IfSome some (IsGapFor stray)) }
         ensures untold { OnOk result (self.new.untold.items ≡ self.old.untold.items) }
@@ -161,7 +162,7 @@ impl HomeSearch {
         Ok(home)
     }
 
-    /// Gives the message a home. Returns false if there is none.
+    /// Finds a home for the message, and adds the message there. Returns false if there is none.
     fn settle(&mut self, streams: &Streams, stray: Stray) -> Result<bool, AllocError>
         requires { AreInsertions streams.now self.old.untold.items }
         ensures { OnOk result (AreInsertions streams.now self.new.untold.items) }
@@ -180,8 +181,8 @@ impl HomeSearch {
     }
 }
 
-/// Returns the sends and receives of the messages, at homes that need few silent stamps; none if
-/// some message has no home, though its old one is there.
+/// Returns the sends and receives of the messages, at homes that need few silent stamps; `None` if
+/// a message has no home.
 fn settle_all(
     alloc: Global,
     streams: &Streams,
@@ -200,8 +201,8 @@ fn settle_all(
     Ok(Some(untold))
 }
 
-/// Moves the stray messages to homes that need few silent stamps; returns none if this saves
-/// nothing.
+/// Moves the stray messages to homes that need few silent stamps; `None` if this can't save acts,
+/// or a message has no home.
 pub(crate) fn with_near_homes(
     alloc: Global,
     streams: &Streams,

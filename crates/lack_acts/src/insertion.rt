@@ -1,4 +1,4 @@
-//! Untold events that are put into marked streams at given places.
+//! Puts untold events into marked streams.
 
 ghost use Rattle.std.specs.Prelude.{◌≡◌, ◌+◌, ◌-◌, vec_len, IfOk, IfSome, OnOk};
 ghost use Rattle.st_plan.specs.Marks.{told_events};
@@ -15,16 +15,15 @@ use std::alloc::{AllocError, Global};
 pub(crate) struct Insertion {
     /// The process, by its place in the streams.
     pub process: usize,
-    /// The index of the event that it is before.
+    /// The index of the event right before which the untold one goes.
     pub index: usize,
-    /// Whether it comes after those with one place that aren't so.
+    /// Whether the untold event goes after those at its place that don't come last.
     pub comes_last: bool,
-    /// The event.
     pub event: Event,
 }
 
 impl Insertion {
-    /// Returns the key by which insertions are sorted: those with one place by count.
+    /// Returns the key by which insertions are sorted: those at one place by count.
     fn key(&self) -> (usize, usize, bool, u64)
         ensures { result ≡ (
           self.now.process,
@@ -42,7 +41,7 @@ impl Insertion {
     }
 }
 
-/// Adds the untold events from `first` on that are before the event at this index of the process.
+/// Adds the untold events from `first` on that go before the event at an index of the process.
 /// Returns the place of the next one.
 fn add_untold(
     whole: &mut Vec<MarkedEvent>,
@@ -68,8 +67,8 @@ fn add_untold(
     Ok(untold.len())
 }
 
-/// Puts the untold events of a process before its own. Takes them from `first` on, and returns the
-/// place of the first that is another process's.
+/// Merges the events of a process with its untold ones, from `first` on. Returns them, and the
+/// place of the first untold event of another process.
 fn merged(
     alloc: Global,
     events: &[Event],
@@ -94,8 +93,8 @@ fn merged(
     Ok((whole, next))
 }
 
-/// Adds these untold events to the marked streams; returns none if a pid that one of them names
-/// isn't listed.
+/// Adds the untold events to the marked streams; `None` if a pid that one of them names isn't
+/// listed.
 pub(crate) fn with_insertions(
     alloc: Global,
     streams: &Streams,

@@ -1,8 +1,8 @@
-//! The acts of whole streams with few changes of tokens: a token is set once, and then travels with
-//! the messages.
+//! Writes the acts of whole streams with few changes of tokens: a token is set once, and then
+//! travels with the messages.
 //!
-//! Each act is stepped in a world that begins at zero clocks, so the acts have a run. That the run
-//! shows the told events is for the checker to find out: a mistake here costs time and no more.
+//! Each act is stepped in a world that begins at zero clocks, so the acts have a run. Whether the
+//! run shows the told events, the checker finds out: a mistake here only costs time.
 
 ghost use Rattle.std.specs.Prelude.{◌≡◌, ◌∷◌, ◌++◌, [], false, IfOk, OnOk};
 ghost use Rattle.st_core.specs.Laws.{is_reset};
@@ -19,30 +19,31 @@ use st_world::{StepFault, World};
 use std::alloc::{AllocError, Global};
 use std::thread::Threads;
 
-/// Why there are no lean acts.
+/// The reason why `lean_acts` returns no acts.
 #[derive(Clone, Copy, PartialEq, Eq)]
 pub enum LeanFault {
     /// Memory ran out.
     Memory,
     /// More acts are needed than the caller takes.
     TooMany,
-    /// The events go on another way than the acts, which those of a completion never do.
+    /// The next event can't come after the acts so far. That a completion has no such event isn't
+    /// proved.
     Stopped,
 }
 
-/// The acts so far, and the world that they lead to.
+/// The acts so far, and the world after them.
 #[derive(Drop)]
 struct Acts<const TOP: u64> {
     world: World<TOP>,
     acts: Sequence<Act>,
-    /// The most acts that the caller takes.
+    /// The greatest number of acts that the caller takes.
     most: u64,
-    /// The flags of a token that is restored, if its stamp leaves the choice.
+    /// The flags of a restored token, if its stamp leaves them free.
     usual: Flags,
 }
 
 impl<const TOP: u64> Acts<TOP> {
-    /// Begins with no acts.
+    /// Returns no acts yet, in a world at zero clocks.
     fn new(alloc: Global, pids: &[Pid], most: u64, usual: Flags) -> Result<Acts<TOP>, LeanFault>
         ensures { IfOk result (IsBegun pids.now most) }
     {
@@ -57,7 +58,7 @@ impl<const TOP: u64> Acts<TOP> {
         }
     }
 
-    /// Puts the act at the end, and steps it.
+    /// Adds the act, and steps it.
     fn perform(&mut self, act: Act) -> Result<(), LeanFault>
         requires { is_reset act ≡ false }
         ensures goes_on { OnOk result (Extends self.old self.new) }
@@ -76,7 +77,7 @@ impl<const TOP: u64> Acts<TOP> {
         }
     }
 
-    /// Puts a tracer on each node, by its least pid.
+    /// Adds a tracer for each node, by its least pid.
     fn open(&mut self, pids: &[Pid]) -> Result<(), LeanFault>
         ensures { OnOk result (Extends self.old self.new) }
     {
@@ -90,7 +91,7 @@ impl<const TOP: u64> Acts<TOP> {
         Ok(())
     }
 
-    /// Changes the token of the process as it is demanded.
+    /// Adds the act after which the token of the process meets the demand, if it doesn't yet.
     fn dress(&mut self, pid: Pid, demand: TokenDemand) -> Result<(), LeanFault>
         ensures { OnOk result (Extends self.old self.new) }
     {
@@ -100,7 +101,7 @@ impl<const TOP: u64> Acts<TOP> {
         }
     }
 
-    /// Brings the process's clock up to this count by silent prints, if it is below.
+    /// Brings the clock of the process up to the count by silent prints.
     fn climb(&mut self, pid: Pid, label: Label, count: u64) -> Result<(), LeanFault>
         ensures { OnOk result (Extends self.old self.new) }
     {
@@ -125,7 +126,7 @@ impl<const TOP: u64> Acts<TOP> {
         }
     }
 
-    /// Begins a new trace with the clock at this count, which then is the last count.
+    /// Brings the clock up to the count, and begins a new trace there.
     fn begin(&mut self, pid: Pid, label: Label, count: u64) -> Result<(), LeanFault>
         ensures { OnOk result (Extends self.old self.new) }
     {
@@ -148,7 +149,7 @@ impl<const TOP: u64> Acts<TOP> {
         self.begin(pid, event.label, event.serial.prev)
     }
 
-    /// Stamps the event's serial by this act.
+    /// Adds the act that stamps the event's serial, after those that it needs.
     fn stamp(
         &mut self,
         pid: Pid,
@@ -176,7 +177,7 @@ impl<const TOP: u64> Acts<TOP> {
         }
     }
 
-    /// Puts the acts of the event at this place at the end.
+    /// Adds the acts of an event.
     fn append(
         &mut self,
         streams: &Streams,
@@ -209,7 +210,7 @@ impl<const TOP: u64> Acts<TOP> {
         }
     }
 
-    /// Puts the acts of all items at the end.
+    /// Adds the acts of all items.
     fn append_all(
         &mut self,
         streams: &Streams,
@@ -248,7 +249,7 @@ fn acts_in_order<const TOP: u64>(
 ) -> Result<Sequence<Act>, LeanFault>
     ensures { IfOk result (RunsWithin TOP most (pids_of streams.now)) }
 {
-    // Each event takes an act, and each missing count.
+    // Each event takes an act, and so does each missing count.
     if streams.total().saturating_add(missing_in(streams)) > most {
         return Err(LeanFault::TooMany);
     }
@@ -258,9 +259,9 @@ fn acts_in_order<const TOP: u64>(
     Ok(acts.into_acts())
 }
 
-/// Returns acts for the told events.
+/// Returns acts for the told events, at most `most`.
 ///
-/// It sorts on several threads, with one result for every number of threads.
+/// It sorts on several threads; the result doesn't depend on their number.
 pub(crate) fn acts_of<const TOP: u64>(
     rt: &(impl Threads + Sync),
     alloc: Global,

@@ -1,7 +1,7 @@
 //! Acts for a completion, as a person would write them: a token is set once and then travels.
 //!
-//! The acts have a run, and none of them is a reset. That they show the told events is for
-//! `lack_decide` to find out, which lets the checker judge them.
+//! The acts have a run, and none of them is a reset. Whether they show the told events,
+//! `lack_decide` finds out: it lets the checker judge them.
 #![tactic(auto)]
 
 mod acts;

@@ -1,4 +1,4 @@
-//! All events of each process with their marks, and a draft of these to which processes are added.
+//! Marked streams: all events of each process, and which of them are told; and drafts of them.
 
 ghost use Rattle.std.specs.Prelude.{◌≡◌, ◌∷◌, ◌++◌, [], false, map, slice_get, IfOk, IfSome, OnOk};
 ghost use Rattle.std.specs.Option.{option_map_or};
@@ -13,13 +13,13 @@ use std::alloc::{AllocError, Global};
 /// All events of each process, and which of them are told.
 #[derive(Drop)]
 pub(crate) struct MarkedStreams {
-    /// All events.
+    /// All events, told or not.
     pub streams: Streams,
     /// The marks of each process, by its place; events past the end of the marks are untold.
     pub marks: Vec<Sequence<bool>>,
 }
 
-/// Returns whether the event at this index of the process is told; false if there is no event.
+/// Returns whether the event at an index of the process is told; false if there is no event.
 pub(crate) fn is_told(streams: &Streams, marks: &[Sequence<bool>], pid: Pid, index: u64) -> bool
     ensures { result ≡ option_map_or (λ m. m.told)
         (slice_get (marked_of (wholes_with streams.now marks.now) pid) index) false }
@@ -44,14 +44,14 @@ pub(crate) struct MarkedEvent {
     pub is_told: bool,
 }
 
-/// Marked streams that are being collected, process by process.
+/// Marked streams under construction, to which processes are added by rising pid.
 #[derive(Drop)]
 pub(crate) struct MarkedDraft {
     draft: Draft,
     marks: Vec<Sequence<bool>>,
 }
 
-/// Adds a process that comes last, with these events.
+/// Adds a process that comes last, with its events.
 fn add_events(draft: &mut Draft, pid: Pid, events: &[MarkedEvent]) -> Result<(), AllocError>
     ensures { OnOk result (draft.new
         ≡ draft.old ++ record { pid = pid; events = map (λ m. m.event) events.now } ∷ []) }
@@ -74,7 +74,7 @@ fn told_marks(alloc: Global, events: &[MarkedEvent]) -> Result<Vec<bool>, AllocE
 }
 
 impl MarkedDraft {
-    /// Begins with no processes.
+    /// Returns a draft without processes.
     pub(crate) fn new(alloc: Global) -> MarkedDraft
         ensures streams { result.draft ≡ [] }
         ensures marks { result.marks.items ≡ [] }
@@ -85,7 +85,7 @@ impl MarkedDraft {
         }
     }
 
-    /// Adds a process that comes last, with these events and their marks.
+    /// Adds a process that comes last, with its events and their marks.
     pub(crate) fn add(
         &mut self,
         alloc: Global,
@@ -103,7 +103,7 @@ impl MarkedDraft {
         Ok(())
     }
 
-    /// Returns the streams with their marks; none if an event names a pid that isn't listed.
+    /// Returns the streams with their marks; `None` if an event names a pid that isn't listed.
     pub(crate) fn close(self) -> Option<MarkedStreams>
         ensures { IfSome result (λ closed. wholes_with closed.streams closed.marks.items
             ≡ wholes_with self.draft self.marks.items) }

@@ -1,4 +1,4 @@
-//! Messages that nobody reported, as two untold events.
+//! Unreported messages, each as two untold events.
 
 ghost use Rattle.std.specs.Prelude.{IfSome, OnOk};
 ghost use Rattle.lack_acts.specs.Insertions.{AreInsertions, IsMessage};
@@ -9,20 +9,21 @@ use crate::marked_streams::pid_at;
 use st_core::{Event, Kind, Label, Streams};
 use std::alloc::AllocError;
 
-/// Where a process receives a message.
+/// The place at which a process receives a message, and the message's label.
 #[derive(Clone, Copy)]
 pub(crate) struct Receipt {
     /// The process, by its place in the streams.
     pub process: usize,
-    /// The index of the event before which it receives the message.
+    /// The index of the event right before which it receives the message.
     pub index: usize,
-    /// The message's label.
+    /// The label of the message.
     pub label: Label,
     /// Whether it receives the message after all that it sends before that event.
     pub comes_last: bool,
 }
 
-/// Returns the send of this count from a gap, and its receive; none if a process isn't listed.
+/// Returns the send of a message with this count from a gap, and the receive; `None` if a process
+/// isn't listed.
 fn message(streams: &Streams, from: &Gap, to: Receipt, count: u64) -> Option<(Insertion, Insertion)>
     ensures { IfSome result (λ pair. IsMessage streams.now count pair.0 pair.1) }
 {
@@ -54,8 +55,8 @@ fn message(streams: &Streams, from: &Gap, to: Receipt, count: u64) -> Option<(In
     Some((send, receive))
 }
 
-/// Puts the send of this count from a gap, and its receive, among the untold events. Returns false
-/// if a process isn't listed.
+/// Adds the send of a message with this count from a gap, and the receive. Returns false if a
+/// process isn't listed.
 pub(crate) fn put_message(
     untold: &mut Vec<Insertion>,
     streams: &Streams,

@@ -1,4 +1,5 @@
-//! Counts that processes pass anyway, so that a message of such a count costs no further stamp.
+//! Offers: counts that processes pass anyway, so that a message with one of them costs no further
+//! stamp.
 
 ghost use Rattle.std.specs.Prelude.{◌≡◌, ◌∷◌, ◌<◌, ◌≤◌, [], All, IfOk, IfSome, OnOk, IsPermutation};
 ghost use Rattle.std.specs.BinaryHeap.{heap_items};
@@ -8,27 +9,27 @@ use crate::gaps::Gap;
 use std::alloc::{AllocError, Global};
 use std::collections::BinaryHeap;
 
-/// Counts of a gap that nobody took a message of yet: those above `low` and up to `next`. Offers
-/// are ordered by these.
+/// The counts of a gap that no message has yet: those above `low`, up to `next`. Offers are
+/// ordered by them.
 #[derive(Clone, Copy, PartialEq, Eq, PartialOrd, Ord)]
 pub(crate) struct Offer {
     pub next: u64,
     pub low: u64,
-    /// The gap, by its place.
+    /// The place of the gap among all gaps.
     pub gap: usize,
 }
 
-/// Offers by their counts, for a caller that asks for falling counts.
+/// The offers, for a caller that asks for falling counts.
 #[derive(Drop)]
 pub(crate) struct Offers {
-    /// Those that reach up to the count that was asked for last.
+    /// The offers that reach up to the count that was asked for last.
     ready: Vec<Offer>,
-    /// The others.
+    /// The other offers.
     below: BinaryHeap<Offer>,
 }
 
 impl Offers {
-    /// Offers nothing.
+    /// Returns no offers.
     pub(crate) fn new(alloc: Global) -> Offers
         ensures ready { result.ready.items ≡ [] }
         ensures below { heap_items result.below ≡ [] }
@@ -39,7 +40,7 @@ impl Offers {
         }
     }
 
-    /// Puts an offer among the others, unless nothing is left of it.
+    /// Adds the offer to those that aren't ready, unless nothing is left of it.
     pub(crate) fn put(&mut self, offer: Offer) -> Result<(), AllocError>
         ensures put { OnOk result (offer.low < offer.next
             → IsPermutation (offer ∷ heap_items self.old.below) (heap_items self.new.below)) }
@@ -52,8 +53,7 @@ impl Offers {
         Ok(())
     }
 
-    /// Moves the offers that reach up to this count to the ready ones. Takes out the first of the
-    /// others.
+    /// Makes the offers that reach up to the count ready, and takes out the first of the others.
     fn make_ready(&mut self, count: u64) -> Result<Option<Offer>, AllocError>
         ensures reach { All (λ o. count ≤ o.next) self.old.ready.items
             → OnOk result (All (λ o. count ≤ o.next) self.new.ready.items) }
@@ -69,7 +69,7 @@ impl Offers {
         Ok(None)
     }
 
-    /// Takes out the offer with the greatest count up to this one, which is its next one.
+    /// Takes out the offer with the greatest count up to the given one, which becomes its `next`.
     pub(crate) fn take(&mut self, count: u64) -> Result<Option<Offer>, AllocError>
         ensures { IfOk result (λ some. IfSome some (λ o. o.next ≤ count)) }
     {

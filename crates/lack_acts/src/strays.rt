@@ -1,5 +1,5 @@
-//! Stray messages: invented ones whose sends are among the last events of their process, and the
-//! marked streams without them.
+//! Stray messages: invented ones whose sends are among the last events of their process. Takes
+//! them out of marked streams.
 
 ghost use Rattle.std.specs.Prelude.{◌≡◌, ◌<◌, [], true, false, IfOk, IfSome, OnOk, vec_len};
 ghost use Rattle.st_plan.specs.Marks.{told_events};
@@ -18,22 +18,22 @@ use std::alloc::{AllocError, Global};
 /// An invented message whose send is among the last events of its process.
 #[derive(Clone, Copy, PartialEq, Eq, PartialOrd, Ord)]
 pub(crate) struct Stray {
-    /// Its count.
+    /// The count of the message.
     pub count: u64,
-    /// Its label.
+    /// The label of the message.
     pub label: Label,
-    /// Its receiver, by its place.
+    /// The receiver, by its place.
     pub to: usize,
-    /// The index of the event before which it is received, among those that stay.
+    /// The index, among the events that stay, of the event before which the message is received.
     pub entry: usize,
 }
 
-/// An event that doesn't stay: the send or the receive of a stray message.
+/// An event that is taken out: the send or the receive of a stray message.
 #[derive(Clone, Copy, PartialEq, Eq, PartialOrd, Ord)]
 struct Removal {
     process: usize,
     index: usize,
-    /// The message of a receive, by its place among the stray ones.
+    /// The message of a receive, by its place among the stray ones; `None` for a send.
     message: Option<usize>,
 }
 
@@ -46,7 +46,7 @@ fn is_untold_send(event: &Event, is_told: bool) -> bool
     }
 }
 
-/// Returns how many counts are missing before the untold sends at the end, with one event more.
+/// Returns how many counts are missing before the untold sends at the end, after one more event.
 fn missing_with(missing: u64, left: Left, event: &Event, is_told: bool) -> u64
     ensures { result ≡ missing_with missing left (record { event = event.now; told = is_told }) }
 {
@@ -57,7 +57,7 @@ fn missing_with(missing: u64, left: Left, event: &Event, is_told: bool) -> u64
     }
 }
 
-/// Returns how many counts are missing before the last events of a process, its untold sends.
+/// Returns how many counts are missing before the untold sends that end a process.
 fn missing_at_end(events: &[Event], marks: &[bool]) -> u64
     ensures { result ≡ missing_at_end 0 [] (marked_with events.now marks.now) }
 {
@@ -70,8 +70,8 @@ fn missing_at_end(events: &[Event], marks: &[bool]) -> u64
     missing
 }
 
-/// Returns whether some process seems to pass counts for invented messages alone. No pairing is
-/// needed to tell.
+/// Returns whether some process seems to pass counts for invented messages alone. This needs no
+/// pairing.
 pub(crate) fn may_save(streams: &Streams, marks: &[Sequence<bool>]) -> bool
     ensures { result ≡ may_save (wholes_with streams.now marks.now) }
 {
@@ -83,7 +83,7 @@ pub(crate) fn may_save(streams: &Streams, marks: &[Sequence<bool>]) -> bool
     false
 }
 
-/// The stray messages, and the events that go with them.
+/// The stray messages, and the events to take out.
 #[derive(Drop)]
 pub(crate) struct Strays {
     pub strays: Vec<Stray>,
@@ -91,7 +91,7 @@ pub(crate) struct Strays {
 }
 
 impl Strays {
-    /// Notes the message of this untold send. Returns false if its receive is told, or if there is
+    /// Notes the message of an untold send. Returns false if its receive is told, or if there is
     /// none.
     fn note(
         &mut self,
@@ -177,7 +177,7 @@ impl Strays {
         Ok(())
     }
 
-    /// Returns whether the removal at this place takes out the event. A told event stays.
+    /// Returns whether the removal takes the event out. A told event stays.
     fn is_removed(&self, place: usize, process: usize, index: usize, is_told: bool) -> bool
         ensures untold { result ≡ true → is_told ≡ false }
         ensures there { result ≡ true → place < vec_len self.now.removals }
@@ -188,8 +188,8 @@ impl Strays {
         }
     }
 
-    /// Notes, if the removal at this place is of a receive, that its message comes in before the
-    /// event that stays at this index.
+    /// Notes, if the removal is that of a receive, that its message is received before the event
+    /// that stays at `entry`.
     fn note_entry(&mut self, place: usize, entry: usize)
         ensures removals { self.new.removals ≡ self.old.removals }
         ensures strays { vec_len self.new.strays ≡ vec_len self.old.strays }
@@ -202,8 +202,9 @@ impl Strays {
         }
     }
 
-    /// Returns the events of a process that stay: all but the untold ones that are removed. Takes
-    /// the removals from `first` on, and returns the place of the first that is another process's.
+    /// Returns the events of a process that stay: all but the untold ones that are taken out.
+    /// Takes removals from `first` on, and returns the place of the first that is another
+    /// process's.
     fn kept(
         &mut self,
         alloc: Global,
@@ -232,8 +233,8 @@ impl Strays {
         Ok((stay, next))
     }
 
-    /// Takes the stray messages out of the marked streams; returns none if a pid that an event
-    /// names isn't listed.
+    /// Takes the stray messages out of the marked streams; `None` if a pid that an event names
+    /// isn't listed.
     pub(crate) fn keep(
         &mut self,
         alloc: Global,
@@ -257,7 +258,7 @@ impl Strays {
     }
 }
 
-/// Finds the stray messages of marked streams; none if these can't be paired.
+/// Returns the stray messages of marked streams; none if the streams can't be paired.
 pub(crate) fn strays_of(
     alloc: Global,
     streams: &Streams,

@@ -1,4 +1,4 @@
-//! Which flags most events want, and how many counts are missing before stamps.
+//! Counts which flags most events want, and how many counts are missing before stamps.
 
 ghost use Rattle.std.specs.Prelude.{◌≡◌, [], nat_le};
 ghost use Rattle.lack_needs.specs.Completions.{marked_with, wholes_with};
@@ -9,7 +9,7 @@ ghost use Rattle.lack_acts.specs.Tallies.{no_flags, usual_flags, with_silence};
 use lack_needs::{Left, is_marked, marks_at};
 use st_core::{Event, Flags, Kind, Sequence, Streams};
 
-/// How many events of one kind are told, and how many aren't.
+/// The numbers of told and of untold events of one kind.
 #[derive(Clone, Copy)]
 pub(crate) struct FlagTally {
     told: u64,
@@ -27,7 +27,7 @@ impl FlagTally {
         }
     }
 
-    /// Returns the flag that is right for most.
+    /// Returns the flag that is right for at least half of the events.
     fn flag(self) -> bool
         ensures { result ≡ nat_le self.untold self.told }
     {
@@ -65,7 +65,7 @@ impl FlagTallies {
         }
     }
 
-    /// Counts the silent prints before an event, however many, as one print that isn't told.
+    /// Counts the silent prints before an event, however many, as one untold print.
     fn count_silence(&mut self, missing: u64)
         ensures { self.new ≡ with_silence self.old missing }
     {
@@ -74,7 +74,6 @@ impl FlagTallies {
         }
     }
 
-    /// Counts the events of a process.
     fn count_process(&mut self, events: &[Event], marks: &[bool])
         ensures { self.new ≡ counted_from self.old [] (marked_with events.now marks.now) }
     {
@@ -86,7 +85,6 @@ impl FlagTallies {
         }
     }
 
-    /// Counts all events.
     fn of(streams: &Streams, marks: &[Sequence<bool>]) -> FlagTallies
         ensures { result ≡ counted_whole no_flags (wholes_with streams.now marks.now) }
     {
@@ -98,8 +96,8 @@ impl FlagTallies {
     }
 }
 
-/// Returns the flags that are right for most events. A restored token gets them if its stamp
-/// leaves the choice.
+/// Returns for each kind the flag that is right for at least half of the events. A restored token
+/// gets it if its stamp leaves it free.
 pub(crate) fn usual_flags(streams: &Streams, marks: &[Sequence<bool>]) -> Flags
     ensures { result ≡ usual_flags (wholes_with streams.now marks.now) }
 {
@@ -111,7 +109,7 @@ pub(crate) fn usual_flags(streams: &Streams, marks: &[Sequence<bool>]) -> Flags
     }
 }
 
-/// Returns how many counts the process passed unreported between these events and the next one.
+/// Returns how many counts the process passed unreported before the next event.
 pub(crate) fn missing_before(left: Left, next: &Event) -> u64
     ensures { result ≡ missing_before left next.now }
 {

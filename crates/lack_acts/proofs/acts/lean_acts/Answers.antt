@@ -1,4 +1,4 @@
--- The processes are those of the completion.
+-- A change of homes keeps the processes of the completion, so the run is over them.
 use Rattle.std.proofs.Common.{IfSome, ◌∙◌, ap, subst}
 use Rattle.st_core.specs.Run.{pids_of}
 use Rattle.lack_needs.specs.Completions.{wholes_with}

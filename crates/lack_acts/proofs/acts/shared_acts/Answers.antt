@@ -1,4 +1,4 @@
--- The processes stay.
+-- Sharing climbs keeps the processes, so the run is over them.
 use Rattle.std.proofs.Common.{IfSome, subst}
 use Rattle.lack_needs.specs.Completions.{wholes_with}
 use Rattle.lack_acts.specs.Acts.{RunsWithin}

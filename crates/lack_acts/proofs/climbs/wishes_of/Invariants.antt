@@ -1,4 +1,4 @@
--- The wishes so far are for messages that their gaps can take.
+-- Each wish so far is for a message that its gap can take.
 use Rattle.std.proofs.Common.{All}
 use Rattle.lack_acts.specs.Offers.{IsWishFor}
 use Rattle.lack_acts.proofs.climbs.wishes_of.Given as goal

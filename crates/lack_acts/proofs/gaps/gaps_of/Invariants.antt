@@ -1,4 +1,4 @@
--- The gaps so far are some of the streams.
+-- Each gap so far is one of the streams.
 use Rattle.std.proofs.Common.{All}
 use Rattle.lack_acts.specs.Gaps.{IsGapIn}
 use Rattle.lack_acts.proofs.gaps.gaps_of.Given as goal

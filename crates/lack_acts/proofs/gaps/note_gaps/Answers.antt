@@ -1,4 +1,4 @@
--- One event further, with its gap or without.
+-- One more event changes what is left as it should, and its gap, if noted, is one of the streams.
 use Rattle.std.proofs.Common.{◌∙◌, All, get_or, slice_get, sym, Some, take, ap, subst, ◌≡◌}
 use Rattle.std.proofs.lemmas.List.Elements.{All-push}
 use Rattle.st_pair.proofs.ForCallers.{at_get_or, blank}

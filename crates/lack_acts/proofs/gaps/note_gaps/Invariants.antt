@@ -1,4 +1,4 @@
--- Keeps what the events before this one leave, and their gaps.
+-- `left` is what the events taken so far leave, and each gap so far is one of the streams.
 use Rattle.std.proofs.Common.{◌≡◌, take, All}
 use Rattle.st_core.specs.Streams.{events_of}
 use Rattle.lack_needs.specs.Flaws.{left_by}

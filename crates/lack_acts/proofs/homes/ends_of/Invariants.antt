@@ -1,4 +1,4 @@
--- The ends so far are some of the streams.
+-- Each end so far is one of the streams.
 use Rattle.std.proofs.Common.{All}
 use Rattle.lack_acts.specs.Homes.{IsEndIn}
 use Rattle.lack_acts.proofs.homes.ends_of.Given as goal

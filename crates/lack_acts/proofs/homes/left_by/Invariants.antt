@@ -1,4 +1,4 @@
--- Keeps what the events before this one leave.
+-- `left` is what the events taken so far leave.
 use Rattle.std.proofs.Common.{◌≡◌, take}
 use Rattle.lack_needs.specs.Flaws.{left_by}
 use Rattle.lack_acts.proofs.homes.left_by.Given as goal

@@ -1,4 +1,4 @@
--- Keeps that each event put in is one of its process.
+-- Each event put in is one of its process.
 use Rattle.lack_acts.specs.Insertions.{AreInsertions}
 use Rattle.lack_acts.proofs.homes.settle_all.Given as goal
 

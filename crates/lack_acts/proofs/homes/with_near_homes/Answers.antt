@@ -1,4 +1,4 @@
--- The streams that are kept tell what was told, and so do those made of them.
+-- The streams without strays tell what was told, and so do those with the moved messages.
 use Rattle.std.proofs.Common.{IfSome, ◌∙◌, ap, subst}
 use Rattle.std.proofs.lemmas.Option.{IfSome_then}
 use Rattle.st_plan.specs.Marks.{told_streams}

@@ -1,4 +1,4 @@
--- One untold event more.
+-- One more untold event tells nothing.
 use Rattle.std.proofs.Common.{refl, ◌∙◌, arith}
 use Rattle.lack_acts.proofs.Telling.{untold_pushed}
 use Rattle.lack_acts.proofs.insertion.add_untold.Goals as goal

@@ -1,4 +1,4 @@
--- Nothing told was added, and an event for each untold one that was passed.
+-- Each untold event taken so far was added, and nothing told.
 use Rattle.std.proofs.Common.{◌≡◌, ◌+◌, ◌-◌, ◌≤◌, length, max, vec_len}
 use Rattle.lack_acts.specs.Told.{told_of}
 use Rattle.lack_acts.proofs.insertion.add_untold.Given as goal

@@ -1,4 +1,4 @@
--- The untold events tell nothing, and the process's own is put at the end with its mark.
+-- Untold events tell nothing, and each event of the process goes to the end with its mark.
 use Rattle.std.proofs.Common.{◌+◌, ◌++◌, drop, get_or, append-nil, sym, ◌∙◌, ap, arith}
 use Rattle.st_pair.proofs.ForCallers.{at_get_or, blank}
 use Rattle.st_plan.specs.Marks.{told_events}

@@ -1,4 +1,4 @@
--- The processes that were added tell what they told.
+-- The processes added so far tell what they told.
 use Rattle.lack_needs.specs.Completions.{wholes_with}
 use Rattle.lack_acts.proofs.Telling.{IsToldSoFar}
 use Rattle.lack_acts.proofs.insertion.with_insertions.Given as goal

@@ -1,4 +1,4 @@
--- The acts go on from none.
+-- The acts go on from none at zero clocks, so they have a run from there.
 use Rattle.std.proofs.Common.{sym, subst}
 use Rattle.st_core.specs.Run.{pids_of}
 use Rattle.lack_acts.specs.Acts.{IsBegun, RunsWithin}

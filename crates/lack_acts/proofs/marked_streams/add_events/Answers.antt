@@ -1,4 +1,4 @@
--- The process is last, so each event goes to its end.
+-- The process is last, so each event goes to the end of the draft.
 use Rattle.std.proofs.Common.{false, get_or, rules}
 use Rattle.st_pair.proofs.ForCallers.{at_get_or, blank}
 use Rattle.lack_acts.specs.declared.marked_streams.MarkedEvent.{MarkedEvent}

@@ -1,4 +1,4 @@
--- The process has the events that were taken.
+-- The draft ends in the process with the events taken so far.
 use Rattle.std.proofs.Common.{◌≡◌, ◌∷◌, [], ◌++◌, map, take}
 use Rattle.st_core.specs.Run.{Stream}
 use Rattle.lack_acts.proofs.marked_streams.add_events.Given as goal

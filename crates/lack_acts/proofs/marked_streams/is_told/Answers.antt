@@ -1,4 +1,4 @@
--- The mark is the one at the place of the process.
+-- The marks of a process are those at its place; a process that isn't listed tells nothing.
 use Rattle.std.proofs.Common.{get_or, [], Option, false, sym, ◌∙◌, ap, arith}
 use Rattle.std.specs.Option.{option_map_or}
 use Rattle.std.proofs.lemmas.Bool.{le-ltb}

@@ -1,4 +1,4 @@
--- None of the processes that were passed saves anything.
+-- No process taken so far saves anything, so the remaining ones decide.
 use Rattle.std.proofs.Common.{◌≡◌, drop}
 use Rattle.lack_needs.specs.Completions.{wholes_with}
 use Rattle.lack_acts.specs.Strays.{may_save}

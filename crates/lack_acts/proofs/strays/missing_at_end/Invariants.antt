@@ -1,4 +1,4 @@
--- With the events that are left it comes to what is missing before the last of all.
+-- The fold over the remaining events, from what is missing so far, is that over all.
 use Rattle.std.proofs.Common.{◌≡◌, [], drop, take}
 use Rattle.lack_needs.specs.Completions.{marked_with}
 use Rattle.lack_needs.specs.Flaws.{left_by}

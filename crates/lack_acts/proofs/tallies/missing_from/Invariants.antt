@@ -1,4 +1,4 @@
--- With what is missing before the events that are left it comes to all.
+-- The fold over the remaining events, from what is missing so far, is that over all.
 use Rattle.std.proofs.Common.{◌≡◌, [], drop, take}
 use Rattle.lack_needs.specs.Flaws.{left_by}
 use Rattle.lack_acts.specs.Missing.{missing_from}

@@ -1,4 +1,4 @@
--- One process further.
+-- The fold goes on with the next process.
 use Rattle.std.proofs.Common.{◌+◌, ◌∙◌, ap}
 use Rattle.lack_acts.specs.Missing.{up_to_64_bits}
 use Rattle.lack_acts.proofs.Counting.{streams_missing}

@@ -1,4 +1,4 @@
--- With what is missing in the streams that are left it comes to all.
+-- The fold over the remaining streams, from what is missing so far, is that over all.
 use Rattle.std.proofs.Common.{◌≡◌, drop}
 use Rattle.lack_acts.specs.Missing.{missing_in}
 use Rattle.lack_acts.proofs.tallies.missing_in.Given as goal

@@ -1,4 +1,4 @@
--- None was taken out.
+-- No send is taken out.
 use Rattle.std.proofs.Common.{◌≤◌}
 use Rattle.std.specs.BTreeMap.{btree_map_len}
 use Rattle.lack_acts.proofs.climbs.Waiting.note_process.Given as goal

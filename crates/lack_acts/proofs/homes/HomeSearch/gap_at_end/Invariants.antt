@@ -1,4 +1,4 @@
--- Only ends were taken out.
+-- The search only takes out ends.
 use Rattle.std.proofs.Common.{◌≡◌}
 use Rattle.lack_acts.proofs.homes.HomeSearch.gap_at_end.Given as goal
 

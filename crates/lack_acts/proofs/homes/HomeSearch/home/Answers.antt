@@ -1,4 +1,4 @@
--- Neither search puts anything in.
+-- Neither search puts an event in.
 use Rattle.std.proofs.Common.{◌∙◌}
 use Rattle.lack_acts.proofs.homes.HomeSearch.home.Goals as goal
 

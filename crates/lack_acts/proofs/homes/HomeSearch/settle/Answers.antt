@@ -1,4 +1,4 @@
--- The search for a home puts nothing in.
+-- The search for a home puts no event in.
 use Rattle.std.proofs.Common.{sym, subst}
 use Rattle.lack_acts.specs.Insertions.{AreInsertions}
 use Rattle.lack_acts.proofs.homes.HomeSearch.settle.Goals as goal

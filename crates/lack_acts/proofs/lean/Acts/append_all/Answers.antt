@@ -1,4 +1,4 @@
--- The acts of one item more.
+-- The acts of one more item go on from those before.
 use Rattle.lack_acts.proofs.Running.{extends_then}
 use Rattle.lack_acts.proofs.lean.Acts.append_all.Goals as goal
 

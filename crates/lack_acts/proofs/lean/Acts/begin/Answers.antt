@@ -1,4 +1,4 @@
--- The acts of each call come after those of the calls before.
+-- The acts of each call go on from those of the calls before.
 use Rattle.lack_acts.proofs.Running.{extends_then}
 use Rattle.lack_acts.proofs.lean.Acts.begin.Goals as goal
 

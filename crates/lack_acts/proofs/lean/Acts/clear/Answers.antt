@@ -1,4 +1,4 @@
--- No act is needed.
+-- A process without a token needs no act.
 use Rattle.lack_acts.proofs.Running.{extends_none}
 use Rattle.lack_acts.proofs.lean.Acts.clear.Goals as goal
 

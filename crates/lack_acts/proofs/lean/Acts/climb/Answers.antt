@@ -1,4 +1,4 @@
--- No act is needed, or a print more.
+-- A clock that is high enough needs no act, and each print goes on from the acts before.
 use Rattle.lack_acts.proofs.Running.{extends_none, extends_then}
 use Rattle.lack_acts.proofs.lean.Acts.climb.Goals as goal
 

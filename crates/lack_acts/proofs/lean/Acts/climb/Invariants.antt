@@ -1,4 +1,4 @@
--- The acts went on.
+-- The acts so far go on from the old ones.
 use Rattle.lack_acts.specs.Acts.{Extends}
 use Rattle.lack_acts.proofs.lean.Acts.climb.Given as goal
 

@@ -1,4 +1,4 @@
--- No act is needed.
+-- A token that meets the demand needs no act.
 use Rattle.lack_acts.proofs.Running.{extends_none}
 use Rattle.lack_acts.proofs.lean.Acts.dress.Goals as goal
 

@@ -1,4 +1,4 @@
--- A tracer more, or none.
+-- A tracer goes on from the acts before, and a node that has one needs no act.
 use Rattle.std.proofs.Common.{sym, subst}
 use Rattle.lack_acts.specs.declared.lean.Acts.{Acts}
 use Rattle.lack_acts.specs.Acts.{Extends}

@@ -1,4 +1,4 @@
--- No act is needed.
+-- A process whose last count is the prev needs no act.
 use Rattle.lack_acts.proofs.Running.{extends_none}
 use Rattle.lack_acts.proofs.lean.Acts.renew.Goals as goal
 

@@ -1,4 +1,4 @@
--- The marks come last.
+-- The marks of the process go to the end.
 use Rattle.std.proofs.Common.{Bool, List, [], ◌∷◌, ◌++◌, ◌∙◌, ap}
 use Rattle.lack_acts.proofs.marked_streams.MarkedDraft.add.Goals as goal
 

@@ -1,4 +1,4 @@
--- Those that were moved reach up to the count.
+-- Each offer made ready so far reaches up to the count.
 use Rattle.std.proofs.Common.{◌≤◌, All}
 use Rattle.lack_acts.proofs.offers.Offers.make_ready.Given as goal
 

@@ -1,4 +1,4 @@
--- The others are below the count.
+-- The offer taken out of the others is no higher than the count.
 use Rattle.std.proofs.Common.{◌≤◌, IfSome}
 use Rattle.lack_acts.proofs.offers.Offers.take.Given as goal
 

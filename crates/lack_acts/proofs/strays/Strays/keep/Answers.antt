@@ -1,4 +1,4 @@
--- One process more; and in the end all were added.
+-- Each process that is added tells what it told, and in the end all were added.
 use Rattle.std.proofs.Common.{◌∙◌, ap}
 use Rattle.std.proofs.lemmas.Option.{IfSome_then}
 use Rattle.st_plan.specs.Marks.{told_streams}

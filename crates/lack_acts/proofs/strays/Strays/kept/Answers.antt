@@ -1,4 +1,4 @@
--- An event that is removed is untold, and any other is put at the end with its mark.
+-- Each event that is taken out is untold, and any other goes to the end with its mark.
 use Rattle.std.proofs.Common.{◌+◌, ◌++◌, drop, get_or, append-nil, sym, ◌∙◌, ap, arith}
 use Rattle.st_pair.proofs.ForCallers.{at_get_or, blank}
 use Rattle.st_plan.specs.Marks.{told_events}

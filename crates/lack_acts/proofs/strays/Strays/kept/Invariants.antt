@@ -1,11 +1,10 @@
--- The events that were passed tell what they told.
+-- The events kept so far and the remaining ones tell what the process tells.
 use Rattle.std.proofs.Common.{◌≡◌, ◌++◌, drop}
 use Rattle.st_plan.specs.Marks.{told_events}
 use Rattle.lack_needs.specs.Completions.{marked_with}
 use Rattle.lack_acts.specs.Told.{told_of}
 use Rattle.lack_acts.proofs.strays.Strays.kept.Given as goal
 
--- with those of what is left they come to all
 abbrev pub invariant-loop-index : goal.invariant-loop-index
 invariant-loop-index l = told_of l.stay.items
     ++ told_events (drop l.index (marked_with l.events l.marks))

@@ -1,4 +1,4 @@
--- The receiver is listed, and two events are removed.
+-- The receiver is listed, and two events are noted to be taken out.
 use Rattle.std.proofs.Common.{◌<◌, All, length, sym, subst, arith}
 use Rattle.std.proofs.lemmas.List.Elements.{All-push}
 use Rattle.std.proofs.lemmas.Option.{slice_get_within}

@@ -1,4 +1,4 @@
--- The strays so far are some.
+-- Each stray message so far has a listed receiver and two events to take out.
 use Rattle.lack_acts.specs.Strays.{AreStrays}
 use Rattle.lack_acts.proofs.strays.Strays.note_all.Given as goal
 

@@ -1,4 +1,4 @@
--- One event further.
+-- The fold goes on with the next event.
 use Rattle.std.proofs.Common.{get_or, take, sym, ◌∙◌, ap, arith}
 use Rattle.st_pair.proofs.ForCallers.{at_get_or, blank}
 use Rattle.lack_needs.proofs.ForCallers.{left_more}

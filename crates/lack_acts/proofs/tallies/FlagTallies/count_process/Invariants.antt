@@ -1,4 +1,4 @@
--- With the events that are left the tallies come to those of all.
+-- The fold over the remaining events, from the tallies so far, is that over all.
 use Rattle.std.proofs.Common.{◌≡◌, [], drop, take}
 use Rattle.lack_needs.specs.Completions.{marked_with}
 use Rattle.lack_needs.specs.Flaws.{left_by}

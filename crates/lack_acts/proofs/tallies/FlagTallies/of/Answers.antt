@@ -1,4 +1,4 @@
--- One process further; and in the end none is left.
+-- The fold goes on with the next process, and in the end none is left.
 use Rattle.std.proofs.Common.{sym, ◌∙◌, ap}
 use Rattle.lack_acts.specs.Tallies.{counted_whole}
 use Rattle.lack_acts.proofs.Counting.{none_left, wholes_counted}

@@ -1,4 +1,4 @@
--- With the processes that are left the tallies come to those of all.
+-- The fold over the remaining processes, from the tallies so far, is that over all.
 use Rattle.std.proofs.Common.{◌≡◌, drop}
 use Rattle.lack_needs.specs.Completions.{wholes_with}
 use Rattle.lack_acts.specs.Tallies.{counted_whole, no_flags}
