@@ -1,5 +1,5 @@
--- Why the reasons hold, and why they are final: each is one of the open question's, at its place.
--- And why acts show the streams otherwise: a completion needs nothing.
+-- Each reason that is found is a reason against streams at its place, which rules out all acts
+-- without a reset. And a completion that is found needs nothing, so acts show the streams.
 use Rattle.std.proofs.Common.{◌≡◌, ◌↔◌, ℕ, ◌<◌, suc, ◌&&◌, nat_lt, not, Bool, true, false}
 use Rattle.std.proofs.Common.{List, [], ◌∷◌}
 use Rattle.std.proofs.Common.{slice_get, take, Some, None, refl, sym, ◌∙◌, subst, arith}
@@ -46,7 +46,7 @@ receive_if : (stamp : Bool) → IsNot stamp → stamp ≡ false
 receive_if stamp never_is = elim stamp as
     (λ b. IsNot b → b ≡ false) [ true ↦ λ h. absurd (h refl) | false ↦ λ h. refl ] never_is
 
--- in streams that pairing accepts it is a receive
+-- the last event whose count isn't lower is a receive, since pairing accepts the streams
 pub last_higher : (streams : List Stream) (p : Pid) (i j this : ℕ) (e : Event)
     → refusal streams ≡ None
     → HoldsAt is_late streams p i → event_at streams p i ≡ Some e → this ≡ e.serial.this
@@ -73,7 +73,7 @@ last_higher streams p i j this e accepted late at is higher =
 
 -- THE REASONS ARE FINAL
 
--- a reason of the open question rules out all acts without a reset
+-- a reason against streams rules out all acts without a reset
 abbrev pub AreFinal : Type 0
 AreFinal = (top : ℕ) (streams : List Stream) → IsStreams streams → (reason : OpenReason)
     → StandsAgainstOpen top streams reason → (others : List Pid) (acts : List Act)
@@ -102,12 +102,12 @@ abbrev pub AreShownIfNeedless : Type 0
 AreShownIfNeedless = (top : ℕ) (streams : List Stream) → IsRising (pids_of streams)
     → (IsShownInOneTrace top streams ↔ IsCompleted IsNeedless top streams)
 
--- and so are those in which nothing is needed
+-- acts without a reset show streams in which nothing is needed
 abbrev pub AreShownNeedless : Type 0
 AreShownNeedless = (top : ℕ) (streams : List Stream) → IsStreams streams → IsNeedless top streams
     → IsShownInOneTrace top streams
 
--- and no reason is against them
+-- no reason holds of streams that acts without a reset show
 abbrev pub AreUnopposed : Type 0
 AreUnopposed = (top : ℕ) (streams : List Stream) → IsStreams streams → (others : List Pid)
     → IsShownInOneTrace top (with_silent streams others) → HasNoOpenReason top streams
@@ -157,7 +157,7 @@ none_if true true is h = false≢true h
 none_if true false is h = false≢true is
 none_if false less is h = false≢true h
 
--- so an event before it counts no lower
+-- some event before a late one has a count that isn't lower
 pub some_higher : (streams : List Stream) (p : Pid) (i : ℕ) (e : Event) → refusal streams ≡ None
     → HoldsAt is_late streams p i → event_at streams p i ≡ Some e
     → LastHigher (events_of streams p) e.serial.this i None → ⊥

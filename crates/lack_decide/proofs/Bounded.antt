@@ -1,4 +1,4 @@
--- The acts of events are counted one event, and one process, after the other.
+-- The acts of events add up, one event and one process after the other.
 use Rattle.std.proofs.Common.{◌≡◌, ℕ, ◌+◌, suc, List, drop, take, slice_get, Some}
 use Rattle.std.proofs.Common.{sym, ◌∙◌, ap, arith}
 use Rattle.st_core.specs.declared.types.Event.{Event}
@@ -6,7 +6,7 @@ use Rattle.st_pair.proofs.ForCallers.{drop_next}
 use Rattle.st_plan.proofs.ForCallers.{take_more}
 use Rattle.lack_decide.specs.Bounds.{acts_after, saturated, skipped}
 
--- those of the events from one on are its own and those of the others
+-- the acts of event i and those after it are its own and theirs
 pub acts_next : (es : List Event) (i : ℕ) (e : Event) → slice_get es i ≡ Some e
     → acts_after (take i es) (drop i es)
     ≡ 6 + skipped (take i es) e + acts_after (take (i + 1) es) (drop (i + 1) es)
@@ -17,7 +17,7 @@ acts_next es i e at =
     (sym (take_more es i e at))
     ∙ ap (λ n. 6 + skipped (take i es) e + acts_after (take n es) (drop n es)) next
 
--- sums may be saturated one by one
+-- sums may be cut off at the greatest number one by one
 pub sums_on : (count more rest : ℕ)
     → saturated (saturated (count + saturated more) + rest) ≡ saturated (count + (more + rest))
 sums_on count more rest = omega arith

@@ -1,4 +1,5 @@
--- The judge compares the told events of the processes, one place more at each turn.
+-- The told events of whole streams are the streams if they are at each place, which the judge
+-- compares in turn.
 use Rattle.std.proofs.Common.{◌≡◌, ℕ, ◌+◌, ◌<◌, inl, inr, Bool, List, [], slice_get, get_or, Some}
 use Rattle.std.proofs.Common.{sym, ◌∙◌, ap, subst, arith}
 use Rattle.std.proofs.lemmas.Bool.{cases_lt}
@@ -23,7 +24,7 @@ told_next all lists streams n each here k less =
           subst (IsToldAt all lists streams) same here
     ]
 
--- the processes at one place, from their pids
+-- the processes at one place are compared by their pids
 pub told_here : (all : List Stream) (lists : List (List Bool)) (streams : List Stream) (k : ℕ)
     (p q : Pid)
     (es fs : List Event) (ms : List Bool) → IsRising (pids_of all) → IsRising (pids_of streams)

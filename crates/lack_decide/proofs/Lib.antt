@@ -1,4 +1,4 @@
--- The lemmas. Upper crates cite none of them.
+-- The lemmas; crates above cite none of them.
 pub mod Answered
 pub mod Bounded
 pub mod Judged

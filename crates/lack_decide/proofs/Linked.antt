@@ -1,5 +1,5 @@
--- Nothing is needed in streams whose events are all fit: a send names one receive, and each receive
--- a send that names it, so no two receives have the same send.
+-- Nothing is needed in streams whose events are all fit: each receive has a send that links back
+-- to it, so no two receives have one send.
 use Rattle.std.proofs.Common.{◌≡◌, ℕ, ◌<◌, ◌≤◌, suc, nat_lt, Bool, true}
 use Rattle.std.proofs.Common.{false, cond, inl, inr, List, [], ◌∷◌, length, take}
 use Rattle.std.proofs.Common.{slice_get, Option, Some, None, refl, sym, ◌∙◌, ap, subst, arith}
@@ -51,7 +51,7 @@ hides_by from = elim from [ source.Hidden ↦ true | source.Event q j ↦ false 
 
 -- FIT EVENTS
 
--- those of the first n processes
+-- the events of the first n processes are fit
 abbrev pub AllFit : ℕ → List Stream → List (List ℕ) → ℕ → Type 0
 AllFit top streams links n = (k : ℕ) (p : Pid) → k < n → slice_get (pids_of streams) k ≡ Some p
     → AreEventsFit top streams links (events_of streams p)
@@ -161,7 +161,7 @@ module _ (top : ℕ) (streams : List Stream) (links : List (List ℕ)) (sound : 
     within = λ p i e at. (fit p i e at).goes_on.within;
   }
 
--- where all processes were taken, each event is one of these
+-- each event is fit if those of all processes are
 pub all_fit : (top : ℕ) (streams : List Stream) (links : List (List ℕ)) (n : ℕ)
     → length (pids_of streams) ≤ n
     → AllFit top streams links n → (p : Pid) → AreEventsFit top streams links (events_of streams p)

@@ -1,5 +1,5 @@
--- Each addition is needed if that holds process by process: the marked events of a process are its
--- events with the marks at its place.
+-- Each addition is needed if that holds process by process, since the marked events of a process
+-- are its events with the marks at its place.
 use Rattle.std.proofs.Common.{[], ◌≡◌, ℕ, ◌+◌, ◌<◌, ◌≤◌, zero, suc, Bool, false, inl}
 use Rattle.std.proofs.Common.{inr, List, ◌∷◌, slice_get, get_or, length, Some}
 use Rattle.std.proofs.Common.{sym, ◌∙◌, ap, subst, arith}
@@ -21,7 +21,7 @@ use Rattle.lack_decide.proofs.Linked.{place_with}
 
 -- MARKS
 
--- an event with its mark, and back
+-- a marked event has the event and the mark at its index, and back
 marked_at : (es : List Event) (bs : List Bool) (i : ℕ) (m : Marked)
     → slice_get (marked_with es bs) i ≡ Some m
     → (slice_get es i ≡ Some m.event) × (get_or bs i false ≡ m.told)
@@ -47,7 +47,7 @@ at_marked (d ∷ es) (b ∷ bs) (suc i) e at = at_marked es bs i e at
 
 -- ONE PROCESS
 
--- a needed event among all events and their marks is one among the marked events
+-- an event that is needed among events and marks is needed among the marked events
 needed_marked : (streams : List Stream) (es : List Event) (bs : List Bool) (i : ℕ) (e : Event)
     → IsNeededAmong streams es bs i e → IsNeeded streams (marked_with es bs) i e
 needed_marked streams es bs i e (AsSend sends received) = Sends sends received
@@ -63,7 +63,7 @@ needed_marked streams es bs i e (AsReceive receives (inr behind)) =
 
 -- ALL PROCESSES
 
--- those of the first n processes
+-- the additions to the first n processes are needed
 abbrev pub AllNeeded : List Stream → List (List Bool) → ℕ → Type 0
 AllNeeded streams lists n = (k : ℕ) (p : Pid) → k < n → slice_get (pids_of streams) k ≡ Some p
     → AreNeeded streams (events_of streams p) (get_or lists k [])

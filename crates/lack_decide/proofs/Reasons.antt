@@ -1,5 +1,6 @@
--- The finding is a reason in the words of the results: if a rule gives nothing at an event, its
--- reason isn't against that event, and where it gives something first, it is the first one that is.
+-- A rule that finds nothing at an event has no reason against it, and the first event at which it
+-- finds something is the first against which its reason stands. So the finding is a reason in the
+-- words of the results.
 use Rattle.std.proofs.Common.{[], ◌≡◌, ◌⊎◌, ℕ, zero, suc, ◌<◌, ◌≤◌, ◌==◌, ◌&&◌, ◌||◌, nat_lt, not}
 use Rattle.std.proofs.Common.{Bool, true, false, cond, inl, inr, List, ◌∷◌, take, Option, Some}
 use Rattle.std.proofs.Common.{None, option_and_then, refl, sym, ◌∙◌, ap, subst, arith}
@@ -60,7 +61,7 @@ module _ (q p : Pid) (j i : ℕ) where
 -- WHAT PAIRING ASKS
 
 module _ (streams : List Stream) (p : Pid) where
-  -- what holds of the events before an index, and of the one there
+  -- a property of the events before an index, and of the event there, holds of those up to it
   up_to : (P : ℕ → Event → Type 0) (i : ℕ) → ((f : Event) → event_at streams p i ≡ Some f → P i f)
       → ((k : ℕ) (f : Event) → k < i → event_at streams p k ≡ Some f → P k f)
       → (k : ℕ) (f : Event) → k < suc i → event_at streams p k ≡ Some f → P k f
@@ -71,7 +72,7 @@ module _ (streams : List Stream) (p : Pid) where
         subst (λ n. P n f) same (here f (subst (λ n. event_at streams p n ≡ Some f) (sym same) at))
   ]
 
-  -- the last stamp before an index, or that there is none
+  -- the last stamp before an index, if there is one
   abbrev IsLastStamp : ℕ → Option (ℕ × Event) → Type 0
   IsLastStamp i None = (j : ℕ) (f : Event) → j < i → event_at streams p j ≡ Some f
       → is_stamp f ≡ true → ⊥
@@ -148,7 +149,7 @@ sends_it f e is = agrees_if f e
 abbrev hides : Source → Bool
 hides s = elim s [ source.Hidden ↦ true | source.Event q j ↦ false ]
 
--- a stamp, or the receive of a send that isn't there
+-- a receive has a hidden send exactly if its sender has no stamp with its count
 hidden_as : (stamp : Bool) (q : Pid) (o : Option (ℕ × Event))
     → (stamp || cond stamp false (hides (source_from q o))) ≡ (stamp || is_none o)
 hidden_as true q o = refl
@@ -171,7 +172,7 @@ module _ (top : ℕ) (streams : List Stream) (sound : IsStreams streams) where
 
   -- A REASON THAT ISN'T AGAINST AN EVENT
 
-  -- the rule of this turn gives nothing at an event
+  -- the rule with this rank finds nothing at the event
   abbrev IsQuiet : ℕ → Pid → ℕ → Event → Type 0
   IsQuiet zero p i e = prev_not_before p i e ≡ None
   IsQuiet (suc zero) p i e = not_rising streams p i e ≡ None
@@ -342,7 +343,7 @@ module _ (top : ℕ) (streams : List Stream) (sound : IsStreams streams) where
         (subst (λ n. IsQuiet n q j f) same (earlier q j f there is_earlier)) against;
   }
 
-  -- what pairing's reason is in the words of the results
+  -- the fault of pairing is the first reason, in the words of the results
   abbrev IsMeant : PairFault → Type 0
   IsMeant fault.Memory = Unit {0}
   IsMeant (fault.PrevNotBefore p i) = IsFirstReason top streams p i never.PrevNotBefore
@@ -350,7 +351,7 @@ module _ (top : ℕ) (streams : List Stream) (sound : IsStreams streams) where
   IsMeant (fault.Repeated p i q j) = IsFirstReason top streams p i (never.Repeated q j)
   IsMeant (fault.Mismatch p i q j) = IsFirstReason top streams p i (never.Mismatch q j)
 
-  -- no reason of the kinds before this one
+  -- no rule with a lower rank finds anything
   abbrev AreQuietBelow : ℕ → Type 0
   AreQuietBelow n = (m : ℕ) → m < n → AreQuiet m
 
@@ -437,7 +438,7 @@ module _ (top : ℕ) (streams : List Stream) (sound : IsStreams streams) where
       (tests.0, refl, f.1, is, λ send. false≢true (sym tests.1 ∙ sends_it f.1 e send))
       below l.least))
 
-  -- a rule gives it first, or gives nothing
+  -- the rule finds the fault first, or it finds nothing and a later rule does
   by_rule : (x : PairFault) (rule : Rule PairFault) (rules : List (Rule PairFault))
       → (IsLeast rule streams x → IsMeant x)
       → (first rule streams ≡ None → first_rule streams rules ≡ Some x → IsMeant x)
@@ -482,7 +483,7 @@ module _ (top : ℕ) (streams : List Stream) (sound : IsStreams streams) where
   founded_quiet accepted timely founded =
       quiet_more 5 (late_quiet accepted timely) (λ q j f at. founded q j)
 
-  -- where no reason of the open question holds, none is against an event
+  -- if no reason holds of the streams, none holds of any event
   pub none_against : HasNoOpenReason top streams → (reason : Never) (p : Pid) (i : ℕ) (e : Event)
       → event_at streams p i ≡ Some e → ¬ IsAgainst top streams p i e reason
   none_against none never.TooHigh p i e at = λ against.

@@ -1,4 +1,4 @@
--- The meaning of the results: a completion, or a place and a reason why no acts without a reset
+-- The meaning of the results: a completion, or an event and the reason why no acts without a reset
 -- show the streams, whatever other processes report nothing.
 use Rattle.std.specs.Prelude.{◌≡◌, ◌⊎◌, ℕ, ◌<◌, ◌≤◌, ◌||◌, true, false, length, List, Some, is_none}
 use Rattle.std.specs.Prelude.{is_some, take}
@@ -28,7 +28,7 @@ use Rattle.lack_decide.specs.declared.answer.Answer.TheVariants as answer
 
 -- THE REASONS
 
--- event j of p is the last one before its event i that is so
+-- event j of p has the property `Is`, and no event between it and event i has it
 pub record IsLast (streams : List Stream) (p : Pid) (i : ℕ) (Is : Event → Type 0) (j : ℕ)
     : Type 0 where
   pub event : Event
@@ -37,25 +37,25 @@ pub record IsLast (streams : List Stream) (p : Pid) (i : ℕ) (Is : Event → Ty
   pub is : Is event
   pub last : (k : ℕ) (f : Event) → j < k → k < i → event_at streams p k ≡ Some f → ¬ Is f
 
--- the first is a send with the label, the prev, the receiver and the value of the second
+-- f is a send with the label, the prev, the receiver and the value of e
 abbrev pub IsSendOf : Event → Event → Type 0
 IsSendOf f e = (is_send f ≡ true) × (f.label ≡ e.label) × (f.serial.prev ≡ e.serial.prev)
     × (f.to ≡ e.to) × (f.value ≡ e.value)
 
--- this is a send or print, and one of p's events before index i is a receive
+-- event e is a send or print, and an event of p before index i is a receive
 abbrev pub IsAfterReceive : List Stream → Pid → ℕ → Event → Type 0
 IsAfterReceive streams p i e = (is_stamp e ≡ true) × (j : ℕ) × (f : Event) × (j < i)
     × (event_at streams p j ≡ Some f) × (is_stamp f ≡ false)
 
--- this is a send or print, or the receive of a send that its sender didn't report, and some event
--- tells of a send or print of the same process with a lower count and another prev than 0
+-- event e is a send or print, or the receive of a send that its sender didn't report, and some
+-- event tells of a send or print of the same process with a lower count and another prev than 0
 abbrev pub IsAfterStamp : List Stream → Event → Type 0
 IsAfterStamp streams e =
     ((is_stamp e || is_none (stamp_of streams e.from e.serial.this)) ≡ true)
     × (q : Pid) × (j : ℕ) × (f : Event) × (event_at streams q j ≡ Some f) × (f.from ≡ e.from)
     × (f.serial.this < e.serial.this) × (0 < f.serial.prev)
 
--- what a reason says of event i of p
+-- the reason holds of e, which is event i of p
 abbrev pub IsAgainst : ℕ → List Stream → Pid → ℕ → Event → Never → Type 0
 IsAgainst top streams p i e never.PrevNotBefore = e.serial.this ≤ e.serial.prev
 IsAgainst top streams p i e (never.NotRising j) = (is_stamp e ≡ true)
@@ -71,7 +71,7 @@ IsAgainst top streams p i e never.Unfounded = (e.serial.prev ≡ 0)
     × (IsAfterReceive streams p i e ⊎ IsAfterStamp streams e)
 IsAgainst top streams p i e never.TooHigh = top < e.serial.this
 
--- which of the reasons it is, in their order
+-- the rank of a reason in the order in which `complete` tries them
 abbrev pub reason_rank : Never → ℕ
 reason_rank never.PrevNotBefore = 0
 reason_rank (never.NotRising j) = 1
@@ -81,8 +81,8 @@ reason_rank (never.Late j) = 4
 reason_rank never.Unfounded = 5
 reason_rank never.TooHigh = 6
 
--- The reason holds of event i of p; none that comes before it holds of any event, and none of its
--- kind of an event before this one.
+-- The reason holds of event i of p. No reason with a lower rank holds of any event, and none with
+-- the same rank of an event before.
 pub record IsFirstReason (top : ℕ) (streams : List Stream) (p : Pid) (i : ℕ) (reason : Never)
     : Type 0 where
   pub event : Event
@@ -101,14 +101,15 @@ abbrev pub NeverShownWithOthers : ℕ → List Stream → Type 0
 NeverShownWithOthers top streams = (others : List Pid) (acts : List Act) → NoReset acts
     → ¬ Shows top (with_silent streams others) acts
 
--- so it is however far clocks go; for TooHigh, as far as these go
+-- the reason is final: no acts without a reset show the streams, however far clocks go; for
+-- TooHigh, if they go up to TOP
 abbrev pub IsFinal : ℕ → List Stream → Never → Type 0
 IsFinal top streams never.TooHigh = NeverShownWithOthers top streams
 IsFinal top streams reason = (most : ℕ) → NeverShownWithOthers most streams
 
--- No send and no receive is missing in these streams: acts without a reset show them; each message
+-- No send and no receive is missing in the streams: acts without a reset show them; each message
 -- that was received has the count of a send or print of its sender; and the prev of each send and
--- print is what the event before it leaves, or a new trace begins there.
+-- print is what the events before it leave, or a new trace can begin with it.
 pub record LacksNothing (top : ℕ) (streams : List Stream) : Type 0 where
   pub shown : IsShownInOneTrace top streams
   pub sent : (p : Pid) (i : ℕ) (e : Event) → event_at streams p i ≡ Some e
@@ -116,8 +117,8 @@ pub record LacksNothing (top : ℕ) (streams : List Stream) : Type 0 where
   pub caused : (p : Pid) (i : ℕ) (e : Event) → event_at streams p i ≡ Some e
       → is_need (take i (events_of streams p)) e ≡ false
 
--- The streams have this completion, so acts without a reset show them with its unlisted processes;
--- with all of its events nothing is missing; and no reason holds of the streams at any event.
+-- The streams have the completion, so acts without a reset show them with its unlisted processes;
+-- nothing is missing in all of its events; and no reason holds of any event of the streams.
 pub record IsWhole (top : ℕ) (streams : List Stream) (completed : Completed) : Type 0 where
   pub completes : Completes top streams completed
   pub shown : IsShownInOneTrace top (with_silent streams completed.unlisted)
@@ -125,14 +126,14 @@ pub record IsWhole (top : ℕ) (streams : List Stream) (completed : Completed) :
   pub unopposed : (reason : Never) (p : Pid) (i : ℕ) (e : Event) → event_at streams p i ≡ Some e
       → ¬ IsAgainst top streams p i e reason
 
--- the reason holds, and is final
+-- the reason is the first one that holds, and is final
 pub record IsNever (top : ℕ) (streams : List Stream) (p : Pid) (i : ℕ) (reason : Never)
     : Type 0 where
   pub holds : IsFirstReason top streams p i reason
   pub final : IsFinal top streams reason
 
--- these acts show the streams without a reset and are at most n, and the checker's yes has
--- these pairs
+-- the acts show the streams without a reset, are at most `most`, and the checker says yes to them
+-- with these pairs
 pub record IsCertificate (top : ℕ) (streams : List Stream) (most : ℕ) (found : Certificate)
     : Type 0 where
   pub verdict : IsVerdict top streams found.acts (Yes found.pairs)
@@ -140,12 +141,12 @@ pub record IsCertificate (top : ℕ) (streams : List Stream) (most : ℕ) (found
   pub one_trace : NoReset found.acts
   pub within : length found.acts ≤ most
 
--- a completion, or a reason that is final
+-- the answer is a completion, or a reason that is final
 abbrev pub IsAnswer : ℕ → List Stream → Answer → Type 0
 IsAnswer top streams (answer.Whole completed) = IsWhole top streams completed
 IsAnswer top streams (answer.Never p i reason) = IsNever top streams p i reason
 
--- what a fault tells of the streams: if no completion was found, no reason holds of them
+-- a fault tells that no reason holds of the streams, unless memory ran out
 abbrev pub IsFaultOf : ℕ → List Stream → CompleteFault → Type 0
 IsFaultOf top streams fault.Memory = Unit {0}
 IsFaultOf top streams fault.Uncompleted = HasNoOpenReason top streams

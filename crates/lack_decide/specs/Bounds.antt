@@ -1,5 +1,5 @@
--- How many acts surely suffice for a completion, by a plain count of its events, and what it tells
--- that none were found.
+-- The number of acts that surely suffice for a completion, by a plain count of its events, and
+-- what a fault tells of it.
 use Rattle.std.specs.Prelude.{ℕ, ◌<◌, ◌≤◌, ◌+◌, ◌-◌, ◌^◌, min, List, [], ◌∷◌, ◌++◌, if◌then◌else◌}
 use Rattle.std.specs.Prelude.{sum_by}
 use Rattle.st_core.specs.declared.types.Event.{Event}
@@ -11,25 +11,24 @@ use Rattle.st_plan.specs.Marks.{Whole, all_streams}
 use Rattle.lack_decide.specs.declared.answer.CertificateFault.{CertificateFault}
 use Rattle.lack_decide.specs.declared.answer.CertificateFault.TheVariants as fault
 
--- how many counts a process passes unreported before this event, after these
+-- the number of counts that a process passes unreported before e, after the events es
 abbrev pub skipped : List Event → Event → ℕ
 skipped es e = if is_stamp e then e.serial.this - 1 - greatest_count es else 0
 
--- six acts for each event, which come after those before, and one for each count that is skipped
+-- six acts for each event and one for each skipped count, given the events before
 abbrev pub acts_after : List Event → List Event → ℕ
 acts_after before [] = 0
 acts_after before (e ∷ es) = 6 + skipped before e + acts_after (before ++ e ∷ []) es
 
--- and one for each process
+-- the acts of all events, and one for each process
 abbrev pub act_bound : List Stream → ℕ
 act_bound streams = sum_by (λ p. 1 + acts_after [] (events_of streams p)) (pids_of streams)
 
--- a number, or the greatest of 64 bits if it is above
+-- n, up to the greatest number of 64 bits
 abbrev pub saturated : ℕ → ℕ
 saturated n = min n (2 ^ 64 - 1)
 
--- what a fault tells, if this many acts were allowed for these whole streams: they may be too few,
--- or they would surely suffice
+-- a fault tells whether the caller takes fewer acts than surely suffice, or as many
 abbrev pub IsCertificateFault : List Whole → ℕ → CertificateFault → Type 0
 IsCertificateFault wholes most fault.TooManyActs = most < act_bound (all_streams wholes)
 IsCertificateFault wholes most fault.Uncertified = saturated (act_bound (all_streams wholes)) ≤ most

@@ -1,5 +1,5 @@
--- For the parts alone: a reason as it is found, one test of all events after the other; and a
--- completion, or such a reason.
+-- For the parts alone: a reason as it is found, by one test of all events after the other; and a
+-- finding, which is a completion or a reason.
 use Rattle.std.specs.Prelude.{◌≡◌, ℕ, ◌<◌, ◌≤◌, false, List, Some, None}
 use Rattle.st_core.specs.declared.types.Pid.{Pid}
 use Rattle.st_core.specs.declared.types.Event.{Event}
@@ -16,7 +16,7 @@ use Rattle.lack_decide.specs.declared.answer.Never.TheVariants as never
 use Rattle.lack_decide.specs.declared.answer.Answer.{Answer}
 use Rattle.lack_decide.specs.declared.answer.Answer.TheVariants as answer
 
--- event j of p is the last receive before its event i that counts no lower than this one
+-- event j of p is the last event before event i whose count isn't lower, and it is a receive
 pub record IsLastHigherAt (streams : List Stream) (p : Pid) (i j : ℕ) : Type 0 where
   pub event : Event
   pub at : event_at streams p i ≡ Some event
@@ -28,28 +28,28 @@ pub record IsLastHigherAt (streams : List Stream) (p : Pid) (i j : ℕ) : Type 0
   pub last : (k : ℕ) (f : Event) → j < k → k < i → event_at streams p k ≡ Some f
       → f.serial.this < event.serial.this
 
--- event i of p is the first that is late, and event j the last receive before it that counts no
--- lower
+-- pairing finds no fault, event i of p is the first late event, and event j the last one before it
+-- whose count isn't lower
 pub record IsFirstLate (streams : List Stream) (p : Pid) (i j : ℕ) : Type 0 where
   pub accepted : refusal streams ≡ None
   pub least : IsLeastPlace (HoldsAt is_late streams) p i
   pub higher : IsLastHigherAt streams p i j
 
--- no stamp is late, and event i of p is the first that tells of a stamp with prev 0 after another
--- prev or a receive
+-- pairing finds no fault, no stamp is late, and event i of p is the first unfounded event
 pub record IsFirstUnfounded (streams : List Stream) (p : Pid) (i : ℕ) : Type 0 where
   pub accepted : refusal streams ≡ None
   pub timely : HoldsOfNone is_late streams
   pub least : IsLeastPlace (IsUnfounded streams) p i
 
--- neither reason holds, and event i of p is the first whose count no clock can have
+-- pairing finds no fault, no event is late or unfounded, and event i of p is the first whose count
+-- is above TOP
 pub record IsFirstTooHigh (top : ℕ) (streams : List Stream) (p : Pid) (i : ℕ) : Type 0 where
   pub accepted : refusal streams ≡ None
   pub timely : HoldsOfNone is_late streams
   pub founded : (q : Pid) (j : ℕ) → ¬ IsUnfounded streams q j
   pub least : IsLeastPlace (HoldsAt (is_too_high top) streams) p i
 
--- the reason holds at event i of p, at no event before it, and none of the reasons before it holds
+-- the reason holds at event i of p and at no event before it, and no reason before it holds
 abbrev pub IsFoundReason : ℕ → List Stream → Pid → ℕ → Never → Type 0
 IsFoundReason top streams p i never.PrevNotBefore = refusal streams ≡ Some (fault.PrevNotBefore p i)
 IsFoundReason top streams p i (never.NotRising j) = refusal streams ≡ Some (fault.NotRising p i j)
@@ -59,7 +59,7 @@ IsFoundReason top streams p i (never.Late j) = IsFirstLate streams p i j
 IsFoundReason top streams p i never.Unfounded = IsFirstUnfounded streams p i
 IsFoundReason top streams p i never.TooHigh = IsFirstTooHigh top streams p i
 
--- a completion, or a reason that holds
+-- the finding is a completion, or a reason that holds
 abbrev pub IsFound : ℕ → List Stream → Answer → Type 0
 IsFound top streams (answer.Whole completed) = Completes top streams completed
 IsFound top streams (answer.Never p i reason) = IsFoundReason top streams p i reason

@@ -1,9 +1,9 @@
--- The definitions of public contracts: the meaning of results, and the acts in which a completion
--- has room. `lack_needs` defines what a completion is.
+-- The definitions of public contracts: the meaning of results, and the number of acts that surely
+-- suffice. `lack_needs` defines what a completion is.
 pub mod Answers
 pub mod Bounds
--- For the parts alone: a reason as it is found; what the judge asks of an event, and of one that
--- was added; and the last event that counts no lower.
+-- For the parts alone: reasons as they are found; what the judge asks of each event, and of each
+-- one that was added; and the last event whose count isn't lower.
 pub mod Found
 pub mod Links
 pub mod Needed

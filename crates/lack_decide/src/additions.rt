@@ -1,4 +1,4 @@
-//! Whether a completion adds only what other events need.
+//! Tests whether a completion adds only events that other events need.
 
 ghost use Rattle.std.specs.Prelude.{◌≡◌, ◌+◌, ◌<◌, ◌≤◌, ℕ, true, false, get_or, length, slice_get};
 ghost use Rattle.std.specs.Prelude.{Some};
@@ -13,7 +13,7 @@ use crate::judge::other_end;
 use lack_needs::{is_marked, is_sent, is_stamp, marks_at};
 use st_core::{Event, Kind, Sequence, Streams};
 
-/// One more than the index of the last mark that is set; 0 if none is.
+/// Returns the index after the last mark that is set; 0 if none is.
 fn told_end(marks: &[bool]) -> usize
     ensures { (k : ℕ) → result ≤ k → get_or marks.now k false ≡ false }
 {
@@ -26,7 +26,7 @@ fn told_end(marks: &[bool]) -> usize
     end
 }
 
-/// Whether the event at the link of this one is its receive.
+/// Returns whether the event is a send whose link leads to its receive.
 fn is_sent_for(
     streams: &Streams,
     links: &[Sequence<u32>],
@@ -44,7 +44,7 @@ fn is_sent_for(
     is_sent(streams, sent, (to, u64::from(receive)))
 }
 
-/// Whether a send or print with this count for its prev is right after this index.
+/// Returns whether a send or print comes right after the index and has the count as its prev.
 fn is_followed(events: &[Event], index: usize, this: u64) -> bool
     requires { index < length events.now }
     ensures { result ≡ true → IsNextOf events.now index this }
@@ -55,8 +55,7 @@ fn is_followed(events: &[Event], index: usize, this: u64) -> bool
     }
 }
 
-/// Whether the event at this index of the process at this place is needed, if from `end` on none is
-/// told.
+/// Returns whether an event that a completion adds is needed; no event from `end` on is told.
 fn is_needed(
     streams: &Streams,
     links: &[Sequence<u32>],
@@ -80,7 +79,7 @@ fn is_needed(
     }
 }
 
-/// Whether each event of the process at this place that isn't marked is needed.
+/// Returns whether each untold event of a process is needed; `place` is that of the process.
 fn are_needed(
     streams: &Streams,
     links: &[Sequence<u32>],
@@ -101,7 +100,7 @@ fn are_needed(
     true
 }
 
-/// Whether each event that isn't marked is needed. It looks at each event once.
+/// Returns whether each untold event is needed. It looks at each event once.
 pub(crate) fn are_additions_needed(
     streams: &Streams,
     links: &[Sequence<u32>],

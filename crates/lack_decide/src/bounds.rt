@@ -1,4 +1,4 @@
-//! How many acts surely suffice for a completion.
+//! Counts the acts that surely suffice for a completion.
 
 ghost use Rattle.std.specs.Prelude.{◌≡◌, [], List};
 ghost use Rattle.st_core.specs.declared.types.Event.{Event as EventValue};
@@ -8,11 +8,11 @@ ghost use Rattle.lack_decide.specs.Bounds.{act_bound, acts_after, saturated, ski
 use lack_needs::Left;
 use st_core::{Event, Kind, Streams};
 
-/// A stamp takes at most this many: before its own act the token gets its label and flags, and if
-/// it begins a trace, or counts are skipped, three more prepare for that.
+/// The most acts that an event takes, besides silent prints: three that begin a trace, two that
+/// give the token its label and flags, and the stamp's own.
 const ACTS_OF_EVENT: u64 = 6;
 
-/// How many counts a process passes unreported before an event.
+/// Returns how many counts a process passes unreported before an event.
 fn skipped(left: Left, event: &Event) -> u64
     ensures { (es : List EventValue) → left ≡ left_by es → result ≡ skipped es event.now }
 {
@@ -26,8 +26,8 @@ fn skipped(left: Left, event: &Event) -> u64
     }
 }
 
-/// How many acts surely suffice for all events of a process, or the greatest number if there are
-/// more.
+/// Returns how many acts surely suffice for the events of a process; the greatest number if there
+/// are more.
 fn acts_of_events(events: &[Event]) -> u64
     ensures { result ≡ saturated (acts_after [] events.now) }
 {
@@ -41,7 +41,7 @@ fn acts_of_events(events: &[Event]) -> u64
     count
 }
 
-/// How many acts surely suffice for these events, or the greatest number if there are more.
+/// Returns how many acts surely suffice for all events; the greatest number if there are more.
 pub(crate) fn act_bound(streams: &Streams) -> u64
     ensures { result ≡ saturated (act_bound streams.now) }
 {

@@ -1,4 +1,4 @@
-//! The acts of a completion.
+//! Makes certificates: acts of a completion that the checker accepts.
 
 ghost use Rattle.std.specs.Prelude.{◌≡◌, ◌↔◌, IfErr, IfOk, IfSome, IsTrue};
 ghost use Rattle.st_core.specs.Laws.{is_reset, NoReset};
@@ -43,8 +43,8 @@ fn has_no_reset(acts: &[Act]) -> bool
     true
 }
 
-/// Asks the checker whether the acts show the streams. If it says yes, none of them is a reset, and
-/// they are at most `most`, they are the certificate.
+/// Returns the acts as a certificate if they are at most `most`, none of them is a reset, and the
+/// checker says that they show the streams.
 fn certify<const TOP: u64>(
     alloc: Global,
     streams: &Streams,
@@ -63,7 +63,7 @@ fn certify<const TOP: u64>(
     }
 }
 
-/// Lets the checker judge the lean acts.
+/// Returns the lean acts as a certificate, if they serve.
 fn certify_lean<const TOP: u64>(
     rt: &(impl Threads + Sync),
     alloc: Global,
@@ -80,8 +80,8 @@ fn certify_lean<const TOP: u64>(
     }
 }
 
-/// Lets the checker judge the acts of the auditor's construction, which builds none if more than
-/// 1,000 counts are missing before one event, or 1,000,000 in all.
+/// Returns the acts of the auditor's construction as a certificate, if they serve. It builds none
+/// if more than 1,000 counts are missing before one event, or 1,000,000 in all.
 fn certify_construction<const TOP: u64>(
     rt: &(impl Threads + Sync),
     alloc: Global,
@@ -97,7 +97,8 @@ fn certify_construction<const TOP: u64>(
     }
 }
 
-/// Certifies the lean acts, or if they don't serve those of the construction.
+/// Returns a certificate of the lean acts, or of those of the construction if the lean ones don't
+/// serve.
 fn certify_either<const TOP: u64>(
     rt: &(impl Threads + Sync),
     alloc: Global,
@@ -113,7 +114,7 @@ fn certify_either<const TOP: u64>(
     }
 }
 
-/// Why a completion has no certificate, if none of the acts that were tried serves.
+/// Returns why a completion has no certificate, if no acts that were tried serve.
 fn fault_of(completion: &Completion, most: u64) -> CertificateFault
     ensures { IsCertificateFault completion.now.wholes most result }
 {
@@ -124,18 +125,18 @@ fn fault_of(completion: &Completion, most: u64) -> CertificateFault
     }
 }
 
-/// Writes the acts of a completion. They show the streams: the checker has said yes to them.
+/// Returns acts of a completion that show the streams, as the checker says.
 ///
 /// A token is changed only if its label, or a flag that decides whether an event is told, is
-/// wrong. Silent acts, which report nothing, stand for the untold events of the completion, and for
-/// counts that a process passed unreported: each count is a print, or the send of a message that
-/// raises the clock of another process, if that saves more than half of the acts there.
+/// wrong. Silent acts, which report nothing, stand for the untold events of the completion, and
+/// for counts that a process passed unreported: each count is a print, or the send of a message
+/// that raises the clock of another process, if that saves more than half of the acts there.
 ///
 /// If these acts are more than `most`, or the checker refuses them, which no test has seen, the
 /// acts of the auditor's construction are tried.
 ///
-/// It sorts on several threads, and the result is the same for every number of threads, which is
-/// tested and not proved.
+/// It sorts on several threads. That the result doesn't depend on their number is tested and not
+/// proved.
 pub fn certificate<const TOP: u64>(
     rt: &(impl Threads + Sync),
     alloc: Global,

@@ -1,5 +1,5 @@
-//! `complete`: the reasons, one after the other, each at its least place; and if none holds, a
-//! completion.
+//! Decides what streams lack: tries the reasons one after the other, each at its least place, and
+//! builds a completion if none holds.
 
 ghost use Rattle.std.specs.Prelude.{◌≡◌, ◌≤◌, length, IfErr, IfNone, IfOk, IfSome, None};
 ghost use Rattle.st_pair.specs.Links.{IsPairing};
@@ -21,7 +21,7 @@ use st_core::{Event, Pid, Streams};
 use st_pair::{PairFault, Pairing, pair};
 use std::alloc::{AllocError, Global};
 
-/// The answer for streams that pairing refuses.
+/// Returns the answer for streams that pairing refuses; fails only if memory ran out.
 fn answer_of_refused<const TOP: u64>(
     streams: &Streams,
     fault: PairFault,
@@ -42,7 +42,7 @@ fn answer_of_refused<const TOP: u64>(
     Ok(Answer::Never(pid, index, never))
 }
 
-/// The index of the last event before this one that counts no lower than `this`.
+/// Returns the index of the last event before `index` whose count isn't below `this`.
 fn last_higher(events: &[Event], index: usize, this: u64) -> Option<usize>
     requires { index ≤ length events.now }
     ensures { LastHigher events.now this index result }
@@ -56,7 +56,7 @@ fn last_higher(events: &[Event], index: usize, this: u64) -> Option<usize>
     last
 }
 
-/// `Late`, for the first event that counts no higher than one before it.
+/// Returns `Late` for the first late event.
 fn late_answer<const TOP: u64>(streams: &Streams, pid: Pid, index: u64) -> Answer
     requires accepted { refusal streams.now ≡ None }
     requires late { IsLeastPlace (HoldsAt is_late streams.now) pid index }
@@ -72,7 +72,7 @@ fn late_answer<const TOP: u64>(streams: &Streams, pid: Pid, index: u64) -> Answe
     Answer::Never(pid, index, Never::Late(higher as u64))
 }
 
-/// The answer for streams that pairing accepts, if a reason holds of them.
+/// Returns the answer for streams that pairing accepts, if a reason holds of them.
 fn find_reason<const TOP: u64>(
     alloc: Global,
     streams: &Streams,
@@ -95,7 +95,8 @@ fn find_reason<const TOP: u64>(
     Ok(None)
 }
 
-/// The completion that is built of streams of which no reason holds, if the judge accepts it.
+/// Returns the completion that is built of streams of which no reason holds; fails if the judge
+/// refuses it.
 fn whole_answer<const TOP: u64>(
     alloc: Global,
     streams: &Streams,
@@ -116,7 +117,7 @@ fn whole_answer<const TOP: u64>(
     }
 }
 
-/// The answer for streams that pairing accepts.
+/// Returns the answer for streams that pairing accepts.
 fn answer_of_paired<const TOP: u64>(
     alloc: Global,
     streams: &Streams,
@@ -145,13 +146,13 @@ fn answer_of<const TOP: u64>(alloc: Global, streams: &Streams) -> Result<Answer,
 }
 
 /// Decides whether acts without a reset show the streams together with any processes that report
-/// nothing. If so, it returns a completion, with the processes of this kind that it needs; and if
-/// not, the least place of the first reason that holds. The same streams always get the same
-/// result, which is tested and not proved. The time is nearly linear in the events.
+/// nothing. If so, it returns a completion, with the unlisted processes that it needs; if not, the
+/// least place of the first reason that holds. The same streams always get the same result, which
+/// is tested and not proved. The time is nearly linear in the events.
 ///
-/// The completion is the one that `docs/COMPLETIONS.md` describes: hidden sends are after the
-/// receives that may have caused them, messages that were sent and never received are taken if a
-/// stamp needs them, and others are invented only if a need is left.
+/// The completion follows the rules of `docs/COMPLETIONS.md`: hidden sends go after the receives
+/// that may have caused them, messages that were sent and never received are given to stamps that
+/// need them, and others are invented only if a need is left.
 pub fn complete<const TOP: u64>(alloc: Global, streams: &Streams) -> Result<Answer, CompleteFault>
     ensures answer { IfOk result (IsAnswer TOP streams.now) }
     ensures fault { IfErr result (IsFaultOf TOP streams.now) }

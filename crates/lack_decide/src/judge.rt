@@ -1,4 +1,4 @@
-//! The judge of candidates: whether whole streams are a completion.
+//! The judge of candidates, which decides whether whole streams are a completion.
 
 ghost use Rattle.std.specs.Prelude.{◌≡◌, ◌↔◌, true, false, IfOk, IsTrue};
 ghost use Rattle.std.specs.List.{AllByRecursion};
@@ -35,7 +35,7 @@ fn is_same_pid(pid: Pid, other: Pid) -> bool
     pid == other
 }
 
-/// Whether these are the marked events among all events of a process.
+/// Returns whether the marked ones among all events of a process are the given events.
 fn tells_events(all: &[Event], marks: &[bool], events: &[Event]) -> bool
     ensures { result ≡ true → told_events (marked_with all.now marks.now) ≡ events.now }
 {
@@ -54,8 +54,8 @@ fn tells_events(all: &[Event], marks: &[bool], events: &[Event]) -> bool
     rest.is_empty()
 }
 
-/// Whether the streams, with nothing of these unlisted processes, are the marked events among all
-/// events. The pids are those of both.
+/// Returns whether the marked events are those of the streams, and the unlisted processes have
+/// none; `pids` has the pids of both.
 fn tells_streams(
     all: &Streams,
     lists: &[Sequence<bool>],
@@ -86,8 +86,8 @@ fn tells_streams(
     true
 }
 
-/// The index that a process, by its place, has for the other end of the message of its event at
-/// this index.
+/// Returns the link of an event, which is the index of the other end of its message; 0 if there is
+/// none. `place` is that of its process.
 pub(crate) fn other_end(links: &[Sequence<u32>], place: usize, index: usize) -> u32
     ensures { result ≡ other_end links.now place index }
 {
@@ -97,7 +97,7 @@ pub(crate) fn other_end(links: &[Sequence<u32>], place: usize, index: usize) -> 
     }
 }
 
-/// Whether the event is the receive of this one, and this a send.
+/// Returns whether `sent` is a send, and the event its receive.
 fn is_received(sent: &Event, event: &Event) -> bool
     ensures sends { result ≡ true → is_send sent.now ≡ true }
     ensures same { result ≡ true → receipt_of sent.now ≡ event.now }
@@ -108,8 +108,8 @@ fn is_received(sent: &Event, event: &Event) -> bool
     }
 }
 
-/// Whether the receive at this index has a send, at the index that its link has, which has this
-/// index for its receive.
+/// Returns whether the event at `link` is the send of the receive at `index`, and links back to
+/// it.
 fn is_linked(
     streams: &Streams,
     links: &[Sequence<u32>],
@@ -128,7 +128,7 @@ fn is_linked(
     is_received(&sent, event) && other_end(links, place, link as usize) as usize == index
 }
 
-/// Whether the event at this index of the process at this place is no receive, or has its send.
+/// Returns whether the event is no receive, or is linked to its send.
 fn has_send(
     streams: &Streams,
     links: &[Sequence<u32>],
@@ -148,7 +148,7 @@ fn has_send(
     }
 }
 
-/// Whether all of these events are fit, which are those of the process at this place.
+/// Returns whether all events of a process are fit; `place` is that of the process.
 fn are_fit(
     streams: &Streams,
     links: &[Sequence<u32>],
@@ -168,9 +168,9 @@ fn are_fit(
     true
 }
 
-/// Whether all events are fit. Then nothing is needed in the streams: pairing accepts them, no send
-/// is hidden, and no event is late, a need or above TOP. It pairs each receive with its send by
-/// links, which are looked at from both ends.
+/// Returns whether all events are fit: each goes on from those before it, and each receive and its
+/// send are linked to each other. Then nothing is needed in the streams: pairing accepts them, no
+/// send is hidden, and no event is late, a need or above TOP.
 fn are_all_fit(streams: &Streams, links: &[Sequence<u32>], top: u64) -> bool
     ensures { result ≡ true → IsNeedless top streams.now }
 {
@@ -182,7 +182,7 @@ fn are_all_fit(streams: &Streams, links: &[Sequence<u32>], top: u64) -> bool
     true
 }
 
-/// Whether the streams list none of these processes, and the pids rise.
+/// Returns whether the streams list none of the processes, and the pids rise.
 fn are_apart(streams: &Streams, unlisted: &[Pid]) -> bool
     ensures apart { result ≡ true
         → AllByRecursion (λ q. lists streams.now q ≡ false) unlisted.now }
@@ -196,7 +196,8 @@ fn are_apart(streams: &Streams, unlisted: &[Pid]) -> bool
     is_rising(unlisted)
 }
 
-/// Whether the streams, and nothing of these processes, are the marked events among all events.
+/// Returns whether the marked events are those of the streams, and the unlisted processes have
+/// none.
 fn tells_with(
     alloc: Global,
     all: &Streams,
@@ -215,7 +216,7 @@ fn tells_with(
     Ok(tells_streams(all, marks, streams, unlisted, &pids))
 }
 
-/// Checks a candidate, and returns it as a completion of the streams if it is one.
+/// Returns the candidate as a completion of the streams, if it is one.
 pub(crate) fn judge<const TOP: u64>(
     alloc: Global,
     streams: &Streams,

@@ -1,8 +1,8 @@
-//! A completion of a trace, or why it has none, and the acts of a completion.
+//! A completion of a trace, or the reason why it has none, and the acts of a completion.
 //!
 //! `complete` decides whether streams have a run without a reset, with any processes that report
-//! nothing: it finds a completion, or an event and the reason why there is none. `certificate`
-//! writes the acts of a completion. `renumbered` makes the counts of streams small.
+//! nothing: it returns a completion, or an event and the reason why there is none. `certificate`
+//! returns the acts of a completion. `renumbered` makes the counts of streams small.
 #![tactic(auto)]
 
 mod additions;

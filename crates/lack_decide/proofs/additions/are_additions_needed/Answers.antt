@@ -1,4 +1,4 @@
--- In the end all processes were taken.
+-- After the loop each addition to each process is needed.
 use Rattle.std.proofs.Common.{length, ap, arith}
 use Rattle.lack_decide.proofs.NeededAdditions.{additions_needed}
 use Rattle.lack_decide.proofs.additions.are_additions_needed.Goals as goal

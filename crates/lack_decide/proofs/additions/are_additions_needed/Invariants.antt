@@ -1,4 +1,4 @@
--- The additions to the processes that were taken are needed.
+-- Each addition to the processes taken so far is needed.
 use Rattle.lack_decide.proofs.NeededAdditions.{AllNeeded}
 use Rattle.lack_decide.proofs.additions.are_additions_needed.Given as goal
 

@@ -1,4 +1,4 @@
--- Each event that was taken and isn't marked is needed.
+-- Each unmarked event taken so far is needed.
 use Rattle.std.proofs.Common.{◌≡◌, ℕ, ◌<◌, false, get_or, slice_get, Some}
 use Rattle.st_core.specs.declared.types.Event.{Event}
 use Rattle.lack_decide.specs.Needed.{IsNeededAmong}

@@ -1,4 +1,4 @@
--- No mark that was taken is set from the end on.
+-- No mark taken so far is set from `end` on.
 use Rattle.std.proofs.Common.{◌≡◌, ℕ, ◌<◌, ◌≤◌, false, get_or}
 use Rattle.lack_decide.proofs.additions.told_end.Given as goal
 

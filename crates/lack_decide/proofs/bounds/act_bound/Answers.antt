@@ -1,4 +1,4 @@
--- One process more; and those that were taken are all in the end.
+-- The sum with one more process has its acts too, and in the end all processes were taken.
 use Rattle.std.proofs.Common.{◌+◌, ◌<◌, [], get_or, length, sum_by, take, ap, arith}
 use Rattle.std.proofs.lemmas.List.{take_all, take_more}
 use Rattle.std.proofs.lemmas.List.Sums.{sum_by_push}

@@ -1,4 +1,4 @@
--- The sum so far suffices for the processes that were taken.
+-- The sum so far is that of the processes taken so far.
 use Rattle.std.proofs.Common.{◌≡◌, ◌+◌, [], sum_by, take}
 use Rattle.st_core.specs.Run.{pids_of}
 use Rattle.st_core.specs.Streams.{events_of}

@@ -1,4 +1,4 @@
--- One event more; and at the end none is left.
+-- The sum with one more event has its acts too, and in the end no event is left.
 use Rattle.std.proofs.Common.{◌+◌, drop, get_or, take, ◌∙◌, ap, arith}
 use Rattle.std.proofs.lemmas.List.{drop_all}
 use Rattle.st_pair.proofs.ForCallers.{at_get_or, blank}

@@ -1,4 +1,5 @@
--- The acts counted and those that are left come to all, or to more than the greatest number.
+-- The acts counted so far and those of the remaining events are all acts, up to the greatest
+-- number.
 use Rattle.std.proofs.Common.{◌≡◌, ◌+◌, ◌-◌, ◌^◌, ◌≤◌, [], drop, take}
 use Rattle.lack_needs.specs.Flaws.{left_by}
 use Rattle.lack_decide.specs.Bounds.{acts_after, saturated}

@@ -1,4 +1,5 @@
--- A yes says that the acts show the streams, and no more were let through than are allowed.
+-- The checker's yes says that the acts show the streams; resets and too many acts were refused
+-- before.
 use Rattle.std.proofs.Common.{subst, arith}
 use Rattle.st_core.specs.Laws.{NoReset}
 use Rattle.st_core.specs.Verdict.{IsVerdict, Yes}

@@ -1,4 +1,4 @@
--- One act more, and all at the end; and none of acts without a reset is one.
+-- Each act was tested, and a list with a reset isn't one without.
 use Rattle.std.proofs.Common.{◌≡◌, false, refl, sym, ◌∙◌, arith}
 use Rattle.std.proofs.lemmas.Bool.{false≢true}
 use Rattle.std.proofs.lemmas.Option.{slice_get-get_or, slice_get_within}

@@ -1,4 +1,4 @@
--- No act that was taken is a reset.
+-- No act taken so far is a reset.
 use Rattle.std.proofs.Common.{◌≡◌, ℕ, ◌<◌, false, slice_get, Some}
 use Rattle.st_core.specs.declared.types.Act.{Act}
 use Rattle.st_core.specs.Laws.{is_reset}

@@ -1,4 +1,4 @@
--- Without a late event, an unfounded one and one that counts too high no reason holds.
+-- No reason holds if no event is late, unfounded or above TOP.
 use Rattle.std.proofs.lemmas.Bool.{ltb-false}
 use Rattle.lack_decide.proofs.decision.find_reason.Goals as goal
 

@@ -1,4 +1,4 @@
--- The last of the events so far that counts no lower is known.
+-- `last` is the last event so far whose count isn't lower.
 use Rattle.lack_decide.specs.Higher.{LastHigher}
 use Rattle.lack_decide.proofs.decision.last_higher.Given as goal
 

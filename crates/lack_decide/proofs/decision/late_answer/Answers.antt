@@ -1,4 +1,5 @@
--- An event before it counts no lower, and the last such one is a receive.
+-- Some event before the late one has a count that isn't lower, and the last one like that is a
+-- receive.
 use Rattle.std.proofs.Common.{None, refl, sym, ◌∙◌, subst}
 use Rattle.lack_decide.specs.Higher.{IsHigher, LastHigher}
 use Rattle.lack_decide.proofs.Answered.{last_higher, some_higher}

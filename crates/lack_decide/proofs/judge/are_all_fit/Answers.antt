@@ -1,4 +1,4 @@
--- One process more; and in the end all were taken.
+-- The events of each process are fit, and in the end all processes were taken.
 use Rattle.std.proofs.Common.{get_or, length, slice_get, sym, ◌∙◌, ap, subst, arith}
 use Rattle.st_core.specs.declared.types.Pid.{Pid}
 use Rattle.st_core.specs.Run.{pids_of}

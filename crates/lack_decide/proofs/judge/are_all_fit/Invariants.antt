@@ -1,4 +1,4 @@
--- The events of the processes that were taken are fit.
+-- The events of the processes taken so far are fit.
 use Rattle.lack_decide.proofs.Linked.{AllFit}
 use Rattle.lack_decide.proofs.judge.are_all_fit.Given as goal
 

@@ -1,4 +1,4 @@
--- One process more; and in the end all were taken.
+-- The streams list no process that was taken, and in the end all were taken.
 use Rattle.std.proofs.Common.{◌≡◌, false, get_or, sym, ◌∙◌, arith}
 use Rattle.std.proofs.lemmas.Bool.{not-true}
 use Rattle.std.proofs.lemmas.Option.{slice_get-get_or, slice_get_within}

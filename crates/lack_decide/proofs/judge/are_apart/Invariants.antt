@@ -1,4 +1,4 @@
--- The processes that were taken aren't listed.
+-- The streams list no process taken so far.
 use Rattle.std.proofs.Common.{◌≡◌, ℕ, ◌<◌, false, slice_get, Some}
 use Rattle.st_core.specs.declared.types.Pid.{Pid}
 use Rattle.st_core.specs.Streams.{lists}

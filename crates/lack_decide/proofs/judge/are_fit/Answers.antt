@@ -1,4 +1,4 @@
--- An event is tested after those before it.
+-- Each event is tested against what the events before it leave.
 use Rattle.std.proofs.Common.{get_or, take, ◌∙◌, arith}
 use Rattle.std.proofs.lemmas.Option.{slice_get_within}
 use Rattle.st_pair.proofs.ForCallers.{at_get_or, blank}

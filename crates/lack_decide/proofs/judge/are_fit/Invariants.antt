@@ -1,11 +1,11 @@
--- The events that were taken are fit.
+-- The events taken so far are fit.
 use Rattle.std.proofs.Common.{◌≡◌, ℕ, ◌<◌, slice_get, take, Some}
 use Rattle.st_core.specs.declared.types.Event.{Event}
 use Rattle.lack_needs.specs.Flaws.{left_by}
 use Rattle.lack_decide.specs.Links.{IsEventFit}
 use Rattle.lack_decide.proofs.judge.are_fit.Given as goal
 
--- what they leave is known
+-- `left` is what they leave
 abbrev pub invariant-loop-i : goal.invariant-loop-i
 invariant-loop-i l = record {
   left : l.left ≡ left_by (take l.i l.events);

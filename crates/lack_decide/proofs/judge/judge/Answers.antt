@@ -1,5 +1,4 @@
--- The completion is the candidate, of which the told events are the streams with its unlisted
--- processes.
+-- The candidate is the completion: its told events are the streams with its unlisted processes.
 use Rattle.std.proofs.Common.{◌≡◌, false, List, ap, sym, ◌∙◌, subst}
 use Rattle.std.specs.List.{AllByRecursion}
 use Rattle.std.proofs.lemmas.Option.{same_Some}

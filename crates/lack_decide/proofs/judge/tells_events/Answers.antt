@@ -1,4 +1,4 @@
--- A marked event is the next of the stream.
+-- Each marked event is the next of the stream.
 use Rattle.std.proofs.Common.{◌≡◌, ◌==◌, true, get_or, length, suc, ◌+◌, List, [], ◌∷◌, drop, refl}
 use Rattle.std.proofs.Common.{sym, ◌∙◌, ap, arith, Bor}
 use Rattle.std.proofs.lemmas.Bool.Decides.{nat_tests}

@@ -1,5 +1,4 @@
--- One process more. The streams with the unlisted processes have the same events, and these have
--- none.
+-- The process at each place tells its events in the streams; an unlisted one has none there.
 use Rattle.std.proofs.Common.{get_or, length, slice_get, sym, ◌∙◌, ap, arith}
 use Rattle.st_core.specs.declared.types.Pid.{Pid}
 use Rattle.st_pair.proofs.ForCallers.{at_get_or}
