@@ -1,5 +1,5 @@
--- How an act of a process that reports its stamps changes its token, with the origin that it has. A
--- receive shows in the message that it takes.
+-- Each stamp shows in its report, and each receive in the message that it takes: so an act of a
+-- process that reports its stamps is one of six cases.
 use Rattle.std.proofs.Common.{◌≡◌, ℕ, ◌⊎◌, ◌&&◌, max, Bool, true, false, cond, List, [], ◌∷◌}
 use Rattle.std.proofs.Common.{Option, Some, None, IsSome, inl, inr, refl, ap}
 use Rattle.std.specs.List.{slice_get, AllByRecursion}
@@ -32,7 +32,7 @@ use Rattle.node_machine.proofs.Lists.{among_at}
 use Rattle.node_machine.proofs.Moves.{emptied, IsBack, IsQuiet, IsStamp, is_plain, plain_stamps}
 use Rattle.node_machine.proofs.Moves.{put_back, StampMoves, taken_token, unmoved}
 
--- nothing is stamped, and the token stays or goes
+-- no stamp is reported, and the token stays or goes
 pub record Stays (l m : LocalState) (told : List Event) (before now : TokenOrigin) : Type 0 where
   pub silent : told ≡ []
   pub quiet : IsQuiet l m
@@ -59,7 +59,7 @@ pub record Takes (gifts taken : List Event) (l m : LocalState) (told : List Even
   pub token : (t : Token) → m.token ≡ Some t → gift.serial ≡ t.serial
   pub label : (t : Token) → m.token ≡ Some t → gift.label ≡ t.label
 
--- the token is made, or its label set
+-- a token is made, or its label is set
 pub record Makes (Own : Label → Type 0) (l m : LocalState) (told : List Event)
     (now : TokenOrigin) : Type 0 where
   pub silent : told ≡ []
@@ -72,7 +72,7 @@ pub record PutsBack (Own : Label → Type 0) (held : List Held) (m : LocalState)
   pub back : IsBack token m
   pub after : AfterRestore Own held token now
 
--- the token is kept in an answer
+-- an answer leaves the token as it was
 pub record Keeps (answers : List Event) (asked : Option Event) (l m : LocalState)
     (told : List Event) (before now : TokenOrigin) : Type 0 where
   pub silent : told ≡ []
@@ -108,7 +108,7 @@ module _ (sent : SendsTo) (rule : LabelRule) (past : Past) (held : List Held)
     origin = same;
   }))
 
-  -- a report of a receive is no stamp
+  -- the report of a receive is no stamp
   no_stamp : (b : Bool) (t : Token) (p : Pid) (v : ℕ)
       → stamp_in (cond b (Some (token_event kind.Receive t (Some p) v)) None) ≡ []
   no_stamp true t p v = refl
@@ -215,7 +215,7 @@ module _ (sent : SendsTo) (rule : LabelRule) (past : Past) (held : List Held)
   })))))
   node_brings (Common a) r is same = plain_brings a r refl is same
 
-  -- the sends of what is taken are gifts
+  -- the send of a taken message is a gift
   gifts_found : (r : Process) (place : ℕ) (from : Pid) (v : ℕ) (token : Option Token)
       → (let m : Message = record { from = from; value = v; token = token } in
       let taken = message_send r.pid (node_found (Some (place, m))) in

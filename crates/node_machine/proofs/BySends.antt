@@ -1,5 +1,5 @@
--- In each run of the node each token of a process that reports its stamps is one whose origin its
--- stamps and the sends to it allow: so they allow the origins of its stamps.
+-- Each act keeps the claim that the origin of the process's token is among those that its stamps
+-- and the sends to it allow: so the claim holds at each of its stamps.
 use Rattle.std.proofs.Common.{◌≡◌, ℕ, ◌+◌, ◌⊎◌, true, false, List, [], ◌∷◌, ◌++◌, map, length}
 use Rattle.std.proofs.Common.{Option, Some, None, IsSome, inl, inr, refl, arith, sym, ◌∙◌, ap}
 use Rattle.std.proofs.Common.{subst, append_assoc, append-nil, if◌then◌else◌}
@@ -62,7 +62,6 @@ module _ (sent : SendsTo) (rule : LabelRule) (all : List Event) where
     last = subst (λ n. CanBeHeld sent es taken (fresh n)) (sym same.last) are.last;
   }
 
-  -- a report shows one stamp or none
   stamp_shape : (report : Option Event)
       → (stamp_in report ≡ []) ⊎ ((e : Event) × (stamp_in report ≡ e ∷ []))
   stamp_shape None = inl refl

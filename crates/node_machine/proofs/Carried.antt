@@ -1,5 +1,5 @@
--- How an act of the node that is reported if it moves a token changes its actor's token, with the
--- origin that it has.
+-- An act that is reported if it moves a token is one of six cases, which say what becomes of the
+-- token's origin.
 use Rattle.std.proofs.Common.{◌≡◌, ℕ, ◌⊎◌, ◌&&◌, Bool, true, false, cond, List, length, Option}
 use Rattle.std.proofs.Common.{Some, None, is_some, IsSome, option_map, inl, inr, refl, ◌∙◌, ap}
 use Rattle.std.proofs.Common.{subst}
@@ -35,7 +35,7 @@ use Rattle.node_machine.proofs.Moves.{plain_stamps, set_serial, StampMoves, unmo
 
 -- A SET
 
--- the token is made, or its label set
+-- a token is made, or its label is set
 pub record SetsLabel (Own : Label → Type 0) (l m : LocalState) (now : TokenOrigin) : Type 0 where
   pub still : IsStill l m
   pub origin : now ≡ Home
@@ -114,7 +114,7 @@ pub record CameWith (k : ℕ) (l m : LocalState) (told : Option Seen) (now : Tok
     pub take : IsTake l m event
     pub origin : now ≡ Follows k
 
--- the token was kept in an answer
+-- an answer is reported, and the token stays
 pub record KeptToken (l m : LocalState) (told : Option Seen) (before now : TokenOrigin) : Type 0
   where
     pub event : Seen
@@ -122,7 +122,7 @@ pub record KeptToken (l m : LocalState) (told : Option Seen) (before now : Token
     pub answer : IsAnswered l m event
     pub origin : now ≡ before
 
--- the token was made, or its label set
+-- a token is made or its label set, unreported
 pub record IsMade (front rest : List Seen) (l m : LocalState) (told : Option Seen)
     (now : TokenOrigin) : Type 0 where
   pub silent : told ≡ None

@@ -1,5 +1,5 @@
--- The sizes of counters and serials differ by a factor, so a serial of a counter's value is one of
--- the number itself; and below the size of a serial nothing wraps.
+-- 2^60 divides 2^64, so cutting a number to a counter's bits leaves what a serial shows of it; and
+-- below 2^60 a serial shows the number itself.
 use Rattle.std.proofs.Common.{◌≡◌, ℕ, ◌+◌, ◌^◌, ◌%◌, ◌<◌, ◌⊎◌, max, inl, inr, refl, arith, sym, ◌∙◌}
 use Rattle.std.proofs.Common.{ap}
 use Rattle.std.proofs.Math.Nat.{mod-add-mod, mod-eq_of_lt, mod_self}
@@ -8,7 +8,7 @@ use Rattle.std.proofs.lemmas.Bool.{cases_order}
 use Rattle.std.proofs.lemmas.Nat.{mod_below}
 use Rattle.node_machine.specs.Counts.{counter_value, next_clock, stamp_count, serial_count}
 
--- a count of a serial has 60 bits
+-- n has 60 bits
 abbrev pub FitsSerial : ℕ → Type 0
 FitsSerial n = n < 2 ^ 60
 
@@ -23,7 +23,7 @@ next_of_clock clock =
     sym (mod-add-mod (n % 2 ^ 64) (2 ^ 60) 1)
     ∙ ap (λ k. (k + 1) % 2 ^ 60) (mod-mod-pow n 4 60)
 
--- a serial shows the same of what it shows
+-- a serial shows a number of 60 bits as it is
 pub serial_same : (n : ℕ) → FitsSerial n → serial_count n ≡ n
 unfolding serial_count
 serial_same n fits = mod-eq_of_lt fits
@@ -62,7 +62,7 @@ max_either a b = elim (cases_order a b) [
   ]
 ]
 
--- below the size of a serial two clocks before a stamp differ in the counts that they lead to
+-- a stamp shows the next count, or 0 after the greatest
 pub serial_case : (n : ℕ) → FitsSerial n → ((n + 1 < 2 ^ 60) × (stamp_count n ≡ n + 1))
     ⊎ ((n + 1 ≡ 2 ^ 60) × (stamp_count n ≡ 0))
 serial_case n fits = elim (cases_order (n + 1) (2 ^ 60)) [

@@ -1,4 +1,4 @@
--- The test of what is given tells.
+-- The test tries each reading, and each put-back of a held token at each place.
 use Rattle.std.proofs.Common.{◌≡◌, ◌≢◌, ℕ, ◌⊎◌, ◌&&◌, ◌||◌, Bool, true, false, List, [], ◌∷◌, ◌++◌}
 use Rattle.std.proofs.Common.{take, Some, inl, inr, refl, sym, ◌∙◌, ap, subst, append_assoc}
 use Rattle.std.proofs.Common.{append-nil}
@@ -61,7 +61,6 @@ leads_by (u ∷ ts) back e is = elim (or_parts (is_next (clock_behind u.this bac
       | inr later ↦ let found = leads_by ts back e later in (found.0, inr found.1, found.2)
     ]
 
--- a token put back after some front, as a test
 put_true : (front back : List Seen) (e : Seen) → are_taken back ≡ true
     → leads (tokens front) back e ≡ true
     → put_back_gives front back e ≡ true
@@ -200,7 +199,7 @@ test_gives es e is =
           }
     ]
 
--- a stamp that isn't given is in no run that keeps to the premises
+-- no run that keeps to the premises has a stamp that isn't given
 pub stamps_final : (es : List Seen) (i : ℕ) (e : Seen) → slice_get es i ≡ Some e
     → e.kind ≢ kind.Receive
     → is_given (take i es) e ≡ false → (pids : List Pid) (acts : List NodeAct)

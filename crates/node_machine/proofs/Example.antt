@@ -1,4 +1,4 @@
--- The example keeps to it.
+-- Each example's run is computed, and its premises hold of what comes out.
 use Rattle.std.proofs.Common.{◌≡◌, ◌==◌, true, false, map, List, [], ◌∷◌, Some, None, inl, inr}
 use Rattle.std.proofs.Common.{refl, arith, sym, ap, subst}
 use Rattle.std.proofs.lemmas.Bool.{false≢true}
@@ -79,7 +79,7 @@ own = (
   ),
 )
 
--- the printer before its set
+-- the printer before its first set
 abbrev before_set : Process
 before_set = record {
   pid = printer;
@@ -96,7 +96,7 @@ set_at_home r is =
     (Common (act.Set printer (component.Print true))) Home Home) (same_Some before_set r is)
     (refl, record { new = tt; stamps = (λ _. refl, λ no. absurd (no (refl, refl))) })
 
--- the token of the first print was held
+-- the first print's token, as a held one
 abbrev first_held : Held
 first_held = record {
   serial = first_token.serial;
@@ -145,7 +145,7 @@ answers = (
   ),
 )
 
--- and its last print needs the put-back
+-- the last print needs the put-back in each reading
 pub one_need : NeedsAtLeast (seen_stream prints_again outcomes printer) 1
 unfolding serial_count counter_value
 one_need = (omega arith, (omega arith, (omega arith, (omega arith, tt))))
@@ -165,7 +165,6 @@ pub wrap_runs : node_run (printer ∷ sender ∷ []) wraps ≡ Some wrap_outcome
 unfolding serial_count counter_value
 wrap_runs = refl
 
--- the sender isn't the printer
 apart : sender ≡ printer → ⊥
 apart same = false≢true (ap (λ (p : Pid). p.number == 1) same)
 
@@ -267,7 +266,7 @@ come_sends = (
   ),
 )
 
--- the printer before its receive
+-- the printer before it receives
 abbrev before_receive : Process
 before_receive = record {
   pid = printer;
@@ -336,7 +335,6 @@ pub silent_runs : node_run three sends_silently ≡ Some silent_outcomes
 unfolding serial_count counter_value
 silent_runs = refl
 
--- the other isn't the printer either
 other_apart : other_sender ≡ printer → ⊥
 other_apart same = false≢true (ap (λ (p : Pid). p.number == 1) same)
 
@@ -359,7 +357,7 @@ silent_stamps = (
   ),
 )
 
--- the printer before its receive
+-- the printer before it receives
 abbrev before_second : Process
 before_second = record {
   pid = printer;

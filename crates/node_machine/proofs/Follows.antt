@@ -1,5 +1,5 @@
--- In each run of the node each token that a process holds is one whose origin its events allow: so
--- they allow the origins of its stamps.
+-- Each act keeps the claim that the origin of the process's token is among those that its events
+-- allow: so the claim holds at each of its stamps.
 use Rattle.std.proofs.Common.{◌≡◌, ◌≢◌, ℕ, ◌+◌, ◌<◌, ◌≤◌, ◌⊎◌, suc, Bool, true, false, List, []}
 use Rattle.std.proofs.Common.{◌∷◌, ◌++◌, length, max, take, Option, Some, None, is_some, IsSome}
 use Rattle.std.proofs.Common.{option_map, option_to_list, inl, inr, refl, arith, sym, ◌∙◌, ap}
@@ -43,7 +43,7 @@ use Rattle.node_machine.proofs.Carried.{CameBack, Carries, IsStamped, node_carri
 module _ (all : List Seen) where
   -- WHICH ORIGINS A HELD TOKEN CAN HAVE
 
-  -- a receive, or else a stamp, of a token with this label
+  -- a receive (or, without receipt, a stamp) of a token with the label
   record HasShown (receipt : Bool) (label : Label) : Type 0 where
     index : ℕ
     event : Seen
@@ -73,7 +73,7 @@ module _ (all : List Seen) where
     own : IsOwnLabel front rest label
     origin : h ≡ Home
 
-  -- by the events before index n a token of this serial and label can have this origin
+  -- the events before index n allow the origin h for a held token with serial x and the label
   abbrev CanHold : ℕ → Serial → Label → TokenOrigin → Type 0
   CanHold n x label h =
       HeldByReceive n x label h ⊎ (HeldByStamp n x label h ⊎ HeldAtHome n x label h)
@@ -108,7 +108,6 @@ module _ (all : List Seen) where
         origin = by.origin;
       }))
 
-  -- a stamp that succeeds such a token
   can_succeed : (i : ℕ) (e : Seen) (x : Serial) (h : TokenOrigin) → slice_get all i ≡ Some e
       → x.prev ≡ e.serial.prev → e.serial.this ≡ stamp_count x.this → CanHold i x e.label h
       → Can all i h
@@ -172,13 +171,13 @@ module _ (all : List Seen) where
     own : IsOwnLabel es rest label
     origin : h ≡ Home
 
-  -- the last event is a stamp with this label and origin
+  -- the last event is a stamp with the label, for which h is allowed
   record JustStamped (es : List Seen) (label : Label) (h : TokenOrigin) : Type 0 where
     shown : HasShown false label
     behind : length es ≡ suc shown.index
     can : Can all shown.index h
 
-  -- the last is an answer, and before it is such a stamp
+  -- the last event is an answer, right after a stamp with the label, for which h is allowed
   record JustAnswered (es : List Seen) (clock last : ℕ) (label : Label) (h : TokenOrigin) : Type 0
     where
       shown : HasShown false label
@@ -190,9 +189,9 @@ module _ (all : List Seen) where
       lifted : clock ≡ answer_count answer.serial.this
       count : serial_count (answer_count answer.serial.this) ≡ last
 
-  -- after these events a process with these counts has a token of this serial and label, whose
-  -- origin is this: the counts lead to the token's successor, or the token came with the last
-  -- event, or it was made or labelled since the last event, or kept in an answer
+  -- after the events es the process has a token with serial x, the label and the origin h, and its
+  -- counts clock and last lead to the token's successor, or the token came with the last event,
+  -- was made or labelled after it, or was kept in an answer
   record IsInForce (es : List Seen) (clock last : ℕ) (x : Serial) (label : Label)
       (h : TokenOrigin) : Type 0 where
     can : CanHold (length es) x label h
@@ -214,7 +213,7 @@ module _ (all : List Seen) where
       (subst (λ x. IsInForce es l.clock l.last t.serial x g) label
       (subst (IsInForce es l.clock l.last t.serial t.label) (sym origin) now))))
 
-  -- the tokens of a process and their origins
+  -- the process's token, if there is one, is in force
   abbrev HasTokens : List Seen → LocalState → TokenOrigin → Type 0
   HasTokens es l h = (t : Token) → l.token ≡ Some t → InForce es l t h
 
@@ -454,7 +453,6 @@ module _ (all : List Seen) where
         subst (λ (y : Token). InForce es m y now) (same_Some c.token u (sym c.back.token ∙ is))
         here)
 
-    -- after an act that reported a send
     next_just : Carries es rest held l m told before now → (e : Seen) → told ≡ Some e
         → is_receipt e ≡ false
         → (u : Token) → m.token ≡ Some u → JustStamped (es ++ option_to_list told) u.label now

@@ -1,4 +1,4 @@
--- The lemmas that proofs of the crates above may cite. They hold by the definitions alone.
+-- The lemmas that proofs of the crates above may cite. They follow from the definitions alone.
 
 -- ---- what gives a stamp
 pub use Rattle.node_machine.proofs.Givens.{stamps_given}

@@ -1,5 +1,5 @@
--- In each run of the node the counts of a process are those that its events lead to, or that a
--- token of its own led to which was put back: so its stamps are given.
+-- Each act of a process leads to counts that its events show, or puts back a token that it held:
+-- so each of its stamps is given.
 use Rattle.std.proofs.Common.{◌≡◌, ◌≢◌, ℕ, ◌⊎◌, max, zero, suc, true, false, List, [], ◌∷◌, ◌++◌}
 use Rattle.std.proofs.Common.{take, Option, Some, None, IsSome, option_map, option_to_list, inl}
 use Rattle.std.proofs.Common.{inr, refl, sym, ◌∙◌, ap, subst, append_assoc, append-nil}
@@ -40,16 +40,16 @@ use Rattle.node_machine.proofs.Tokens.{tokens_fresh, tokens_more, tokens_stamp}
 
 -- WHAT EVENTS TELL
 
--- the serial is of a token that these events show as held
+-- the events show that a token with the serial can have been held
 abbrev pub IsHeld : List Seen → Serial → Type 0
 IsHeld es x = IsAmong (tokens es) x
 
--- nothing was put back since the last stamp, or a token was, and then the clock fits a serial
+-- the events lead straight to the counts, or a token was put back and the clock has 60 bits
 abbrev pub IsReached : List Seen → ℕ → ℕ → Type 0
 IsReached es clock last =
     IsStraight es clock last ⊎ (IsPutBack es clock last × FitsSerial clock)
 
--- these events of a process tell its counts and its token
+-- the events tell the process's counts and the serial of its token
 pub record AreTold (es : List Seen) (l : LocalState) : Type 0 where
   pub reached : IsReached es l.clock l.last
   pub last : IsHeld es (fresh l.last)
@@ -62,7 +62,6 @@ pub stamp_last : (es : List Seen) (l m : LocalState) (e : Seen) → IsStamp l m 
 stamp_last es l m e stamp =
     stamp.last ∙ sym stamp.prev ∙ sym (last_push es e 0 ∙ last_by_stamp e stamp.kind)
 
--- a stamp goes on from the counts of its process
 pub next_stamp : (es : List Seen) (l m : LocalState) (e : Seen) (clock : ℕ) → IsStamp l m e
     → l.clock ≡ clock → l.last ≡ last_behind 0 es
     → is_next clock (last_behind 0 es) e ≡ true
@@ -262,7 +261,7 @@ now_given es None l m e (inr (inr answer)) is told =
 
 -- RUNS
 
--- P holds of each stamp among the later events with the events before it
+-- P holds of each stamp among the later events, with the events before it
 abbrev pub EachStamp : (List Seen → Seen → Type 0) → List Seen → List Seen → Type 0
 EachStamp P es [] = Unit {0}
 EachStamp P es (e ∷ rest) = (is_receipt e ≡ false → P es e) × EachStamp P (es ++ e ∷ []) rest

@@ -1,5 +1,5 @@
--- What an act of a process that reports its stamps leaves: its token has an origin that its stamps
--- and the sends to it allow, and its counts are among those that they show.
+-- Each act takes a process's counts and token only from its stamps, from the messages to it, or
+-- from a token that it held: so its token keeps an origin that stamps and sends allow.
 use Rattle.std.proofs.Common.{◌≡◌, ℕ, ◌+◌, ◌^◌, ◌<◌, ◌≤◌, ◌⊎◌, suc, true, List, [], ◌∷◌, ◌++◌}
 use Rattle.std.proofs.Common.{length, max, take, Some, inl, inr, refl, arith, sym, ◌∙◌, ap, subst}
 use Rattle.std.proofs.Common.{append-nil}
@@ -36,7 +36,7 @@ module _ (sent : SendsTo) (rule : LabelRule) (all : List Event) where
 
   -- COUNTS
 
-  -- the count has room for four bits more, or a count is so great that some may have been lost
+  -- n is below 2^59, or a count is so great that a clock may have wrapped
   abbrev pub IsSmall : ℕ → Type 0
   IsSmall n = (n < 2 ^ 59) ⊎ MayHaveWrapped sent all
 
@@ -99,7 +99,6 @@ module _ (sent : SendsTo) (rule : LabelRule) (all : List Event) where
   held_more es more taken new x (made_at_prev y held) =
       made_at_prev y (held_more es more taken new y held)
 
-  -- what was taken is among the gifts
   held_by_gifts : (es taken : List Event) (x : Serial) → AreGifts taken
       → CanBeHeld sent es taken x
       → CanBeHeld sent es sent.gifts x
@@ -113,7 +112,7 @@ module _ (sent : SendsTo) (rule : LabelRule) (all : List Event) where
   held_by_gifts es taken x gifts (made_at_prev y held) =
       made_at_prev y (held_by_gifts es taken y gifts held)
 
-  -- what stamps and messages tell of a token's serial
+  -- the stamps and messages tell of a token with the serial
   pub record IsTold (es taken : List Event) (x : Serial) : Type 0 where
     held : CanBeHeld sent es taken x
     clock : CanBeClock sent es x.this
@@ -129,7 +128,7 @@ module _ (sent : SendsTo) (rule : LabelRule) (all : List Event) where
     fits = told.fits;
   }
 
-  -- and of the counts of a process
+  -- the stamps and messages tell the process's counts
   pub record AreKnown (es taken : List Event) (l : LocalState) : Type 0 where
     pub clock : CanBeClock sent es (serial_count l.clock)
     pub small : IsSmall l.clock
@@ -176,7 +175,7 @@ module _ (sent : SendsTo) (rule : LabelRule) (all : List Event) where
     held : CanBeHeld sent front taken x
     origin : h ≡ Home
 
-  -- by the stamps before index n a token of this serial and label can have this origin
+  -- the stamps before index n allow the origin h for a held token with serial x and the label
   abbrev pub CanHold : ℕ → Serial → Label → TokenOrigin → Type 0
   CanHold n x label h = HeldByGift x label h ⊎ (HeldByStamp n x label h ⊎ HeldAtHome n x label h)
 
@@ -209,7 +208,6 @@ module _ (sent : SendsTo) (rule : LabelRule) (all : List Event) where
         origin = by.origin;
       }))
 
-  -- a stamp that succeeds such a token
   can_succeed : (i : ℕ) (e : Event) (x : Serial) (h : TokenOrigin) → slice_get all i ≡ Some e
       → x.prev ≡ e.serial.prev → e.serial.this ≡ stamp_count x.this → CanHold i x e.label h
       → Can i h
@@ -245,7 +243,7 @@ module _ (sent : SendsTo) (rule : LabelRule) (all : List Event) where
 
   -- THE TOKEN IN FORCE
 
-  -- it came with the message that its process took last
+  -- the token came with the message that the process took last
   pub record CameLast (clock last : ℕ) (label : Label) (h : TokenOrigin) : Type 0 where
     index : ℕ
     gift : Event
@@ -263,7 +261,7 @@ module _ (sent : SendsTo) (rule : LabelRule) (all : List Event) where
     own : rule es taken label ≡ true
     origin : h ≡ Home
 
-  -- the last stamp is this request, with this label and origin
+  -- the last stamp is the request, with the label, and h is allowed for it
   pub record JustStamped (es : List Event) (request : Event) (label : Label)
       (h : TokenOrigin) : Type 0 where
     index : ℕ
@@ -272,7 +270,7 @@ module _ (sent : SendsTo) (rule : LabelRule) (all : List Event) where
     same : request.label ≡ label
     can : Can index h
 
-  -- the last stamp is such a request, and it was answered
+  -- the last stamp is a request with the label, and was answered
   pub record JustAnswered (es : List Event) (clock last : ℕ) (label : Label)
       (h : TokenOrigin) : Type 0 where
     request : Event
@@ -283,9 +281,9 @@ module _ (sent : SendsTo) (rule : LabelRule) (all : List Event) where
     lifted : clock ≡ answer_count answer.serial.this
     count : serial_count (answer_count answer.serial.this) ≡ last
 
-  -- after these stamps a process with these counts has a token of this serial and label, whose
-  -- origin is this: the counts lead to the token's successor, or the token came with the last
-  -- message, or it was made or labelled since the last stamp, or kept in an answer
+  -- after the stamps es the process has a token with serial x, the label and the origin h, and its
+  -- counts clock and last lead to the token's successor, or the token came with the last message,
+  -- was made or labelled after the last stamp, or was kept in an answer
   pub record IsInForce (es taken : List Event) (clock last : ℕ) (x : Serial) (label : Label)
       (h : TokenOrigin) : Type 0 where
     pub can : CanHold (length es) x label h
@@ -321,7 +319,7 @@ module _ (sent : SendsTo) (rule : LabelRule) (all : List Event) where
     form = now.form;
   }
 
-  -- the tokens of a process and their origins
+  -- the process's token, if there is one, is in force
   abbrev pub HasTokens : List Event → List Event → LocalState → TokenOrigin → Type 0
   HasTokens es taken l h = (t : Token) → l.token ≡ Some t → InForce es taken l t h
 
@@ -329,7 +327,7 @@ module _ (sent : SendsTo) (rule : LabelRule) (all : List Event) where
   IsKnown es taken x =
       CanHold (length es) x.serial x.label x.origin × IsTold es taken x.serial
 
-  -- the clock is above the count of the message that came last
+  -- the last message's count is below the stamp's, unless a clock may have wrapped
   above_gift : (clock count this : ℕ) → count ≤ clock → this ≡ stamp_count clock → IsSmall clock
       → (count < this) ⊎ MayHaveWrapped sent all
   above_gift clock count this below stamp (inl small) =
@@ -685,7 +683,6 @@ module _ (sent : SendsTo) (rule : LabelRule) (all : List Event) where
           (made_at_answer c.answer c.among);
     })
 
-    -- after an act that stamps a request
     pub next_just : BringsHere → (request : Event) → told ≡ request ∷ [] → (u : Token)
         → m.token ≡ Some u
         → JustStamped (before ++ told) request u.label now

@@ -1,5 +1,5 @@
--- A label that is new when it is given is on no earlier stamp and no message. So what the rules for
--- labels say of the origins that sends allow is in the stamps and the messages before.
+-- A label that was new when it was given is on no stamp and no message before: so it was given
+-- before the first stamp that has it.
 use Rattle.std.proofs.Common.{◌≡◌, ℕ, ◌<◌, ◌≤◌, ◌==◌, ◌||◌, zero, suc, not, true, false, List, []}
 use Rattle.std.proofs.Common.{◌∷◌, ◌++◌, length, Some, inl, inr, refl, arith, sym, ◌∙◌, ap}
 use Rattle.std.specs.List.{slice_get, AllByRecursion, list_any}
@@ -16,7 +16,7 @@ use Rattle.node_machine.specs.ByMessages.{new_label, other_label, SendsTo, stamp
 use Rattle.node_machine.specs.ByMessages.{token_at_home, token_kept}
 use Rattle.node_machine.proofs.Lists.{among_back, among_front}
 
--- the first stamp of a label, if no gift gives its token, is from home
+-- the first stamp with a label is from home, if no gift gives its token
 pub first_is_home : (sent : SendsTo) (rule : LabelRule) (es : List Event) (i : ℕ) (stamp : Event)
     → slice_get es i ≡ Some stamp → ((k : ℕ) (e : Event) → k < i → slice_get es k ≡ Some e
     → ¬ (e.label ≡ stamp.label))
@@ -35,7 +35,7 @@ first_is_home sent rule es i stamp at first last back h (token_kept _ k _ is can
     absurd (first k is.request (omega arith) is.at (is.label ∙ ap (λ (x : Event). x.label) same))
 first_is_home sent rule es i stamp at first last back h (token_at_home _ is) = refl
 
--- a label that its process gives to no token comes with a message
+-- a message brings each token whose label its process gives to no token
 pub gift_brings : (sent : SendsTo) (label : Label) (es : List Event) (i : ℕ) (stamp : Event)
     → slice_get es i ≡ Some stamp → stamp.label ≡ label → (h : TokenOrigin)
     → CanBySends sent (other_label label) es i h
@@ -87,7 +87,7 @@ all_among : (P : Event → Type 0) (es : List Event) → ((e : Event) → IsAmon
 all_among P [] each = tt
 all_among P (e ∷ es) each = (each e (inl refl), all_among P es (λ d is. each d (inr is)))
 
--- a stamp behind the first one of its label that is at home has a token from before that one
+-- a later stamp with a new label, if it is from home, succeeds a token from before the first one
 pub earlier_token : (sent : SendsTo) (es : List Event) (i k : ℕ) (stamp first : Event)
     → slice_get es i ≡ Some stamp → k < i → slice_get es k ≡ Some first
     → first.label ≡ stamp.label

@@ -1,4 +1,5 @@
--- Whatever is stamped unreported, the prev of each stamp is a last that its process's events show.
+-- Only a receive, an answer and a put-back move last, and its value then is one that the events
+-- show.
 use Rattle.std.proofs.Common.{◌≡◌, ◌≢◌, ℕ, ◌⊎◌, true, false, List, [], ◌∷◌, ◌++◌, take, Option}
 use Rattle.std.proofs.Common.{Some, None, is_some, IsSome, option_map, option_to_list, inl, inr}
 use Rattle.std.proofs.Common.{refl, sym, ◌∙◌, ap, subst, append-nil, if◌then◌else◌}
@@ -38,7 +39,7 @@ use Rattle.node_machine.proofs.Ways.{made_last}
 
 -- ONE ACT
 
--- last stays, and a token that is there has the prev of the one before, or last
+-- last stays, and a token has the prev of the token before, or last
 pub record KeepsLast (l m : LocalState) : Type 0 where
   pub last : m.last ≡ l.last
   pub token : (t : Token) → m.token ≡ Some t
@@ -69,7 +70,7 @@ plain_keeps (act.Clear p) r plain =
 plain_keeps (act.Restore p t) r plain = absurd (false≢true plain)
 plain_keeps a r plain = keeps_same r.local
 
--- how an act changes its actor, if it may stamp unreported
+-- how an act changes its actor, if its stamps may go unreported
 abbrev pub Loosely : Option Token → LocalState → LocalState → Option Seen → Type 0
 Loosely (Some t) l m told = (told ≡ None) × IsBack t m
 Loosely None l m None = KeepsLast l m
@@ -105,7 +106,7 @@ plain_loose a r plain =
           (plain_moves a r plain (λ _. ap is_some is)))
     ] refl
 
--- an act that isn't plain, by how it moves its actor
+-- the case of a receive, a set, a put-back or an answer
 other_loose : (a : NodeAct) (r : Process)
     → (moves_token r (machine_act a) ≡ true → IsSome (node_acted r a).report)
     → (let done = node_acted r a in
@@ -141,7 +142,7 @@ module _ (s : State) (a : NodeAct) (o : Outcome) (x : NodeStepped s a o)
 
 -- WHAT EVENTS SHOW
 
--- this was a last
+-- v was a last
 abbrev WasLast : List Seen → ℕ → Type 0
 WasLast es v = IsHeld es (fresh v)
 
@@ -208,7 +209,7 @@ now_shown es None l m e (inr (inr answer)) is are = absurd (false≢true (sym is
 
 -- RUNS
 
--- the prev of the stamp was a last
+-- the stamp's prev can have been last
 abbrev HasShown : List Seen → Seen → Type 0
 HasShown es e = WasLast es e.serial.prev
 

@@ -1,4 +1,4 @@
--- Facts about each member of a list, and which lists have it.
+-- Facts about the members of lists.
 use Rattle.std.proofs.Common.{◌≡◌, ℕ, ◌+◌, ◌⊎◌, zero, suc, List, [], ◌∷◌, ◌++◌, length, Some, ◌≤◌}
 use Rattle.std.proofs.Common.{take, inl, inr, refl, arith, ap, subst}
 use Rattle.std.specs.List.{AllByRecursion, slice_get}
@@ -54,7 +54,7 @@ pub length_more : {A : Type 0} (xs more : List A) → length xs ≤ length (xs +
 length_more [] more = omega arith
 length_more (y ∷ xs) more = let rest = length_more xs more in omega arith
 
--- P holds of each item with its number, from n on, and the other list's item at its place
+-- P holds of each item with its number, from n on, and the item of the other list at its place
 abbrev pub AllAlong : {A B : Type 0} → (ℕ → A → B → Type 0) → ℕ → List A → List B → Type 0
 AllAlong P n [] ys = Unit {0}
 AllAlong P n (x ∷ xs) [] = Unit {0}

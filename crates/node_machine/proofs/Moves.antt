@@ -1,4 +1,5 @@
--- How an act of the node that is reported if it moves a token changes its actor's counts and token.
+-- Without a put-back an unreported act leaves the counts, and a reported one is a stamp, a receive
+-- or an answer.
 use Rattle.std.proofs.Common.{◌≡◌, ◌≢◌, ℕ, ◌⊎◌, ◌&&◌, max, Bool, true, false, cond, Option, Some}
 use Rattle.std.proofs.Common.{None, is_some, IsSome, option_map, inl, inr, refl, sym, ◌∙◌, ap}
 use Rattle.std.proofs.Common.{subst}
@@ -34,8 +35,7 @@ use Rattle.node_machine.specs.Readings.{is_receipt}
 use Rattle.node_machine.proofs.Counts.{FitsSerial, serial_fits}
 use Rattle.node_machine.proofs.Steps.{stamp_either}
 
--- nothing is reported and the counts stay. A token that is there has the serial of the one before,
--- or of one that was made
+-- the counts stay, and a token has the serial of the token before, or of a fresh one
 pub record IsStill (l m : LocalState) : Type 0 where
   pub clock : m.clock ≡ l.clock
   pub last : m.last ≡ l.last
@@ -43,14 +43,14 @@ pub record IsStill (l m : LocalState) : Type 0 where
       → ((u : Token) × (l.token ≡ Some u) × (u.serial ≡ t.serial))
       ⊎ (t.serial ≡ record { prev = l.last; this = 0 })
 
--- the same, and a token that is there has the serial and the label of the one before
+-- the counts stay, and a token has the serial and the label of the token before
 pub record IsQuiet (l m : LocalState) : Type 0 where
   pub clock : m.clock ≡ l.clock
   pub last : m.last ≡ l.last
   pub token : (t : Token) → m.token ≡ Some t
       → (u : Token) × (l.token ≡ Some u) × (u.serial ≡ t.serial) × (u.label ≡ t.label)
 
--- the event is the stamp by which l became m
+-- the stamp e leads from l to m
 pub record IsStamp (l m : LocalState) (e : Seen) : Type 0 where
   pub kind : is_receipt e ≡ false
   pub answer : e.answer ≡ false
@@ -62,7 +62,7 @@ pub record IsStamp (l m : LocalState) (e : Seen) : Type 0 where
   pub label : (t : Token) → m.token ≡ Some t → e.label ≡ t.label
   pub had : (u : Token) × (l.token ≡ Some u) × (u.label ≡ e.label)
 
--- the event is the receive by which l became m
+-- the receive e leads from l to m
 pub record IsTake (l m : LocalState) (e : Seen) : Type 0 where
   pub kind : is_receipt e ≡ true
   pub answer : e.answer ≡ false
@@ -72,7 +72,7 @@ pub record IsTake (l m : LocalState) (e : Seen) : Type 0 where
   pub token : (t : Token) → m.token ≡ Some t → e.serial ≡ t.serial
   pub label : (t : Token) → m.token ≡ Some t → e.label ≡ t.label
 
--- the event is the answer by which l became m
+-- the answer e leads from l to m
 pub record IsAnswered (l m : LocalState) (e : Seen) : Type 0 where
   pub kind : is_receipt e ≡ true
   pub answer : e.answer ≡ true
@@ -80,20 +80,19 @@ pub record IsAnswered (l m : LocalState) (e : Seen) : Type 0 where
   pub last : m.last ≡ serial_count (answer_count e.serial.this)
   pub token : m.token ≡ l.token
 
--- a token was put back, which made m
+-- t was put back, and left m
 pub record IsBack (t : Token) (m : LocalState) : Type 0 where
   pub fits : FitsSerial t.serial.this
   pub clock : m.clock ≡ t.serial.this
   pub last : m.last ≡ t.serial.prev
   pub token : m.token ≡ Some t
 
--- how an act changes its actor, by the token that it puts back and by what it reports
+-- how an act changes its actor, by the token that it puts back and by its report
 abbrev pub Moves : Option Token → LocalState → LocalState → Option Seen → Type 0
 Moves (Some t) l m told = (told ≡ None) × IsBack t m
 Moves None l m None = IsStill l m
 Moves None l m (Some e) = IsStamp l m e ⊎ (IsTake l m e ⊎ IsAnswered l m e)
 
--- a print or a send
 abbrev pub StampMoves : LocalState → LocalState → Option Event → Type 0
 StampMoves l m None = IsQuiet l m
 StampMoves l m (Some e) = IsStamp l m (seen false e)
@@ -155,17 +154,17 @@ no_receive k other e is = rw is refl
 
 -- THE ACTOR'S PART
 
--- a part of an act that reports what it has to
+-- a part of an act that is reported if it moves a token
 abbrev pub PartMoves : Option Token → Bool → Process → Acted → Bool → Type 0
 PartMoves back answer r done moves = (moves ≡ true → IsSome done.report)
     → Moves back r.local done.local (option_map (seen answer) done.report)
 
--- a part of a print or a send
+-- a part of a print or a send that is reported if it stamps
 abbrev pub PartStamps : Process → Acted → Bool → Type 0
 PartStamps r done moves =
     (moves ≡ true → IsSome done.report) → StampMoves r.local done.local done.report
 
--- an act that neither receives nor sets a token
+-- whether an act is no receive, no set and no put-back
 abbrev pub is_plain : Act → Bool
 is_plain (act.Receive p w) = false
 is_plain (act.Set p c) = false

@@ -1,5 +1,5 @@
--- A run reads its events in one way: where it puts tokens back. So it puts back at least as many as
--- each way to read them needs.
+-- A run says where tokens are put back, and so reads its events in one way: it puts back at least
+-- as many as every reading needs.
 use Rattle.std.proofs.Common.{◌≡◌, ℕ, ◌+◌, ◌⊎◌, ◌&&◌, ◌≤◌, max, true, false, cond, List, [], ◌∷◌}
 use Rattle.std.proofs.Common.{◌++◌, Option, Some, None, is_some, option_to_list, inl, inr, refl}
 use Rattle.std.proofs.Common.{arith, sym, ◌∙◌, ap, subst, append_assoc, append-nil, if◌then◌else◌}
@@ -26,8 +26,8 @@ use Rattle.node_machine.proofs.Tokens.{clock_by_answer, clock_by_receive, last_b
 use Rattle.node_machine.proofs.Tokens.{last_by_receive, last_push}
 use Rattle.node_machine.proofs.Givens.{next_stamp, stamp_last, step_moves, take_fits}
 
--- a reading of the events leads to the counts of the process, with no more put-backs than were
--- spent; or one put-back more was spent since the last stamp
+-- a reading of the events leads to the process's counts, with no more put-backs than were spent;
+-- or a put-back more was spent after the last stamp
 record IsRead (es : List Seen) (spent : ℕ) (l : LocalState) : Type 0 where
   reading : Reading
   reads : IsAmong (readings es) reading
@@ -45,7 +45,6 @@ read_same es spent l m clock last now = record {
   ];
 }
 
--- as many were spent as its reading has
 read_within : (es : List Seen) (spent : ℕ) (l : LocalState) (now : IsRead es spent l)
     → now.reading.put_backs ≤ spent
 read_within es spent l now = elim now.form as (λ _. now.reading.put_backs ≤ spent) [
@@ -75,7 +74,6 @@ stamp_read es spent l m e stamp now =
       }
     ]
 
--- what is spent after an act, by the token that it puts back
 abbrev counted : Option Token → ℕ → ℕ
 counted None spent = spent
 counted (Some t) spent = 1 + spent
@@ -124,7 +122,7 @@ next_read es spent None l m (Some e) (inr (inr answer)) now = record {
   );
 }
 
--- a way to read events with at most n put-backs
+-- a reading of the events with at most n put-backs
 abbrev ReadsWithin : List Seen → ℕ → Type 0
 ReadsWithin es n = (r : Reading) × IsAmong (readings es) r × (r.put_backs ≤ n)
 

@@ -1,5 +1,5 @@
--- Whatever is stamped unreported: a stamp with another prev than the last before it had a token put
--- back after the reported stamp before it.
+-- Only a put-back changes last without an event: so a stamp with another prev than the last before
+-- it has a put-back after the stamp before it.
 use Rattle.std.proofs.Common.{◌≡◌, ℕ, ◌+◌, ◌⊎◌, ◌&&◌, ◌==◌, ◌≤◌, true, false, cond, List, [], ◌∷◌}
 use Rattle.std.proofs.Common.{◌++◌, Option, Some, None, is_some, option_to_list, inl, inr, refl}
 use Rattle.std.proofs.Common.{arith, sym, ◌∙◌, ap, subst, if◌then◌else◌}
@@ -20,7 +20,7 @@ use Rattle.node_machine.proofs.Steps.{actor_same, other_same}
 use Rattle.node_machine.proofs.Lasts.{Loosely, step_loose}
 use Rattle.node_machine.proofs.Tokens.{last_by_answer, last_by_receive, last_by_stamp}
 
--- the process has this last, or there is a put-back to spare
+-- the process has the given last, or a put-back is to spare
 abbrev Spare : ℕ → ℕ → LocalState → Type 0
 Spare spare last l = (l.last ≡ last) ⊎ (1 ≤ spare)
 
@@ -29,7 +29,7 @@ spare_same : (spare last : ℕ) (l m : LocalState) → SameButTraced l m → Spa
 spare_same spare last l m same (inl is) = inl (same.last ∙ is)
 spare_same spare last l m same (inr is) = inr is
 
--- what an event needs, if its process has this last
+-- the put-backs that an event needs, if its process has the given last
 abbrev need : ℕ → Seen → ℕ
 need last e = if is_receipt e then 0 else (if e.serial.prev == last then 0 else 1)
 
@@ -51,7 +51,7 @@ next_no_need last e is prev =
     ap (λ b. cond b 0 (cond (e.serial.prev == last) 0 1)) is
     ∙ ap (λ b. cond b 0 1) (eq-eqb e.serial.prev last prev)
 
--- an act with what it needs, and what is to spare after it
+-- an act pays what its event needs, and more is to spare after it
 record IsPaid (spare last : ℕ) (back : Option Token) (m : LocalState)
     (report : Option Seen) : Type 0 where
   more : ℕ

@@ -1,4 +1,4 @@
--- An act is of one process, so the put-backs of several are no more than all.
+-- An act is of one process, so the put-backs of several processes are no more than all.
 use Rattle.std.proofs.Common.{◌≡◌, ℕ, ◌+◌, ◌≤◌, ◌&&◌, cond, Bool, true, false, List, [], ◌∷◌, Some}
 use Rattle.std.proofs.Common.{is_some, refl, arith, sym, ap, subst}
 use Rattle.std.specs.List.{AllByRecursion, count_by, sum_by}
@@ -14,7 +14,7 @@ use Rattle.node_machine.specs.Premises.{token_put_back}
 use Rattle.node_machine.specs.Readings.{NeedsAtLeast}
 use Rattle.node_machine.proofs.Needs.{needs_put_back}
 
--- whether a process is q, counted if b
+-- 1 if the process is q and b holds, else 0
 abbrev is_one : Pid → Bool → Pid → ℕ
 is_one q b p = cond (pid_eq q p && b) 1 0
 

@@ -1,5 +1,4 @@
--- A stamp that doesn't go on from the counts before it has a put-back between the stamp before it
--- and itself.
+-- Only a put-back leads to counts that no reading of the events has.
 use Rattle.std.proofs.Common.{◌≡◌, ◌≢◌, ℕ, ◌⊎◌, ◌&&◌, true, false, cond, List, [], ◌∷◌, ◌++◌}
 use Rattle.std.proofs.Common.{length, take, Option, Some, None, is_some, option_to_list, inl, inr}
 use Rattle.std.proofs.Common.{refl, sym, ◌∙◌, ap, subst, append_assoc, append-nil, if◌then◌else◌}
@@ -29,7 +28,7 @@ use Rattle.node_machine.proofs.Givens.{answer_plain, next_stamp, no_receive, sta
 use Rattle.node_machine.proofs.Givens.{stamp_at, stamps_part, stamp_plain, step_moves, take_fits}
 use Rattle.node_machine.proofs.Givens.{take_plain, zero_straight}
 
--- the counts are those that the events lead to, or a token was put back since the last stamp
+-- the events lead straight to the counts, or a token was put back after the last stamp
 abbrev IsCounted : List ℕ → List Seen → LocalState → Type 0
 IsCounted all es l = IsStraight es l.clock l.last ⊎ (IsMet all es × FitsSerial l.clock)
 

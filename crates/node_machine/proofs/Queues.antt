@@ -1,7 +1,5 @@
--- An act puts at most one of the messages that an event describes into a queue: the one that it
--- sends, whose stamp its report shows. Each reported receive takes one out. So no more are received
--- than were sent. They may be fewer, since a reset takes tokens away, and receives may go
--- unreported.
+-- A receive takes its message out of the queue, and only a send puts one with a token in: so no
+-- more alike messages are received than were sent.
 use Rattle.std.proofs.Common.{◌≡◌, ℕ, ◌+◌, ◌≤◌, ◌⊎◌, ◌&&◌, Bool, true, false, cond, List, [], ◌∷◌}
 use Rattle.std.proofs.Common.{◌++◌, map, Option, Some, None, is_some, option_map, inl, inr, refl}
 use Rattle.std.proofs.Common.{arith, sym, ◌∙◌, ap, subst}
@@ -50,16 +48,17 @@ bears alike x m = elim m.token [
 abbrev pub queue_found : Option Process → List Message
 queue_found found = elim found [ None ↦ [] | Some r ↦ r.queue ]
 
--- how many such messages lie in x's queue
+-- the number of alike messages in x's queue
 abbrev pub alike_in : (Event → Bool) → State → Pid → ℕ
 alike_in alike s x = count_by (bears alike x) (queue_found (process s x))
 
--- how many such receives a report is
+-- 1 for the receive of an alike message, else 0
 abbrev pub takes_alike : (Event → Bool) → Option Event → ℕ
 takes_alike alike None = 0
 takes_alike alike (Some e) = cond (kind_eq e.kind kind.Receive && alike e) 1 0
 
--- how many such messages an act puts into x's queue, if this is its actor's token after it
+-- the number of alike messages that an act puts into x's queue, if its actor has the token after
+-- it
 abbrev arrives : (Event → Bool) → Act → Option Token → Pid → ℕ
 arrives alike (act.Send p q v) token x =
     cond (pid_eq x q && bears alike x (record { from = p; value = v; token = token })) 1 0
@@ -67,7 +66,7 @@ arrives alike a token x = 0
 
 -- THE ACTOR'S PART
 
--- a message that the part takes leaves the queue
+-- the message of a reported receive leaves the queue
 abbrev PartKeeps : (Event → Bool) → Process → Acted → Type 0
 PartKeeps alike r done =
     count_by (bears alike r.pid) done.queue + takes_alike alike done.report
@@ -162,7 +161,7 @@ part_keeps alike (Common a) r = same_queue alike r (node_acted r (Common a)) ref
 
 -- WHAT REACHES A QUEUE
 
--- a message without a token isn't alike
+-- taking tokens away leaves no more alike messages
 untraced_fewer : (alike : Event → Bool) (x : Pid) (ms : List Message)
     → count_by (bears alike x) (map untraced ms) ≤ count_by (bears alike x) ms
 untraced_fewer alike x [] = omega arith
@@ -280,7 +279,7 @@ module _ (alike : Event → Bool) (s : State) (a : NodeAct) (o : Outcome)
 
 -- LAST
 
--- a node keeps last as a serial shows it
+-- each process's last has 60 bits
 abbrev pub LastsFit : State → Type 0
 LastsFit s = (p : Pid) (r : Process) → process s p ≡ Some r → FitsSerial r.local.last
 
@@ -364,7 +363,7 @@ zero_lasts_fit pids p r is =
 
 -- SENDS
 
--- a stamp shows counts of 60 bits
+-- the node holds a stamped token as it is
 stamp_same : (p : Pid) (l : LocalState) (t : Token) → FitsSerial l.last
     → node_token (node_stamped_token p l t) ≡ node_stamped_token p l t
 stamp_same p l t fits =
@@ -380,7 +379,7 @@ at_most_one : (b : Bool) → cond b 1 0 ≤ 1
 at_most_one true = omega arith
 at_most_one false = omega arith
 
--- the act sends the actor's token to x, and what it reports is such a send
+-- the act sends its actor's token to x, and each report of it is alike
 record SendsAlike (alike : Event → Bool) (r : Process) (a : NodeAct) (x : Pid) : Type 0 where
   value : ℕ
   is_act : machine_act a ≡ act.Send (node_actor a) x value
@@ -392,13 +391,13 @@ record SendsAlike (alike : Event → Bool) (r : Process) (a : NodeAct) (x : Pid)
   is_sent : (node_acted r a).local.token ≡ Some sent
   content : alike (token_event kind.Send sent (Some x) value) ≡ true
 
--- the act takes what it reports as received out of x's queue, and puts nothing alike into it
+-- x's queue loses each alike message that the act reports as received by x, and gains none
 abbrev pub KeepsQueue : (Event → Bool) → State → NodeAct → Outcome → Pid → Type 0
 KeepsQueue alike s a o x =
     alike_in alike o.after x + cond (pid_eq (node_actor a) x) (takes_alike alike o.report) 0
     ≤ alike_in alike s x
 
--- the act sends its actor's token to x, that is alike, and so is what it reports
+-- the act sends an alike message to x, and is reported as alike or not at all
 pub record SentAlike (alike : Event → Bool) (s : State) (a : NodeAct) (o : Outcome)
     (x : Pid) : Type 0 where
   pub sender : Process
@@ -415,14 +414,12 @@ pub record SentAlike (alike : Event → Bool) (s : State) (a : NodeAct) (o : Out
 module _ (alike : Event → Bool)
     (blind : (t : Token) (to : Option Pid) (v : ℕ)
     → alike (token_event kind.Receive t to v) ≡ alike (token_event kind.Send t to v)) where
-  -- a send of a token is alike if its message is
   sent_alike : (t : Token) (q : Pid) (v : ℕ) → node_token t ≡ t
       → alike (token_event kind.Receive (node_token t) (Some q) v) ≡ true
       → alike (token_event kind.Send t (Some q) v) ≡ true
   sent_alike t q v same is = sym (blind t (Some q) v)
       ∙ ap (λ u. alike (token_event kind.Receive u (Some q) v)) (sym same) ∙ is
 
-  -- the report of a token is alike if its message is
   told_alike : (traced : Bool) (t : Token) (q : Pid) (v : ℕ) → node_token t ≡ t
       → alike (token_event kind.Receive (node_token t) (Some q) v) ≡ true → (e : Event)
       → report traced kind.Send (Some t) (Some q) v ≡ Some e
@@ -432,7 +429,7 @@ module _ (alike : Event → Bool)
       (some_if (traced && t.flags.send) (token_event kind.Send t (Some q) v) e at).1
       (sent_alike t q v same is)
 
-  -- nothing alike is sent with the local state m, which was l, or a token is, and told so
+  -- the send puts nothing alike into q's queue, or its token and its report are alike
   abbrev SentWith : Pid → Pid → ℕ → LocalState → LocalState → Type 0
   SentWith p q v l m =
       (arrives alike (act.Send p q v) m.token q ≡ 0)
@@ -469,7 +466,7 @@ module _ (alike : Event → Bool)
       (ap (λ token. arrives alike (act.Send p q v) token q) none ∙ no_one (pid_eq q q)))
       (λ t had. stamped_with p q v x l t fits had)
 
-  -- nothing alike is put into x's queue, or the act sends a token to x
+  -- the act puts nothing alike into x's queue, or sends x an alike message
   abbrev SendsOrNot : NodeAct → Process → Pid → Type 0
   SendsOrNot a r x = (arrives alike (machine_act a) (node_acted r a).local.token x ≡ 0)
       ⊎ SendsAlike alike r a x
@@ -534,7 +531,6 @@ module _ (alike : Event → Bool)
             })
       ]
 
--- at the start no queue has a message
 pub zero_alike : (alike : Event → Bool) (pids : List Pid) (x : Pid)
     → alike_in alike (zero_state pids) x ≡ 0
 zero_alike alike [] x = refl
@@ -548,7 +544,7 @@ zero_alike alike (p ∷ pids) x =
 
 -- REPORTS
 
--- an event of this kind and to is p's own if its token is from p
+-- an event of kind k to the process is p's own if its token is from p
 abbrev OwnIf : Pid → Kind → Option Pid → Type 0
 OwnIf p k to = (t : Token) (v : ℕ) → t.from ≡ p → is_own p (token_event k t to v) ≡ true
 
@@ -616,7 +612,7 @@ acted_own (Common (act.PrintAt p n v)) r e is =
     (print_report_own r v e) (λ at. absurd (none-some e at)) is
 acted_own (Common a) r e is = absurd (none-some e is)
 
--- what an act reports is its actor's own
+-- each event is its actor's own
 pub report_own : (s : State) (a : NodeAct) (o : Outcome) → NodeStepped s a o → (e : Event)
     → o.report ≡ Some e
     → is_own (node_actor a) e ≡ true

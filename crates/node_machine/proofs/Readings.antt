@@ -1,4 +1,4 @@
--- The ways to read events grow with each event: each way to read the front ones goes on.
+-- Each reading of the front events goes on with the next event: so there is always one.
 use Rattle.std.proofs.Common.{◌≡◌, ℕ, ◌⊎◌, ◌+◌, ◌==◌, ◌^◌, Bool, true, false, cond, List, [], ◌∷◌}
 use Rattle.std.proofs.Common.{◌++◌, map, inl, inr, refl, arith, sym, ◌∙◌, ap, subst, if◌then◌else◌}
 use Rattle.std.specs.Prelude.{flat_map}
@@ -70,7 +70,6 @@ module _ (es : List Seen) (e : Seen) (r : Reading) (is : IsAmong (readings es) r
       (flat_among (stamp_readings last e) (readings es) r x is
       (among_back (if is_next r.clock last e then going_on r ∷ [] else []) (x ∷ []) x (inl refl)))
 
--- there is a way to read events
 some_from : (last : ℕ) (es : List Seen) (rs : List Reading) (r : Reading) → IsAmong rs r
     → (x : Reading) × IsAmong (readings_from last es rs) x
 some_from last [] rs r is = (r, is)
@@ -95,7 +94,7 @@ some_reading es =
     let start : Reading = record { clock = 0; put_backs = 0 } in
     some_from 0 es (start ∷ []) start (inl refl)
 
--- a clock that fits a serial is after a stamp what the reading with a put-back says
+-- the reading with a put-back has the clock after a stamp, if the clock before it had 60 bits
 pub clock_fits : (clock : ℕ) (e : Seen) → FitsSerial clock → e.serial.this ≡ stamp_count clock
     → next_clock clock ≡ clock_put_back e
 clock_fits clock e fits count = elim (cases_order (clock + 1) (2 ^ 60)) [
@@ -118,7 +117,6 @@ clock_fits clock e fits count = elim (cases_order (clock + 1) (2 ^ 60)) [
   ]
 ]
 
--- a stamp that goes on from counts
 pub next_true : (clock last : ℕ) (e : Seen) → e.serial.this ≡ stamp_count clock
     → e.serial.prev ≡ last
     → is_next clock last e ≡ true

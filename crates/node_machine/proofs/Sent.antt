@@ -1,4 +1,4 @@
--- Only a send puts a message with a token into a queue. So if each send of a token to a process is
+-- Only a send puts a message with a token into a queue: so if each send of a token to a process is
 -- reported, the sends of the messages that it takes are among the reported ones.
 use Rattle.std.proofs.Common.{◌≡◌, ℕ, ◌≤◌, Bool, true, cond, List, [], ◌∷◌, ◌++◌, Option, Some}
 use Rattle.std.proofs.Common.{None, is_some, IsSome, inl, inr, refl, arith, sym, ◌∙◌, ap, subst}
@@ -33,11 +33,11 @@ use Rattle.node_machine.proofs.Queues.{alike_in, bears, count_removed, LastsFit,
 use Rattle.node_machine.proofs.Queues.{queue_found, queue_step, zero_alike, zero_lasts_fit}
 use Rattle.node_machine.proofs.Steps.{node_run_parts, node_step_parts, NodeStepped}
 
--- the event is this send, or the receive of its message
+-- the event d is the send e, or the receive of its message
 abbrev like : Event → Event → Bool
 like e d = event_eq (record d { kind = kind.Send }) e
 
--- each message with a token in p's queue has its send among these
+-- the send of each message with a token in p's queue is among the sends
 abbrev QueueSent : List Event → State → Pid → Type 0
 QueueSent sends s p = (e : Event) → 1 ≤ alike_in (like e) s p → IsAmong sends e
 
@@ -51,7 +51,6 @@ like_same e d send is =
     ap (λ (k : Kind). let x : Event = record d { kind = k } in x) (send_is d.kind send)
     ∙ event_eq-true as_send e is
 
--- a reported send to p is among its sends
 told_send_to : (p : Pid) (sends : List Event) (e : Event) → kind_eq e.kind kind.Send ≡ true
     → e.to ≡ Some p
     → IsAmong (sends ++ send_to p (Some e)) e

@@ -1,4 +1,5 @@
--- A step of the node in parts, and what of it reaches each process.
+-- A step changes its actor by the actor's part, and another process only by a message, a tracer
+-- change or a reset.
 use Rattle.std.proofs.Common.{◌≡◌, ℕ, zero, suc, take, true, false, Bool, cond, List, [], ◌∷◌, ◌++◌}
 use Rattle.std.proofs.Common.{Option, Some, None, option_map, option_and_then, option_to_list, refl}
 use Rattle.std.proofs.Common.{sym, ◌∙◌, ap, subst}
@@ -26,7 +27,7 @@ use Rattle.node_machine.specs.Node.{node_actor, node_run_from, node_stamped_toke
 
 -- IN PARTS
 
--- what a step is made of: the actor's process and its part
+-- the actor's process before a step, and the actor's part
 pub record NodeStepped (s : State) (a : NodeAct) (o : Outcome) : Type 0 where
   pub before : Process
   pub done : Acted
@@ -51,7 +52,7 @@ node_step_parts s a o h =
       is_outcome = parts.2;
     })
 
--- a run is a step and the run from there on
+-- the first outcome is a step, and the others are the run from there on
 abbrev pub NodeBegan : State → NodeAct → List NodeAct → List Outcome → Type 0
 NodeBegan s a rest [] = ⊥
 NodeBegan s a rest (o ∷ os) = (node_step s a ≡ Some o) × (node_run_from o.after rest ≡ Some os)
@@ -75,7 +76,6 @@ node_run_take (suc n) s (a ∷ acts) (o ∷ os) h =
     run.0
     ∙ ap (option_map (λ xs. o ∷ xs)) (node_run_take n o.after acts os run.1)
 
--- the process of p after a step
 pub node_process_after : (s : State) (a : NodeAct) (o : Outcome) (t : NodeStepped s a o)
     (p : Pid)
     → process o.after p ≡ option_map (changed (machine_act a) t.done) (process s p)
@@ -83,7 +83,7 @@ node_process_after s a o t p =
     ap (λ (x : Outcome). process x.after p) (sym t.is_outcome)
     ∙ process-map (changed (machine_act a) t.done) (changed_pid (machine_act a) t.done) s p
 
--- P holds of what f makes of a process's token, if there is one: so of each item of that list
+-- P holds of f of the process's token, if there is one
 pub of_token : {A : Type 0} (P : A → Type 0) (f : Token → A) (found : Option Process)
     → ((t : Token) → (local_found found).token ≡ Some t → P (f t))
     → AllByRecursion P (option_to_list (option_map f
@@ -98,7 +98,7 @@ of_token P f (Some r) all =
 
 -- CASES
 
--- after a stamp: there is no token, or it is stamped
+-- a stamp finds no token, or stamps it
 pub stamp_either : (P : LocalState → Type 0) (p : Pid) (l : LocalState)
     → (l.token ≡ None → P l)
     → ((t : Token) → l.token ≡ Some t
@@ -121,7 +121,7 @@ print_at_either P r p n v printed still = elim (has_label n r.local.token) as
 
 -- WHAT REACHES A PROCESS
 
--- m is as l but for whether its process is traced
+-- m and l differ at most in whether their process is traced
 pub record SameButTraced (l m : LocalState) : Type 0 where
   pub token : m.token ≡ l.token
   pub clock : m.clock ≡ l.clock
@@ -148,7 +148,7 @@ reached_same (act.Tracer p on) t r plain =
     ]
 reached_same a t r plain = same_but_traced r.local
 
--- the actor's is that of its part, each other's as it was
+-- the actor's state is its part's, and each other's stays
 changed_same : (a : Act) (done : Acted) (r : Process) (mine : Bool) → is_reset a ≡ false
     → pid_eq r.pid (actor a) ≡ mine → SameButTraced (cond mine done.local r.local)
     (changed a done r).local

@@ -1,4 +1,4 @@
--- The serials that events show as held, and the counts after them, with one more event.
+-- One event more adds the serials that it shows, and moves the counts on by what it shows.
 use Rattle.std.proofs.Common.{◌≡◌, ℕ, ◌⊎◌, max, not, Bool, true, false, cond, List, [], ◌∷◌, ◌++◌}
 use Rattle.std.proofs.Common.{inl, inr, refl, sym, ◌∙◌, ap, subst}
 use Rattle.std.proofs.lemmas.Bool.{and_parts}
@@ -87,7 +87,7 @@ module _ (e : Seen) where
   shown_fresh false answer x (inr (inl is)) = inr (inl (ap (λ (y : Serial). fresh y.prev) is))
   shown_fresh false answer x (inr (inr is)) = absurd is
 
--- a token's prev was a last, so a set on no token can have had it
+-- a held token's prev was last, so a set on no token could make one with it
 pub tokens_fresh : (es : List Seen) (x : Serial) → IsAmong (tokens es) x
     → IsAmong (tokens es) (fresh x.prev)
 tokens_fresh [] x (inl is) = inl (ap (λ (y : Serial). fresh y.prev) is)

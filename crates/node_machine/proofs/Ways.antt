@@ -1,4 +1,5 @@
--- A stamp is given in one of the four ways.
+-- A put-back before several receives leads to no other clock than one right before the last of
+-- them: so four ways are enough.
 use Rattle.std.proofs.Common.{◌≡◌, ℕ, ◌⊎◌, ◌&&◌, max, Bool, true, false, cond, List, [], ◌∷◌, ◌++◌}
 use Rattle.std.proofs.Common.{inl, inr, refl, sym, ◌∙◌, ap, subst, append_assoc, append-nil}
 use Rattle.std.specs.List.{AllByRecursion}
@@ -124,7 +125,7 @@ carried_lasts (e ∷ es) x is =
       | inr later ↦ among_back (lasts_shown e) (lasts es) x.prev (carried_lasts es x later)
     ]
 
--- what could be made was a last
+-- the prev of a made token was a last
 pub made_last : (es : List Seen) (v : ℕ) → IsAmong (tokens es) (fresh v) → IsAmong (lasts es) v
 made_last es v is = elim (held_as es (fresh v) is) [
   | inl shown ↦ carried_lasts es (fresh v) shown
@@ -136,8 +137,8 @@ made_last es v is = elim (held_as es (fresh v) is) [
 abbrev pub AreTaken : List Seen → Type 0
 AreTaken es = AllByRecursion (λ r. takes r ≡ true) es
 
--- a token that was put back leads to a clock: it is its own count or that of a receive since, so a
--- token put back right before the last receive leads there too
+-- a put-back and receives after it lead to a clock to which a put-back right before the last
+-- receive leads too
 pub lower : (es : List Seen) (e : Seen) (clock : ℕ) → e.serial.this ≡ stamp_count clock
     → (front : List Seen) (first : Seen) (back : List Seen) (t : Serial)
     → es ≡ front ++ first ∷ back
@@ -218,7 +219,6 @@ given_ways es e given = elim given.way as (λ _. IsInSomeWay es e) [
   | inr way ↦ put_back_ways es e given.clock given.count way way.back refl
 ]
 
--- a token put back right before the stamp
 put_now : (es : List Seen) (e : Seen) (x : Serial) → IsAmong (tokens es) x
     → x.prev ≡ e.serial.prev → e.serial.this ≡ stamp_count x.this → IsGiven es e
 put_now es e x held prev count = record {

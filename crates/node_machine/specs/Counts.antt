@@ -1,26 +1,26 @@
--- Counts. A counter of a node has 64 bits. A serial shows the lowest 60 of them: as a signed number
--- on the node, here as the one from 0 to 2^60 - 1 with the same bits.
+-- A counter of a node has 64 bits, and a serial shows the lowest 60 of them: on the node as a
+-- signed number, here as the number from 0 to 2^60 - 1 with the same bits.
 use Rattle.std.specs.Prelude.{ℕ, ◌+◌, ◌*◌, ◌%◌, ◌^◌}
 use Rattle.st_core.specs.declared.types.Serial.{Serial}
 use Rattle.st_core.specs.declared.types.Token.{Token}
 
--- what a serial shows of a number
+-- the count that a serial shows of a number
 unfoldable pub serial_count : ℕ → ℕ
 serial_count n = n % 2 ^ 60
 
--- what a counter holds of it
+-- the number modulo 2^64, as a counter holds it
 unfoldable pub counter_value : ℕ → ℕ
 counter_value n = n % 2 ^ 64
 
--- the clock after a stamp, from this one
+-- the clock after a stamp
 abbrev pub next_clock : ℕ → ℕ
 next_clock clock = counter_value (clock + 1)
 
--- the count that the stamp's serial shows
+-- the count that the stamp after a clock shows
 abbrev pub stamp_count : ℕ → ℕ
 stamp_count clock = serial_count (clock + 1)
 
--- the count that the answer to a spawn leaves, if the answer's message has this one: the node takes
+-- the count that the answer to a spawn leaves, if its message has the count `this`: the node takes
 -- the bits of the whole term, in which four more bits, all set, stand below the count
 abbrev pub answer_count : ℕ → ℕ
 answer_count this = 16 * this + 15

@@ -1,5 +1,5 @@
--- A run that keeps to all that the laws ask of one: a process prints twice, puts the token of the
--- first print back, and prints again.
+-- A run that keeps to all premises of the laws: a process prints twice, puts the first print's
+-- token back, and prints again.
 use Rattle.std.specs.Prelude.{◌-◌, ◌^◌, true, false, List, [], ◌∷◌, Some, None}
 use Rattle.st_core.specs.declared.types.Pid.{Pid}
 use Rattle.st_core.specs.declared.types.Serial.{Serial}
@@ -31,16 +31,16 @@ prints_again = Common (act.Tracer printer true) ∷ Common (act.Set printer (com
     ∷ Common (act.Restore printer first_token)
     ∷ Common (act.Print printer 7) ∷ []
 
--- its tokens are its own
+-- the printer's tokens are its own
 abbrev pub all_home : List TokenOrigin
 all_home = Home ∷ Home ∷ Home ∷ Home ∷ Home ∷ Home ∷ []
 
--- A run through the wrap: a process puts back a token whose count is next to the greatest, and
--- sends twice to another, which prints after each receive.
+-- A run through the wrap: the sender puts back a token whose count is next to the greatest, and
+-- sends twice to the printer, which prints after each receive.
 abbrev pub sender : Pid
 sender = record { node = 0; number = 2 }
 
--- the token that it puts back
+-- the token that the sender puts back
 abbrev pub greatest_token : Token
 greatest_token = record {
   label = record { 0 = 0 };
@@ -55,8 +55,8 @@ wraps = Common (act.Tracer printer true) ∷ Common (act.Restore sender greatest
     ∷ Common (act.Print printer 6) ∷ Common (act.Send sender printer 7)
     ∷ Common (act.Receive printer want.First) ∷ Common (act.Print printer 8) ∷ []
 
--- what the printer's serials show: after the greatest count comes 0, and its clock, which that
--- lifted above all counts, isn't lowered by a receive of 0
+-- the serials of the printer's events: after the greatest count comes 0, and the receive of 0
+-- doesn't lower the printer's clock, which is above all counts by then
 abbrev pub wrapped_serials : List Serial
 wrapped_serials = record { prev = 0; this = 2 ^ 60 - 1 } ∷ record { prev = 2 ^ 60 - 1; this = 0 }
     ∷ record { prev = 0; this = 0 } ∷ record { prev = 0; this = 1 } ∷ []
@@ -69,7 +69,7 @@ prints_what_came = Common (act.Tracer printer true)
     ∷ Common (act.Send sender printer 5) ∷ Common (act.Receive printer want.First)
     ∷ Common (act.Print printer 6) ∷ []
 
--- the send, which is reported
+-- the reported send
 abbrev pub the_send : Event
 the_send = record {
   label = record { 0 = 0 };
@@ -83,7 +83,7 @@ the_send = record {
 abbrev pub the_sends : SendsTo
 the_sends = record { gifts = the_send ∷ []; answers = [] }
 
--- and the print
+-- the print
 abbrev pub the_print : Event
 the_print = record {
   label = record { 0 = 0 };
@@ -94,12 +94,12 @@ the_print = record {
   value = 6;
 }
 
--- the printer's token came with the message
+-- the printer's token comes with the message
 abbrev pub all_come : List TokenOrigin
 all_come = Home ∷ Home ∷ Home ∷ Home ∷ Follows 0 ∷ Follows 0 ∷ []
 
--- A run in which a send isn't reported: the sender's message brings the printer its token, and the
--- other's, which was reported, waits.
+-- A run in which a send isn't reported: its message brings the printer its token, and that of the
+-- other sender, which reports, waits.
 abbrev pub other_sender : Pid
 other_sender = record { node = 0; number = 3 }
 
@@ -116,7 +116,7 @@ sends_silently = Common (act.Tracer printer true)
 abbrev pub other_send : Event
 other_send = record the_send { from = other_sender; value = 7 }
 
--- both sends, and the reported one
+-- both sends, and the reported one alone
 abbrev pub both_sends : SendsTo
 both_sends = record { gifts = other_send ∷ the_send ∷ []; answers = [] }
 

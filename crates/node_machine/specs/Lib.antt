@@ -1,5 +1,5 @@
--- The definitions: counts, the standard node, what a run of it has to keep to, the counts that
--- events lead to, what gives a stamp, and what its token may have come from.
+-- The definitions: counts, the standard node, the premises on its runs, the counts that events
+-- lead to, what gives a stamp, and the origins of its token.
 pub mod Counts
 pub mod Node
 pub mod Premises

@@ -1,10 +1,10 @@
--- The standard node as a machine. A set on no token, a token that is put back, and the answer that
--- `spawn` waits for move other counts than the manual says, and counts begin again at 0 after the
--- greatest. All else is as in the machine of the manual.
+-- The standard node as a machine. Three acts move other counts than the manual says: a set on no
+-- token, a put-back of a token, and the answer that `spawn` waits for. Counts begin again at 0
+-- after the greatest. All else is as in the machine of the manual.
 --
--- The clock is a counter. Last is kept as a serial shows it, since its upper bits are compared with
--- nothing and shown nowhere. Processes are there from the beginning: the request by which one is
--- spawned and the reply to it are its first receive and its first send.
+-- The clock is a counter. Last is kept as a serial shows it, since its upper bits are compared
+-- with nothing and shown nowhere. Processes are there from the beginning: the request of a spawn
+-- and the reply to it are the new process's first receive and first send.
 use Rattle.std.specs.Prelude.{ℕ, Bool, true, false, List, [], ◌∷◌, ◌++◌, Option, Some, None}
 use Rattle.std.specs.Prelude.{if◌then◌else◌, option_map, option_and_then, option_to_list}
 use Rattle.st_core.specs.declared.types.Pid.{Pid}
@@ -31,14 +31,15 @@ pub use Rattle.node_machine.specs.declared.types.Seen.{Seen}
 
 -- STAMPS
 
--- p's token stamped: its serial is last and the count of the clock after it grew
+-- p's token after a stamp: its prev is last, and its count that of the clock after it grew
 abbrev pub node_stamped_token : Pid → LocalState → Token → Token
 node_stamped_token p l t = record t {
   serial = record { prev = l.last; this = stamp_count l.clock };
   from = p;
 }
 
--- the clock grows by one, from the greatest to 0, and the token is stamped; nothing without a token
+-- a stamp: the clock grows by one, from the greatest to 0, and the token is stamped, if there is
+-- one
 abbrev pub after_stamp : Pid → LocalState → LocalState
 after_stamp p l = elim l.token [
   | None ↦ l
@@ -59,7 +60,7 @@ token_to_set p l = elim l.token [ None ↦ fresh_token p l | Some t ↦ t ]
 abbrev pub after_set : Pid → Component → LocalState → LocalState
 after_set p c l = record l { token = Some (with_component c (token_to_set p l)) }
 
--- a token that is put back brings its counts with it: the clock becomes its count, last its prev
+-- a put-back: the clock becomes the token's count, and last its prev
 abbrev pub after_put_back : Token → LocalState → LocalState
 after_put_back t l = record l {
   token = Some (node_token t);
@@ -77,7 +78,7 @@ abbrev pub node_found : Option (ℕ × Message) → Option (ℕ × Message)
 node_found found = option_map (λ x. (x.0, node_message x.1)) found
 
 -- the answer that `spawn` waits for: the process keeps its token, and both counts come from the
--- answer's
+-- answer's count
 abbrev pub after_answer : LocalState → Option Token → LocalState
 after_answer l None = l
 after_answer l (Some t) = record l {
@@ -85,7 +86,7 @@ after_answer l (Some t) = record l {
   last = serial_count (answer_count t.serial.this);
 }
 
--- it is taken and reported as a receive
+-- an answer is taken and reported as a receive
 abbrev pub takes_answer : Process → Option (ℕ × Message) → Acted
 takes_answer r None = receives r None
 takes_answer r (Some found) =
@@ -93,13 +94,13 @@ takes_answer r (Some found) =
 
 -- ACTS
 
--- an act of the node: one that it has in common with the machine of the manual, or the end of a
--- spawn, which takes the new process's answer from this place of the queue
+-- an act of the node: an act of the manual's machine (Common), or the end of a spawn, which takes
+-- the new process's answer from a place of the queue (Answer)
 pub data NodeAct : Type 0 where
   Common : Act → NodeAct
   Answer : Pid → ℕ → NodeAct
 
--- what an act is for the machine: an answer is a receive
+-- the act of the manual's machine: for an answer, a receive
 abbrev pub machine_act : NodeAct → Act
 machine_act (Common a) = a
 machine_act (Answer p place) = act.Receive p (want.Place place)
@@ -111,7 +112,7 @@ is_answer (Answer p place) = true
 abbrev pub node_actor : NodeAct → Pid
 node_actor a = actor (machine_act a)
 
--- the actor's part of each act. A reset and a tracer change reach it as they reach the others
+-- the actor's part of an act; a reset and a tracer change reach the actor as they reach the others
 abbrev pub node_acted : Process → NodeAct → Acted
 node_acted r (Common (act.Send p q v)) = sends r q v (after_stamp r.pid r.local)
 node_acted r (Common (act.Receive p w)) = receives r (node_found (pick w r.queue))
@@ -130,7 +131,7 @@ node_acted r (Common (act.Reset p)) = answers r r.local reply.Done
 node_acted r (Common (act.Tracer p b)) = answers r r.local (reply.Was r.local.traced)
 node_acted r (Answer p place) = takes_answer r (node_found (pick (want.Place place) r.queue))
 
--- the step of an act, if the actor and a send's receiver are there
+-- the outcome of an act, if its actor and a send's receiver are there
 abbrev pub node_step : State → NodeAct → Option Outcome
 node_step s a = option_and_then (λ r.
     option_map (λ _. outcome_of s (machine_act a) (node_acted r a))
@@ -139,25 +140,25 @@ node_step s a = option_and_then (λ r.
 
 -- RUNS
 
--- the outcomes of acts in a row from s, if all have a step
+-- the outcomes of acts, one after the other from s, if each has a step
 abbrev pub node_run_from : State → List NodeAct → Option (List Outcome)
 node_run_from s [] = Some []
 node_run_from s (a ∷ rest) =
     option_and_then (λ o. option_map (λ os. o ∷ os) (node_run_from o.after rest)) (node_step s a)
 
--- the run of the acts from zero clocks over these pids
+-- the outcomes of acts from zero counts over the pids
 abbrev pub node_run : List Pid → List NodeAct → Option (List Outcome)
 node_run pids acts = node_run_from (zero_state pids) acts
 
--- what is seen of an event
+-- an event as its stream shows it
 abbrev pub seen : Bool → Event → Seen
 seen answer e = record { kind = e.kind; label = e.label; serial = e.serial; answer = answer }
 
--- what is seen of an act
+-- the event that an act reports
 abbrev pub seen_by : NodeAct → Outcome → Option Seen
 seen_by a o = option_map (seen (is_answer a)) o.report
 
--- what is seen of p's events, in order
+-- p's stream: its events, in order
 abbrev pub seen_stream : List NodeAct → List Outcome → Pid → List Seen
 seen_stream [] os p = []
 seen_stream (a ∷ rest) [] p = []

@@ -1,5 +1,5 @@
--- The origin of a stamp's token in a run of the node, and what the events of its process say of
--- that.
+-- The origin of a stamp's token in a run of the node, and the origins that its process's events
+-- allow.
 use Rattle.std.specs.Prelude.{◌≡◌, ◌⊎◌, ℕ, ◌<◌, ◌≤◌, suc, Bool, true, false, List, [], ◌∷◌, ◌++◌}
 use Rattle.std.specs.Prelude.{length, max, take, Option, Some, None, if◌then◌else◌, is_some}
 use Rattle.std.specs.Prelude.{option_map, option_to_list, option_and_then, slice_get}
@@ -26,13 +26,13 @@ use Rattle.node_machine.specs.Premises.{IsAmong, told_by}
 use Rattle.node_machine.specs.Readings.{is_receipt}
 use Rattle.node_machine.specs.Given.{IsPutBack, IsStraight, tokens}
 
--- Follows k: the token came with the message of its process's event k. Home: its process made it,
--- or set its label
+-- Follows k: the token came with the message of its process's event k. Home: its process made the
+-- token, or set its label
 pub data TokenOrigin : Type 0 where
   Follows : ℕ → TokenOrigin
   Home : TokenOrigin
 
--- a token that a process held, and its origin
+-- a token that a process held, with its origin
 pub record Held : Type 0 where
   pub serial : Serial
   pub label : Label
@@ -40,24 +40,24 @@ pub record Held : Type 0 where
 
 -- IN A RUN
 
--- the event shows that its process's token had this label: an answer's token isn't taken
+-- the event shows that its process's token had the label; an answer's token isn't taken
 abbrev pub Bears : Label → Seen → Type 0
 Bears label e = (e.answer ≡ false) × (e.label ≡ label)
 
--- the first of these events that does, if there is one, is no receive
+-- the first of the events that bears the label, if there is one, is a stamp
 abbrev pub StampsFirst : Label → List Seen → Type 0
 StampsFirst label [] = Unit {0}
 StampsFirst label (e ∷ es) =
     (Bears label e → is_receipt e ≡ false) × (¬ (Bears label e) → StampsFirst label es)
 
--- a process that reported the front events and has these left may give its token the label: none of
--- its tokens in the events before had it, and it stamps with it before it receives it
+-- a process may give its token the label between the front events and the rest: no front event
+-- bears it, and the process stamps with it before it receives it
 pub record IsOwnLabel (front rest : List Seen) (label : Label) : Type 0 where
   pub new : AllByRecursion (λ e. ¬ (Bears label e)) front
   pub stamps : StampsFirst label rest
 
--- a set on no token makes one at home, and so does a set of a label; another set keeps the origin.
--- A label that its process gives meets this rule
+-- a set that makes a token or sets its label makes home its origin, and the label has to be the
+-- process's own; another set keeps the origin
 abbrev pub AfterSet : (Label → Type 0) → Pid → LocalState → Option Token → Component → TokenOrigin
     → TokenOrigin
     → Type 0
@@ -68,14 +68,14 @@ AfterSet Own p l (Some t) (component.Send b) before now = now ≡ before
 AfterSet Own p l (Some t) (component.Receive b) before now = now ≡ before
 AfterSet Own p l (Some t) (component.Print b) before now = now ≡ before
 
--- a token that is put back is one that was held, with its origin, or with another label and so at
--- home
+-- a put-back token was held before: it keeps its label and origin, or has a label of the process's
+-- own and is at home
 abbrev pub AfterRestore : (Label → Type 0) → List Held → Token → TokenOrigin → Type 0
 AfterRestore Own held t now = (x : Held) × IsAmong held x × (x.serial ≡ t.serial)
     × (((x.label ≡ t.label) × (now ≡ x.origin)) ⊎ ((now ≡ Home) × Own t.label))
 
--- the origin of the actor's token after its act, if it was this before: the actor, whose record is
--- r, reported the front events, has these left, and held these tokens
+-- the origin `now` of the actor's token after its act, which had the origin `before`: the actor,
+-- whose record is r, reported the front events, has the rest left, and held the tokens
 abbrev pub OriginAfter : List Seen → List Seen → List Held → Process → NodeAct → TokenOrigin
     → TokenOrigin
     → Type 0
@@ -87,15 +87,15 @@ OriginAfter front rest held r (Common (act.Restore p t)) before now =
     AfterRestore (IsOwnLabel front rest) held (node_token t) now
 OriginAfter front rest held r a before now = now ≡ before
 
--- p's token, if it has one, with this origin
+-- p's token with the origin h, if p has a token
 abbrev pub held_in : State → Pid → TokenOrigin → List Held
 held_in s p h = option_to_list (option_map
     (λ t. record { serial = t.serial; label = t.label; origin = h })
     (option_and_then (λ r. r.local.token) (process s p)))
 
--- after each act of a run from s the origin of p's token is this one. Before s p reported the front
--- events, held these tokens, and its token had this origin. So p puts back only tokens of its own,
--- and gives its tokens only labels of its own
+-- hs are the origins of p's token after each act of a run from s, before which p reported the
+-- front events, held the tokens, and had a token with the origin `before`: so p puts back only
+-- tokens of its own, and gives its tokens only labels of its own
 abbrev pub OriginsAre : Pid → List Seen → List Held → TokenOrigin → State → List NodeAct
     → List Outcome
     → List TokenOrigin
@@ -110,7 +110,7 @@ OriginsAre p front held before s (a ∷ acts) (o ∷ os) (now ∷ hs) =
     × (pid_eq (node_actor a) p ≡ false → now ≡ before)
     × OriginsAre p (front ++ told_by p a o) (held ++ held_in s p before) now o.after acts os hs
 
--- the origins at p's events, in order
+-- the origins of p's token at p's events, in order
 abbrev pub origins_told : List NodeAct → List Outcome → List TokenOrigin → Pid → List TokenOrigin
 origins_told [] os hs p = []
 origins_told (a ∷ acts) [] hs p = []
@@ -119,12 +119,12 @@ origins_told (a ∷ acts) (o ∷ os) (h ∷ hs) p =
     (if pid_eq (node_actor a) p then option_to_list (option_map (λ _. h) (seen_by a o)) else [])
     ++ origins_told acts os hs p
 
--- the act reported a send
+-- whether the act reported a send
 abbrev pub told_send : Outcome → Bool
 told_send o = option_map_or (λ e. kind_eq e.kind kind.Send) o.report false
 
--- each answer that p reports comes right after an act of p that reported a send: its request. This
--- is of the acts after one of p that did
+-- each answer that p reports comes right after an act of p that reported a send, its request; sent
+-- says whether p's last act before the run did
 abbrev pub AnswersComeNext : Pid → Bool → List NodeAct → List Outcome → Type 0
 AnswersComeNext p sent [] os = Unit {0}
 AnswersComeNext p sent (a ∷ acts) [] = Unit {0}
@@ -134,8 +134,8 @@ AnswersComeNext p sent (a ∷ acts) (o ∷ os) =
 
 -- BY EVENTS
 
--- the receive at index k is right before the stamp at index i, has its label, and lifts counts that
--- are there before it to those that the stamp goes on from
+-- the receive at index k is right before the stamp at index i and has its label; the events before
+-- the receive lead to counts which it lifts, and from which the stamp then goes on
 pub record IsTaken (es : List Seen) (i k : ℕ) : Type 0 where
   pub stamp : Seen
   pub is_stamp : slice_get es i ≡ Some stamp
@@ -151,7 +151,7 @@ pub record IsTaken (es : List Seen) (i k : ℕ) : Type 0 where
   pub prev : event.serial.this ≡ stamp.serial.prev
   pub count : stamp.serial.this ≡ stamp_count (max clock event.serial.this)
 
--- the event at index k, a receive or not, is before the stamp at index i, and the stamp is the
+-- the event at index k, a receive or a stamp, comes before the stamp at index i, which is the
 -- successor of its token
 pub record IsSuccessor (receive : Bool) (es : List Seen) (i k : ℕ) : Type 0 where
   pub stamp : Seen
@@ -165,8 +165,8 @@ pub record IsSuccessor (receive : Bool) (es : List Seen) (i k : ℕ) : Type 0 wh
   pub prev : event.serial.prev ≡ stamp.serial.prev
   pub count : stamp.serial.this ≡ stamp_count event.serial.this
 
--- the event at index k is a stamp, an answer is right after it, and then the stamp at index i,
--- which has its label and goes on from the answer's count
+-- after the stamp at index k come an answer and then the stamp at index i, which has its label and
+-- goes on from the answer's count
 pub record IsAnsweredAt (es : List Seen) (i k : ℕ) : Type 0 where
   pub stamp : Seen
   pub is_stamp : slice_get es i ≡ Some stamp
@@ -181,8 +181,8 @@ pub record IsAnsweredAt (es : List Seen) (i k : ℕ) : Type 0 where
   pub prev : serial_count (answer_count answer.serial.this) ≡ stamp.serial.prev
   pub count : stamp.serial.this ≡ stamp_count (answer_count answer.serial.this)
 
--- after the front events the process may have given its token the stamp's label: right before the
--- stamp, or then the stamp is the successor of a token that was held up to there
+-- the process may have given its token the stamp's label after the front events: right before the
+-- stamp, or earlier, and then the stamp is the successor of a token that it held by then
 pub record IsAtHome (es : List Seen) (i : ℕ) : Type 0 where
   pub stamp : Seen
   pub is_stamp : slice_get es i ≡ Some stamp
@@ -194,9 +194,9 @@ pub record IsAtHome (es : List Seen) (i : ℕ) : Type 0 where
   pub way : (length front ≡ i) ⊎ ((token : Serial) × IsAmong (tokens front) token
       × (token.prev ≡ stamp.serial.prev) × (stamp.serial.this ≡ stamp_count token.this))
 
--- what the events of a process allow as the origin of its stamp at an index: the receive right
--- before it; an earlier receive with the token that it succeeds; what is allowed of an earlier
--- stamp with that token, or of the stamp whose answer is right before it; and home
+-- the origins that a process's events allow for its stamp at an index: the receive right before
+-- it; an earlier receive of the token that it succeeds; an origin that is allowed for an earlier
+-- stamp with that token, or for the stamp whose answer is right before it; and home
 pub data Can (es : List Seen) : ℕ → TokenOrigin → Type 0 where
   taken : (i k : ℕ) → IsTaken es i k → Can es i (Follows k)
   received : (i k : ℕ) → IsSuccessor true es i k → Can es i (Follows k)

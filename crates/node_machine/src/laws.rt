@@ -1,6 +1,5 @@
 //! The facts that streams show of a standard node in all its runs without a reset, as contracts of
-//! functions that do nothing: each clause is a theorem over the definitions of `specs/`, and a
-//! proof that calls the function may use it.
+//! functions that do nothing: a proof that calls a function may use its clause.
 
 ghost use Rattle.std.specs.Prelude.{◌≡◌, ◌≢◌, ◌≤◌, ◌<◌, ℕ, true, false, map, List, [], ◌∷◌, Some};
 ghost use Rattle.std.specs.Prelude.{slice_get, take};
@@ -33,7 +32,7 @@ ghost use Rattle.node_machine.specs.Readings.{NeedsAtLeast, NeedsPutBack};
 ghost use Rattle.node_machine.specs.Ways.{IsInSomeWay, lasts};
 
 /// If a process reports each stamp and each receive of a token, and puts back only tokens of its
-/// own, its events before each of its stamps give it.
+/// own, the events before each of its stamps give it.
 pub fn own_tokens_give_each_stamp()
     ensures { (pids : List Pid) (acts : List NodeAct) (os : List Outcome)
         → node_run pids acts ≡ Some os → NoNodeReset acts → (p : Pid)
@@ -43,8 +42,8 @@ pub fn own_tokens_give_each_stamp()
         → IsGiven (take i (seen_stream acts os p)) e }
 {}
 
-/// So events with a stamp that they don't give are those of no such process, whatever the others
-/// do.
+/// No process that reports each stamp and each receive of a token, and puts back only its own
+/// tokens, has events with a stamp that isn't given.
 pub fn what_is_not_given_is_final()
     ensures { (es : List Seen) (i : ℕ) (e : Seen) → slice_get es i ≡ Some e
         → e.kind ≢ kind.Receive → is_given (take i es) e ≡ false
@@ -54,8 +53,8 @@ pub fn what_is_not_given_is_final()
         → PutsBackOwn p [] (zero_state pids) acts os → ¬ (seen_stream acts os p ≡ es) }
 {}
 
-/// If it reports these, it puts back at least as many tokens as its events need however they are
-/// read, whichever tokens they are.
+/// If a process reports each stamp and each receive of a token, it puts back at least as many
+/// tokens, whosever they are, as its events need in each reading.
 pub fn each_need_is_a_put_back()
     ensures { (pids : List Pid) (acts : List NodeAct) (os : List Outcome)
         → node_run pids acts ≡ Some os → NoNodeReset acts → (p : Pid)
@@ -63,7 +62,8 @@ pub fn each_need_is_a_put_back()
         → (n : ℕ) → NeedsAtLeast (seen_stream acts os p) n → n ≤ put_backs p acts }
 {}
 
-/// The needs of several processes that report these add up: each put-back is of one process.
+/// The needs of several processes that report each stamp and each receive of a token add up, since
+/// each put-back is of one process.
 pub fn needs_of_all_add_up()
     ensures { (pids : List Pid) (acts : List NodeAct) (os : List Outcome)
         → node_run pids acts ≡ Some os → NoNodeReset acts → (ps : List Pid) → IsRising ps
@@ -72,8 +72,8 @@ pub fn needs_of_all_add_up()
         → sum_by needs ps ≤ all_put_backs acts }
 {}
 
-/// And a stamp that doesn't go on from the counts before it, however the events before it are read,
-/// has a put-back of its own: before it, and after the stamp before it.
+/// A stamp that goes on from the counts before it in no reading has a put-back of its own: before
+/// it, and after the stamp before it.
 pub fn each_need_has_its_put_back()
     ensures { (pids : List Pid) (acts : List NodeAct) (os : List Outcome)
         → node_run pids acts ≡ Some os → NoNodeReset acts → (p : Pid)
@@ -83,8 +83,9 @@ pub fn each_need_has_its_put_back()
         NeedsPutBack es e → IsMet (places p [] acts os) es) }
 {}
 
-/// If it reports these, puts back only tokens of its own, and gives its tokens only labels of its
-/// own, then of each of its stamps its events allow the origin that its token has.
+/// If a process reports each stamp and each receive of a token, gets each answer right after its
+/// request, and puts back only tokens and gives only labels of its own, its events allow the
+/// origin of each stamp's token.
 pub fn an_origin_is_one_that_events_allow()
     ensures { (pids : List Pid) (acts : List NodeAct) (os : List Outcome)
         → node_run pids acts ≡ Some os → NoNodeReset acts → (p : Pid)
@@ -96,10 +97,10 @@ pub fn an_origin_is_one_that_events_allow()
         → Can (seen_stream acts os p) i h }
 {}
 
-/// If a process reports each stamp, takes tokens only with messages of these sends, puts back only
-/// tokens of its own, and gives its tokens only labels that the rule allows, then its stamps and
-/// the sends allow the origin of each stamp's token. It may report no receive. So if they allow one
-/// message alone, that is the one that brought it.
+/// If a process reports each stamp, takes tokens only with messages of the sends, puts back only
+/// tokens of its own, and gives its tokens only labels that the rule allows, its stamps and the
+/// sends allow the origin of each stamp's token. It may report no receive. So if they allow one
+/// message and nothing else, that message brought the token.
 pub fn a_token_comes_from_what_sends_allow()
     ensures { (pids : List Pid) (acts : List NodeAct) (os : List Outcome)
         → node_run pids acts ≡ Some os → NoNodeReset acts → (p : Pid)
@@ -111,8 +112,8 @@ pub fn a_token_comes_from_what_sends_allow()
         → CanBySends sent rule (stamp_stream acts os p) i h }
 {}
 
-/// So if a stamp is the first with its label, and no message of these sends gives its token, it is
-/// from home, whatever labels its process gives.
+/// The first stamp with a label is from home if no message of the sends can have given its token,
+/// whatever labels its process gives.
 pub fn a_first_label_that_nothing_brings_is_at_home()
     ensures { (sent : SendsTo) (rule : LabelRule) (es : List Event) (i : ℕ) (stamp : Event)
         → slice_get es i ≡ Some stamp
@@ -122,8 +123,8 @@ pub fn a_first_label_that_nothing_brings_is_at_home()
         → (h : TokenOrigin) → CanBySends sent rule es i h → h ≡ Home }
 {}
 
-/// And if each label that its process gives is new to it, a later stamp of a label is from home
-/// only if its token was held before the first one, and no message with the label brought it.
+/// If each label that a process gives is new to it, a later stamp with a label is from home only
+/// if its token was held before the first one, and no message with the label brought it.
 pub fn a_new_label_is_given_before_its_stamps()
     ensures { (sent : SendsTo) (es : List Event) (i k : ℕ) (stamp first : Event)
         → slice_get es i ≡ Some stamp → k < i → slice_get es k ≡ Some first
@@ -131,15 +132,15 @@ pub fn a_new_label_is_given_before_its_stamps()
         → IsEarlierToken sent es stamp k }
 {}
 
-/// And if its process gives a stamp's label to no token, the stamp's token comes with a message.
+/// If a process gives a stamp's label to no token, the stamp's token came with a message.
 pub fn a_label_that_is_never_given_is_brought()
     ensures { (sent : SendsTo) (es : List Event) (i : ℕ) (stamp : Event)
         → slice_get es i ≡ Some stamp → (h : TokenOrigin)
         → CanBySends sent (other_label stamp.label) es i h → (k : ℕ) × (h ≡ Follows k) }
 {}
 
-/// If each send of a token to a process is reported, the reported sends to it are those of all
-/// messages with which it takes one.
+/// If each send of a token to a process is reported, the reported sends to it include those of all
+/// messages with which it takes a token.
 pub fn reported_sends_are_all_that_is_taken()
     ensures { (pids : List Pid) (acts : List NodeAct) (os : List Outcome)
         → node_run pids acts ≡ Some os → (p : Pid) → ReportsSendsTo p (zero_state pids) acts os
@@ -147,8 +148,8 @@ pub fn reported_sends_are_all_that_is_taken()
 {}
 
 /// If a process reports each receive of a token, whatever else it reports, and puts back only
-/// tokens of its own, the prev of each of its stamps is a last that its events before it show. Of
-/// its count nothing more can be said.
+/// tokens of its own, the prev of each of its stamps is a last that the events before it show.
+/// Nothing more can be said of the stamp's count.
 pub fn each_prev_was_a_last()
     ensures { (pids : List Pid) (acts : List NodeAct) (os : List Outcome)
         → node_run pids acts ≡ Some os → NoNodeReset acts → (p : Pid)
@@ -158,8 +159,8 @@ pub fn each_prev_was_a_last()
         → IsAmong (lasts (take i (seen_stream acts os p))) e.serial.prev }
 {}
 
-/// And it puts back at least as many tokens as it has stamps with another prev than the last before
-/// them.
+/// If a process reports each receive of a token, it puts back at least as many tokens as it has
+/// stamps with another prev than the last before them.
 pub fn each_strange_prev_is_a_put_back()
     ensures { (pids : List Pid) (acts : List NodeAct) (os : List Outcome)
         → node_run pids acts ≡ Some os → NoNodeReset acts → (p : Pid)
@@ -167,20 +168,19 @@ pub fn each_strange_prev_is_a_put_back()
         → strange_prevs (seen_stream acts os p) ≤ put_backs p acts }
 {}
 
-/// A stamp is given in one of four ways: plainly, again, fresh or lowered.
+/// Events give a stamp in four ways and no other: plainly, again, fresh or lowered.
 pub fn four_ways_give_a_stamp()
     ensures { (es : List Seen) (e : Seen)
         → (IsGiven es e → IsInSomeWay es e) × (IsInSomeWay es e → IsGiven es e) }
 {}
 
-/// Whether events give a stamp can be tested.
+/// `is_given` tells exactly whether events give a stamp.
 pub fn what_is_given_is_decided()
     ensures { (es : List Seen) (e : Seen) → (IsGiven es e → is_given es e ≡ true)
         × (is_given es e ≡ true → IsGiven es e) }
 {}
 
-/// A run can keep to all that the laws ask, and a put-back can be needed: here is one such
-/// run.
+/// A run can keep to all premises of the laws and need a put-back: this one does.
 pub fn a_run_keeps_to_all_of_it()
     ensures { (os : List Outcome) × (node_run (printer ∷ []) prints_again ≡ Some os)
         × NoNodeReset prints_again
@@ -192,8 +192,8 @@ pub fn a_run_keeps_to_all_of_it()
         × (put_backs printer prints_again ≡ 1) }
 {}
 
-/// Counts wrap: here is a run in which a serial shows the greatest count and then 0, and nothing
-/// was put back by the process that reports it.
+/// Counts wrap: in this run a serial shows the greatest count and then 0, and the process that
+/// reports it puts nothing back.
 pub fn a_run_goes_through_the_wrap()
     ensures { (os : List Outcome) × (node_run (printer ∷ sender ∷ []) wraps ≡ Some os)
         × ReportsTokens printer (zero_state (printer ∷ sender ∷ [])) wraps os
@@ -201,8 +201,8 @@ pub fn a_run_goes_through_the_wrap()
         × (map (λ e. e.serial) (seen_stream wraps os printer) ≡ wrapped_serials) }
 {}
 
-/// A run can keep to all that the laws of unreported receives ask, for a process that gives its
-/// label to no token: here the sender's message brings the printer its token.
+/// A run can keep to the premises of the laws of unreported receives, for a process that gives its
+/// label to no token: in this one the sender's message brings the printer its token.
 pub fn a_run_takes_a_message_unreported()
     ensures { (os : List Outcome) × (node_run (printer ∷ sender ∷ []) prints_what_came ≡ Some os)
         × NoNodeReset prints_what_came
@@ -215,8 +215,8 @@ pub fn a_run_takes_a_message_unreported()
         × (stamp_origins prints_what_came os all_come printer ≡ Follows 0 ∷ []) }
 {}
 
-/// And each send to the process has to be known: in this run one isn't reported, and what was
-/// reported allows the message of another, though the token came with its own.
+/// Each send to the process has to be known: in this run one isn't reported, and the reported
+/// sends allow the message of another, though the unreported one brought the token.
 pub fn a_send_that_nobody_reports_misleads()
     ensures { (os : List Outcome) × (node_run three sends_silently ≡ Some os)
         × ReportsStamps printer (zero_state three) sends_silently os

@@ -1,4 +1,4 @@
-//! A standard node, and what streams say of it: which serials their processes' own tokens give.
+//! A standard node, and what its streams say of the tokens of its processes.
 #![tactic(auto)]
 
 pub mod laws;

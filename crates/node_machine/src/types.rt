@@ -1,19 +1,19 @@
-//! An event as its process's stream shows it, and one way to read events.
+//! An event as its process's stream shows it, and a reading of events.
 
 use st_core::{Kind, Label, Serial};
 
 /// An event of one process, as its stream shows it.
 #[derive(Clone, Copy, Debug, PartialEq, Eq)]
 pub struct Seen {
-    /// The kind of the report.
+    /// The kind of the event.
     pub kind: Kind,
-    /// The label of its token.
+    /// The label of the event's token.
     pub label: Label,
-    /// The serial of its token. Of each count it shows the lowest 60 bits, as the number from 0 to
-    /// 2^60 - 1 that has them.
+    /// The serial of the event's token: each count is the number from 0 to 2^60 - 1 that has the
+    /// lowest 60 bits of the node's.
     pub serial: Serial,
-    /// Whether it is the receive by which `spawn` gets the new process's answer. That isn't in the
-    /// event, but in its message's term.
+    /// Whether the event is the receive by which `spawn` gets the new process's answer. The event
+    /// doesn't say so: its message's term does.
     pub answer: bool,
 }
 
@@ -22,6 +22,6 @@ pub struct Seen {
 pub struct Reading {
     /// The clock after the events, with the bits that a serial hides.
     pub clock: u64,
-    /// How many tokens the process put back.
+    /// The number of tokens that the process put back.
     pub put_backs: u64,
 }

@@ -1,4 +1,4 @@
--- The fourth example does.
+-- The run `sends_silently` does.
 use Rattle.node_machine.proofs.Example.{silent_can, silent_origins, silent_outcomes, silent_runs}
 use Rattle.node_machine.proofs.Example.{silent_shown, silent_stamps}
 use Rattle.node_machine.proofs.laws.a_send_that_nobody_reports_misleads.Goals as goal
