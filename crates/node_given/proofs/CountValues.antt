@@ -1,4 +1,4 @@
--- The sums of the walk, modulo the sizes of counters and serials.
+-- The walk's sums are those of the node, modulo the sizes of counters and serials.
 use Rattle.std.proofs.Common.{◌≡◌, ℕ, ◌+◌, ◌-◌, ◌^◌, ◌%◌, ◌<◌, refl, arith, ◌∙◌, ap}
 use Rattle.std.proofs.Math.Nat.{mod-eq_of_lt}
 use Rattle.std.proofs.Math.Pow.{mod-mod-pow}

@@ -1,4 +1,5 @@
--- The tests of the walk decide what gives a stamp.
+-- Each test of the walk looks at all clocks and tokens that can give the stamp, so it decides what
+-- does.
 use Rattle.std.proofs.Common.{◌≡◌, ◌≢◌, ℕ, ◌<◌, ◌≤◌, ◌^◌, ◌⊎◌, ◌||◌, max, cond, Bool, true, false}
 use Rattle.std.proofs.Common.{zero, suc, length, take, Some, ◌+◌, List, [], ◌∷◌, ◌++◌, Result, Ok}
 use Rattle.std.proofs.Common.{Err, OnOk, inl, inr, refl, arith, sym, ◌∙◌, ap, subst}
@@ -132,7 +133,7 @@ ends_split (e ∷ d ∷ es) is =
       taken = rest.taken;
     }
 
--- last after events that end in a receive is its count
+-- the last after a receive is its count
 last_taken : (es front : List Seen) (receive : Seen) → es ≡ front ++ receive ∷ []
     → takes receive ≡ true → last_behind 0 es ≡ receive.serial.this
 last_taken es front receive split taken =
@@ -161,7 +162,7 @@ lowered_held es e token low =
     subst (λ xs. IsAmong (tokens xs) token) (sym low.split)
     (tokens_more low.receive low.front token low.held)
 
--- the clock that such a token leads to
+-- the clock to which a token and the receive after it lead
 pub lowered_clock : (es : List Seen) (e : Seen) (token : Serial) (clock : ℕ) → AreFit es
     → IsLowered es e token → clock < 2 ^ 60 → stamp_count clock ≡ e.serial.this
     → max token.this (last_behind 0 es) ≡ clock
@@ -175,7 +176,7 @@ lowered_clock es e token clock fit low fits next =
     let once = count_once n clock below fits (sym count ∙ sym next) in
     omega arith
 
--- a token that was held and leads there with the receive was held before it
+-- a held token with a count above the receive's was held before the receive
 pub before_receive : (front : List Seen) (receive : Seen) (token : Serial) → takes receive ≡ true
     → receive.serial.this < token.this → IsAmong (tokens (front ++ receive ∷ [])) token
     → IsAmong (tokens front) token
@@ -235,14 +236,14 @@ module _ (es : List Seen) (ks : List ℕ) (lift last : ℕ) (taking : Bool) (t :
       }
 
   module _ (fits : clock < 2 ^ 60) where
-    -- no token leads there if the receive's count is above
+    -- if the receive's count is above the clock, no token leads to it
     pub lowered_never : clock < last → (token : Serial) → IsLowered es e token → ⊥
     lowered_never above token low =
         let most = lowered_clock es e token clock known.fit low fits next in
         let same = known.last_is in
         absurd (omega arith)
 
-    -- and only one with the count, if it is below
+    -- if it is below, each token that leads to the clock has its count
     pub lowered_count : last ≤ clock → last ≢ clock → (token : Serial) → IsLowered es e token
         → IsAmong (tokens es) token × (token.this ≡ clock)
     lowered_count least other token low =
@@ -273,7 +274,7 @@ module _ (es : List Seen) (ks : List ℕ) (lift last : ℕ) (taking : Bool) (t :
 
 -- LISTS
 
--- where there is no event
+-- stands for an event at an index past the end
 abbrev pub blank : Seen
 blank = record {
   kind = kind.Send;

@@ -1,4 +1,4 @@
--- The lemmas that proofs of the crates above may cite. They hold by the definitions alone.
+-- The lemmas that proofs of the crates above may cite. They follow from the definitions alone.
 
 -- ---- lists and results
 pub use Rattle.node_given.proofs.Decisions.{blank, length_more, on_ok, pushed_at, taken_more}

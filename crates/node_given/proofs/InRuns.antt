@@ -1,4 +1,4 @@
--- The ways hold in runs, by the laws of the node.
+-- The laws of the node hold of each way, since it says how the events give the stamp.
 use Rattle.std.proofs.Common.{◌≡◌, ℕ, ◌≤◌, true, false, List, [], arith, length, take, Some, sym}
 use Rattle.std.proofs.Common.{◌∙◌, ap, subst}
 use Rattle.std.specs.List.{slice_get}

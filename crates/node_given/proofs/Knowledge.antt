@@ -1,4 +1,4 @@
--- The knowledge after events, with one event more.
+-- One event more adds its tokens and moves the counts, and the walk keeps both.
 use Rattle.std.proofs.Common.{◌≡◌, ℕ, ◌<◌, ◌^◌, ◌==◌, ◌&&◌, max, not, cond, Bool, true, false, List}
 use Rattle.std.proofs.Common.{[], ◌∷◌, ◌++◌, map, inl, inr, refl, arith, sym, ◌∙◌, ap, subst}
 use Rattle.std.specs.List.{filter}
@@ -34,7 +34,7 @@ tokens_same xs ys t to from are = record {
   had = λ this prev is. to (record { prev = prev; this = this }) (are.had this prev is);
 }
 
--- the serials that an event shows, in any order, come to those that were there
+-- an event's serials, in any order, join those of the events before it
 tokens_push : (es : List Seen) (e : Seen) (news : List Serial) (t : Tokens)
     → ((x : Serial) → IsAmong news x → IsAmong (shown e) x)
     → ((x : Serial) → IsAmong (shown e) x → IsAmong news x)
@@ -50,7 +50,7 @@ tokens_push es e news t to from are =
       | inr old ↦ among_back news (tokens es) x old
     ]) are
 
--- what is shown, by kind
+-- the serials that an event of each kind shows
 pub shown_stamp : (e : Seen) → is_receipt e ≡ false
     → shown e ≡ e.serial ∷ fresh e.serial.prev ∷ []
 shown_stamp e is = ap (λ b. cond b

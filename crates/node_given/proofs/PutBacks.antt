@@ -1,4 +1,4 @@
--- In each way to read the events a token was put back for each stamp of which the walk says so.
+-- In each reading of the events a token was put back for each stamp for which the walk names one.
 use Rattle.std.proofs.Common.{◌≡◌, ℕ, ◌+◌, ◌≤◌, cond, true, false, List, [], ◌∷◌, ◌++◌, inl, inr}
 use Rattle.std.proofs.Common.{refl, arith, sym, ◌∙◌, ap, subst}
 use Rattle.std.specs.List.{count_by}
@@ -15,7 +15,7 @@ use Rattle.node_given.specs.declared.way.Way.TheVariants as way
 use Rattle.node_given.specs.Walk.{IsWay, names_put_back}
 use Rattle.node_given.proofs.Decisions.{all_from}
 
--- a reading of the events with one more is one of them, with at least as many put-backs
+-- a reading of one event more comes from one of the events, with no more put-backs
 record IsGrown (es : List Seen) (x : Reading) : Type 0 where
   from : Reading
   reads : IsAmong (readings es) from

@@ -1,4 +1,4 @@
--- A table with one serial more has that serial and those that it had.
+-- A table with one serial more has it beside those that it had.
 use Rattle.std.proofs.Common.{◌≡◌, ℕ, ◌⊎◌, ◌==◌, cond, nat_eq, Bool, true, false, List, ◌∷◌, Option}
 use Rattle.std.proofs.Common.{Some, IsSome, inl, inr, refl, sym, ◌∙◌, ap, subst}
 use Rattle.std.specs.HashMap.{get}
@@ -46,7 +46,6 @@ found xs prev this true count before o same is old =
     inl (λ i. record { prev = prevs i; this = counts i })
 found xs prev this false count before o same is old = inr (old is)
 
--- tables before and after a serial more
 pub noted : (xs : List Serial) (prev this : ℕ) (t u : Tokens) → AreTokens xs t
     → ((q : ℕ × ℕ) → contains same_pair u.serials q
     ≡ cond (same_pair (prev, this) q) true (contains same_pair t.serials q))

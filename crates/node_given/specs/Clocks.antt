@@ -6,7 +6,7 @@ use Rattle.node_machine.specs.declared.types.Reading.{Reading}
 use Rattle.node_machine.specs.Premises.{IsAmong}
 use Rattle.node_machine.specs.Readings.{clock_put_back, is_next, readings}
 
--- a clock that receives lifted goes on to a stamp, and leads to another clock than a put-back
+-- whether a lifted clock goes on to the stamp, and leads to another clock than a put-back
 abbrev pub leads_elsewhere : ℕ → ℕ → Seen → ℕ → Bool
 leads_elsewhere lift last e k =
     is_next (max k lift) last e && not (next_clock (max k lift) == clock_put_back e)
@@ -17,7 +17,7 @@ clocks_by_stamp lift last e ks =
     map (λ k. next_clock (max k lift)) (filter (leads_elsewhere lift last e) ks)
     ++ clock_put_back e ∷ []
 
--- these clocks, lifted, are those after the events in all ways to read them
+-- the clocks, lifted, are those of all readings of the events
 pub record AreClocks (ks : List ℕ) (lift : ℕ) (es : List Seen) : Type 0 where
   pub sound : (k : ℕ) → IsAmong ks k
       → (r : Reading) × IsAmong (readings es) r × (r.clock ≡ max k lift)

@@ -7,8 +7,8 @@ use Rattle.node_machine.specs.declared.types.Seen.{Seen}
 use Rattle.node_machine.specs.Node.{node_run, NodeAct, seen_stream}
 use Rattle.node_machine.specs.Premises.{NoNodeReset, ReportsTokens}
 
--- these are the events of p in a run without a reset, in which p reports each stamp and each
--- receive of a token, whatever the others do
+-- es are the events of p in a run without a reset in which p reports each stamp and each receive
+-- of a token
 pub record AreEventsOf (p : Pid) (es : List Seen) (pids : List Pid) (acts : List NodeAct)
     (os : List Outcome) : Type 0 where
   pub runs : node_run pids acts ≡ Some os

@@ -9,7 +9,7 @@ use Rattle.node_given.specs.declared.tokens.Tokens.{Tokens}
 abbrev pub same_pair : ℕ × ℕ → ℕ × ℕ → Bool
 same_pair a b = a.0 == b.0 && a.1 == b.1
 
--- the tables have these serials, and no others
+-- the tables have exactly the serials
 pub record AreTokens (xs : List Serial) (t : Tokens) : Type 0 where
   pub known : (x : Serial) → IsAmong xs x → contains same_pair t.serials (x.prev, x.this) ≡ true
   pub sound : (x : Serial) → contains same_pair t.serials (x.prev, x.this) ≡ true → IsAmong xs x

@@ -1,4 +1,4 @@
--- The walk's result for each event, and its knowledge after events.
+-- The walk's way for each event, and its knowledge after events.
 use Rattle.std.specs.Prelude.{◌≡◌, ℕ, ◌<◌, ◌^◌, Bool, true, false, List, [], ◌∷◌}
 use Rattle.std.specs.List.{AllByRecursion}
 use Rattle.st_core.specs.declared.types.Serial.{Serial}
@@ -15,18 +15,18 @@ use Rattle.node_given.specs.declared.way.Way.TheVariants as way
 use Rattle.node_given.specs.Clocks.{AreClocks}
 use Rattle.node_given.specs.Tables.{AreTokens}
 
--- the counts of the events are ones that a serial can show
+-- the counts of the events fit into a serial
 abbrev pub AreFit : List Seen → Type 0
 AreFit es = AllByRecursion (λ e. e.serial.this < 2 ^ 60) es
 
--- a token that the process had, or can have made, was put back right before the stamp
+-- a token that the process held, or can have made, was put back right before the stamp
 pub record IsPutBackNow (es : List Seen) (e : Seen) (token : Serial) : Type 0 where
   pub held : IsAmong (tokens es) token
   pub prev : token.prev ≡ e.serial.prev
   pub count : e.serial.this ≡ stamp_count token.this
 
--- what gives the event e after these events. A put-back is named only for a stamp that goes on in
--- no way to read the events
+-- the way is true of the event e after the events es; it names a put-back only if the stamp goes
+-- on in no reading of them
 abbrev pub IsWay : List Seen → Seen → Way → Type 0
 IsWay es e way.Receive = is_receipt e ≡ true
 IsWay es e way.Plain = (is_receipt e ≡ false) × IsPlainly es e
@@ -36,13 +36,13 @@ IsWay es e (way.Lowered token) =
     (is_receipt e ≡ false) × NeedsPutBack es e × IsLowered es e token
 IsWay es e way.Ungiven = (is_receipt e ≡ false) × ¬ (IsGiven es e)
 
--- a token was put back for this event
+-- whether the way names a token that was put back
 abbrev pub names_put_back : Way → Bool
 names_put_back (way.PutBack token) = true
 names_put_back (way.Lowered token) = true
 names_put_back w = false
 
--- the last of these events is a receive that took a token
+-- whether the last of the events is a receive of a token
 abbrev pub ends_in_take : List Seen → Bool
 ends_in_take [] = false
 ends_in_take (e ∷ []) = takes e
@@ -57,6 +57,5 @@ pub record IsKnown (es : List Seen) (ks : List ℕ) (lift last : ℕ) (taking : 
   pub tokens_are : AreTokens (tokens es) t
   pub fit : AreFit es
 
--- the same of the walk
 abbrev pub Knows : Walk → List Seen → Type 0
 Knows w es = IsKnown es w.clocks.items w.lift w.last w.takes w.tokens

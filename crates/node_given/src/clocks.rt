@@ -1,4 +1,4 @@
-//! The clocks after the last stamp of a process, in all ways to read its events.
+//! The clocks after the last stamp of a process, in all readings of its events.
 //!
 //! They have the stamp's count in common, and differ only in the four bits that a serial hides: so
 //! there are few. As long as no clock has passed 60 bits there is one.
@@ -12,7 +12,7 @@ use crate::counts::{clock_after, clock_after_put_back, goes_on};
 use node_machine::Seen;
 use std::alloc::{AllocError, Global};
 
-/// Whether a stamp goes on from one of the clocks, which receives lifted to this at least.
+/// Returns whether a stamp goes on from a clock, which receives lifted to `lift` at least.
 pub(crate) fn some_goes_on(clocks: &[u64], lift: u64, last: u64, stamp: Seen) -> bool
     ensures { result ≡ list_any (λ k. is_next (max k lift) last stamp) clocks.now }
 {
@@ -24,7 +24,7 @@ pub(crate) fn some_goes_on(clocks: &[u64], lift: u64, last: u64, stamp: Seen) ->
     false
 }
 
-/// The clocks after a stamp: those that went on, and that which a put-back leads to.
+/// Returns the clocks after a stamp: those that went on, and the one that a put-back leads to.
 pub(crate) fn behind_stamp(
     alloc: Global,
     clocks: &[u64],

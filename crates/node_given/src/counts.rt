@@ -15,7 +15,6 @@ pub(crate) fn clock_after(clock: u64) -> u64
     clock.wrapping_add(1)
 }
 
-/// The count that a stamp shows.
 pub(crate) fn count_after(clock: u64) -> u64
     ensures { result ≡ stamp_count clock }
 {
@@ -47,7 +46,7 @@ pub(crate) fn last_of_answer(count: u64) -> u64
     clock_of_answer(count) % SERIAL_END
 }
 
-/// The clock after a stamp before which a token was put back.
+/// Returns the clock after a stamp, if a token was put back before it.
 pub(crate) fn clock_after_put_back(stamp: Seen) -> u64
     ensures { result ≡ clock_put_back stamp }
 {
@@ -57,7 +56,6 @@ pub(crate) fn clock_after_put_back(stamp: Seen) -> u64
     stamp.serial.this
 }
 
-/// Whether a stamp goes on from these counts.
 pub(crate) fn goes_on(clock: u64, last: u64, stamp: Seen) -> bool
     ensures { result ≡ is_next clock last stamp }
 {

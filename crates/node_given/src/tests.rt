@@ -1,4 +1,4 @@
-//! Tests that `given` returns, which no contract says.
+//! Tests that `given` succeeds, which no contract says.
 
 ghost use Rattle.std.specs.Prelude.{◌≡◌};
 

@@ -16,9 +16,9 @@ use std::collections::{HashMap, HashSet};
 /// The serials of the tokens that a process held, or can have made.
 #[derive(Drop)]
 pub(crate) struct Tokens {
-    /// Each serial: its prev, and its count.
+    /// The prev and the count of each serial.
     pub(crate) serials: HashSet<(u64, u64)>,
-    /// Under a count the prev of a serial with it.
+    /// The prev of a serial with each count.
     pub(crate) prevs: HashMap<u64, u64>,
 }
 
@@ -32,7 +32,6 @@ impl Tokens {
         }
     }
 
-    /// With one token more.
     pub(crate) fn note(&mut self, prev: u64, this: u64) -> Result<(), AllocError>
         ensures { (xs : List SerialValue) → AreTokens xs self.old
             → OnOk result (AreTokens (record { prev = prev; this = this } ∷ xs) self.new) }
@@ -53,7 +52,7 @@ impl Tokens {
         self.serials.contains(&(prev, this))
     }
 
-    /// The prev of a token with this count.
+    /// Returns the prev of a token with a count.
     pub(crate) fn prev_with(&self, this: u64) -> Option<u64>
         ensures found { (xs : List SerialValue) → AreTokens xs self.now
             → IfSome result (λ prev. IsAmong xs (record { prev = prev; this = this })) }

@@ -1,4 +1,4 @@
-//! The walk.
+//! The walk over the events of a process.
 
 ghost use Rattle.std.specs.Prelude.{◌≡◌, ◌<◌, ◌≤◌, ◌^◌, false, true, [], ◌∷◌, ◌++◌, List, ℕ, Some};
 ghost use Rattle.std.specs.Prelude.{length, slice_get, take};
@@ -30,20 +30,17 @@ use std::alloc::{AllocError, Global};
 #[derive(Drop)]
 pub(crate) struct Walk {
     alloc: Global,
-    /// The clocks after the last stamp or answer, in all ways to read the events.
+    /// The clocks after the last stamp or answer, in all readings of the events.
     clocks: Vec<u64>,
-    /// The greatest count that was received since, to which it lifts the clocks.
+    /// The greatest count received after the last stamp or answer, which lifts the clocks.
     lift: u64,
-    /// Last.
     last: u64,
-    /// Whether the last event is a receive that took a token.
+    /// Whether the last event is a receive of a token.
     takes: bool,
-    /// The tokens that the process had or can have made.
     tokens: Tokens,
 }
 
 impl Walk {
-    /// Before all events.
     fn new(alloc: Global) -> Result<Walk, AllocError>
         ensures { IfOk result (λ w. Knows w []) }
     {
@@ -61,7 +58,7 @@ impl Walk {
         })
     }
 
-    /// The token that was put back right before the last event, a receive, if that leads to the
+    /// Returns the token whose put-back right before the last event, a receive, leads to the
     /// stamp.
     fn lowering(&self, stamp: Seen) -> Option<Serial>
         requires { stamp.serial.this < 2 ^ 60 }
@@ -109,7 +106,6 @@ impl Walk {
         }
     }
 
-    /// With a stamp more.
     fn stamp(&mut self, stamp: Seen) -> Result<(), AllocError>
         requires { stamp.serial.this < 2 ^ 60 }
         ensures { (es : List SeenValue) → is_receipt stamp ≡ false
@@ -125,7 +121,6 @@ impl Walk {
         self.tokens.note(prev, 0)
     }
 
-    /// With the answer to a spawn more.
     fn answer(&mut self, answer: Seen) -> Result<(), AllocError>
         requires { answer.serial.this < 2 ^ 60 }
         ensures { (es : List SeenValue) → is_receipt answer ≡ true → answer.answer ≡ true
@@ -141,7 +136,7 @@ impl Walk {
         self.tokens.note(self.last, 0)
     }
 
-    /// With a receive more that took a token.
+    /// Adds a receive of a token.
     fn receive(&mut self, receive: Seen) -> Result<(), AllocError>
         requires { receive.serial.this < 2 ^ 60 }
         ensures { (es : List SeenValue) → is_receipt receive ≡ true → receive.answer ≡ false
@@ -157,7 +152,7 @@ impl Walk {
         self.tokens.note(this, 0)
     }
 
-    /// With an event more, and what gives it.
+    /// Adds an event, and returns what gives it.
     fn step(&mut self, event: Seen) -> Result<Way, AllocError>
         requires { event.serial.this < 2 ^ 60 }
         ensures known { (es : List SeenValue)
@@ -185,12 +180,14 @@ impl Walk {
     }
 }
 
-/// Finds what gives each event of one process, in order, if it ran on a standard node. In a serial
-/// a count is the number from 0 to 2^60 - 1 that has its bits.
+/// Finds what gives each event of one process of a standard node, in order. Each count of a serial
+/// is the number from 0 to 2^60 - 1 with its bits.
 ///
-/// In each run in which these are its events, and it reported each stamp and each receive of a
-/// token, it put back at least as many tokens as are named, each of them after the stamp before
-/// that for which it is named. If a stamp is ungiven, it put back one that wasn't its own.
+/// In each run in which the process has these events, and reports each stamp and each receive of a
+/// token, it puts back at least as many tokens as the ways name, each after the stamp before the
+/// one for which it is named. If a stamp is ungiven, it puts back a token that it didn't hold.
+///
+/// It fails only if memory runs out.
 pub fn given(alloc: Global, events: &[Seen]) -> Result<Vec<Way>, AllocError>
     requires { AreFit events.now }
     ensures each { IfOk result (λ v. length v.items ≡ length events.now) }

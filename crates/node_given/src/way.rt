@@ -1,18 +1,19 @@
-//! The way in which an event is given.
+//! What gives an event.
 
 use st_core::Serial;
 
-/// How the events of a process before one of its events give that.
+/// What gives an event, by the events of its process before it.
 #[derive(Clone, Copy, Debug, PartialEq, Eq)]
 pub enum Way {
-    /// It is a receive.
+    /// The event is a receive.
     Receive,
-    /// It goes on from the counts after the events.
+    /// The stamp goes on from the counts after the events.
     Plain,
-    /// A token that the process had before, or can have made, was put back right before the stamp.
+    /// This token, which the process held or can have made, was put back right before the stamp.
     PutBack(Serial),
-    /// A token was put back right before the receive before the stamp, which brought its prev.
+    /// This token was put back right before the receive before the stamp, whose count is the
+    /// stamp's prev.
     Lowered(Serial),
-    /// No token that the process had gives it.
+    /// No token that the process held gives the stamp.
     Ungiven,
 }

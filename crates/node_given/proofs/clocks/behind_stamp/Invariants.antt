@@ -1,4 +1,4 @@
--- So far there are the clocks of those that went on.
+-- The clocks found so far are those that went on and aren't the put-back's.
 use Rattle.std.proofs.Common.{◌≡◌, max, map, take}
 use Rattle.std.specs.List.{filter}
 use Rattle.node_machine.specs.Counts.{next_clock}

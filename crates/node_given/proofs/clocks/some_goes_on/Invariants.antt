@@ -1,4 +1,4 @@
--- So far none goes on.
+-- No clock so far goes on.
 use Rattle.std.proofs.Common.{◌≡◌, false, max, take}
 use Rattle.std.specs.List.{list_any}
 use Rattle.node_machine.specs.Readings.{is_next}

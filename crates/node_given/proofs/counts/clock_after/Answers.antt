@@ -1,4 +1,4 @@
--- A sum that wraps is one modulo the size of a counter.
+-- A sum that wraps is the sum modulo the size of a counter.
 use Rattle.node_given.proofs.CountValues.{clock_is}
 use Rattle.node_given.proofs.counts.clock_after.Goals as goal
 

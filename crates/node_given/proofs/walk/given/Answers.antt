@@ -1,4 +1,4 @@
--- One event more has its way, and is among those that the walk knows.
+-- One event more gets its way, and the walk then knows it.
 use Rattle.std.proofs.Common.{◌≡◌, [], ◌∷◌, ◌++◌, get_or, length, take, inl, inr, arith, sym}
 use Rattle.std.proofs.Common.{◌∙◌, ap, subst}
 use Rattle.std.specs.List.{count_by, slice_get}

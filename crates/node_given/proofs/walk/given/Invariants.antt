@@ -1,4 +1,4 @@
--- So far each event has its way, and the walk knows what is after them.
+-- Each event so far has its way, and the walk knows these events.
 use Rattle.std.proofs.Common.{◌≡◌, ℕ, Some, length, take}
 use Rattle.std.specs.List.{count_by, slice_get}
 use Rattle.node_machine.specs.declared.types.Seen.{Seen}

@@ -1,4 +1,4 @@
--- Both tables get it.
+-- Both tables get the serial.
 use Rattle.node_given.proofs.TableLemmas.{noted}
 use Rattle.node_given.proofs.tokens.Tokens.note.Goals as goal
 

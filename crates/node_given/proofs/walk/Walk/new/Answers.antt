@@ -1,4 +1,4 @@
--- Before all events a process has no counts and can make one token.
+-- Before all events both counts are 0, and a set can make one token.
 use Rattle.std.proofs.Common.{[], ◌∷◌, ◌++◌, sym, ◌∙◌, ap, subst, false}
 use Rattle.node_given.specs.Walk.{IsKnown}
 use Rattle.node_given.proofs.Knowledge.{known_start}

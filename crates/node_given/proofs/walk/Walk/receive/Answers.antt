@@ -1,4 +1,4 @@
--- A receive lifts the clocks, and its serial is held from now on, with those that a set makes.
+-- A receive lifts the clocks, and adds its token and those that a set can make.
 use Rattle.std.proofs.Common.{[], ◌∷◌, ◌++◌, sym, subst, true}
 use Rattle.node_machine.specs.Given.{tokens}
 use Rattle.node_given.specs.Walk.{IsKnown}

@@ -1,4 +1,4 @@
--- The stamp's serial is held from now on, and the one that a set makes.
+-- A stamp adds its token and the one that a set makes.
 use Rattle.std.proofs.Common.{[], ◌∷◌, ◌++◌, sym, ◌∙◌, ap, subst, false}
 use Rattle.node_machine.specs.Given.{tokens}
 use Rattle.node_given.specs.Clocks.{clocks_by_stamp}

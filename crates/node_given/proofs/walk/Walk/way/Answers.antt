@@ -1,4 +1,4 @@
--- Each test says what it says of all readings and all tokens.
+-- Each test decides about all readings and all tokens.
 use Rattle.std.proofs.Common.{ℕ, List, max, refl, sym, ◌∙◌, ap}
 use Rattle.std.specs.List.{list_any}
 use Rattle.std.proofs.lemmas.Bool.{false≢true}
