@@ -1,5 +1,5 @@
--- The receive, or the answer, right before a stamp is at one index: so there is one origin by a
--- receive at most, and by an answer those of its request.
+-- The receive or the answer right before a stamp is at one index: so a receive allows one origin
+-- at most, and an answer those of its request.
 use Rattle.std.proofs.Common.{◌≡◌, ℕ, ◌+◌, zero, suc, false, List, [], ◌∷◌, ◌++◌, take, Some, refl}
 use Rattle.std.proofs.Common.{arith, sym, ◌∙◌, ap, subst}
 use Rattle.std.specs.List.{slice_get}

@@ -1,4 +1,4 @@
--- Each way in which events allow an origin is one of four sources.
+-- Each way in which events allow an origin is one of the four sources.
 use Rattle.std.proofs.Common.{◌⊎◌, ℕ, List, inl, inr, refl, sym, subst}
 use Rattle.node_machine.specs.declared.types.Seen.{Seen}
 use Rattle.node_machine.specs.Origins.{answered, Can, home, received, stamped, taken, TokenOrigin}

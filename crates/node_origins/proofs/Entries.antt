@@ -1,4 +1,4 @@
--- An event's entry stands for what is allowed of it, whichever entry it is.
+-- An event's entry stands for the origins that are allowed, by cases of the entry.
 use Rattle.std.proofs.Common.{◌≡◌, ◌↔◌, ℕ, true, false, List, refl, sym, ◌∙◌, ap, subst}
 use Rattle.std.proofs.lemmas.Bool.{false≢true}
 use Rattle.node_machine.specs.declared.types.Seen.{Seen}

@@ -1,6 +1,6 @@
--- A process can have given a stamp's token its label exactly if the first event that bears it is no
--- receive, and either the label was new right before the stamp, or a token that the stamp succeeds
--- was held before that first event.
+-- A process can have given a stamp's token its label exactly if the first event that bears the
+-- label is no receive, and either it doesn't come before the stamp, or a token that the stamp
+-- succeeds was held before it.
 use Rattle.std.proofs.Common.{◌≡◌, ℕ, ◌≤◌, ◌⊎◌, zero, suc, false, List, [], ◌∷◌, ◌++◌, length, take}
 use Rattle.std.proofs.Common.{drop, Some, inl, inr, refl, arith, sym, ◌∙◌, ap, subst}
 use Rattle.std.specs.List.{slice_get}
@@ -78,7 +78,7 @@ module _ (label : Label) where
       let rest = first_parts n es j e (omega arith) at stamp new.1 bears in
       ((new.0, rest.0), rest.1)
 
-  -- and back: the first that bears it is behind the front, and is no receive
+  -- if the process stamps with the label first, its first bearer is no receive
   first_stamps : (es : List Seen) (j : ℕ) (e : Seen) → slice_get es j ≡ Some e
       → NoneBears label (take j es) → Bears label e → StampsFirst label es
       → is_receipt e ≡ false
@@ -120,7 +120,7 @@ module _ (es : List Seen) (i : ℕ) (e : Seen) (at : slice_get es i ≡ Some e) 
         way = inl long;
       }
 
-  -- nothing bears the label, or first an event that isn't before the stamp
+  -- the stamp is at home if no event bears the label, or the first that does isn't before it
   pub home_unborne : NoneBears e.label es → IsAtHome es i
   home_unborne none = home_now (none_parts e.label i es none)
 

@@ -1,4 +1,4 @@
--- In runs: each event has an origin told, which is one that the events allow.
+-- In a run each event has an origin, and the law of origins says that the events allow it.
 use Rattle.std.proofs.Common.{◌≡◌, ℕ, ◌+◌, ◌<◌, Bool, true, false, List, [], ◌∷◌, ◌++◌, length}
 use Rattle.std.proofs.Common.{Some, Option, None, option_map, option_to_list, get_or, refl, arith}
 use Rattle.std.proofs.Common.{sym, ◌∙◌, ap, subst, cond}
@@ -22,7 +22,7 @@ use Rattle.node_machine.proofs.ForCallers.{origins_can}
 use Rattle.node_origins.specs.Runs.{HaveOrigins}
 use Rattle.std.proofs.lemmas.Option.{slice_get-get_or as at_get_or}
 
--- as many are told as there are events
+-- as many origins are told as events
 told_once : (b : Bool) (h : TokenOrigin) (o : Option Seen)
     → length (cond b (option_to_list (option_map (λ _. h) o)) [])
     ≡ length (cond b (option_to_list o) [])
@@ -53,7 +53,7 @@ told_all p front held before s (a ∷ acts) (o ∷ os) (h ∷ hs) are =
 module _ (p : Pid) (es : List Seen) (pids : List Pid) (acts : List NodeAct) (os : List Outcome)
     (hs : List TokenOrigin) (run : HaveOrigins p es pids acts os hs) (i : ℕ) (e : Seen)
     (at : slice_get es i ≡ Some e) (stamp : is_receipt e ≡ false) (within : i < length es) where
-  -- the origin of the stamp
+  -- the origin of the stamp is told, and the events allow it
   pub origin_in_run : (h : TokenOrigin) × (slice_get (origins_told acts os hs p) i ≡ Some h)
       × Can es i h
   origin_in_run =

@@ -1,4 +1,4 @@
--- The table of labels with one event more: it keeps what it has, since that came first.
+-- The table keeps the first bearer of each label, since a later event doesn't come before it.
 use Rattle.std.proofs.Common.{◌≡◌, ℕ, ◌==◌, zero, suc, cond, Bool, true, false, List, [], ◌∷◌, ◌++◌}
 use Rattle.std.proofs.Common.{length, take, Option, Some, None, refl, arith, sym, ◌∙◌, ap, subst}
 use Rattle.std.specs.List.{slice_get}
@@ -34,12 +34,12 @@ module _ (es : List Seen) (e : Seen) where
             (sym (take-append-le first.index es (e ∷ []) (omega arith))) is.new;
       }
 
-  -- none has it still
+  -- an event that doesn't bear a label leaves it without a bearer
   pub none_still : (label : Label) → ¬ (Bears label e) → NoneBears label es
       → NoneBears label (es ++ e ∷ [])
   none_still label never none = all_append (λ d. ¬ (Bears label d)) es (e ∷ []) none (never, tt)
 
-  -- a label that the event is the first to bear
+  -- the event is the first bearer of its label
   pub bearer_now : (label : Label) (index : ℕ) (receives : Bool) → index ≡ length es
       → is_receipt e ≡ receives → Bears label e → NoneBears label es
       → IsBearer (es ++ e ∷ []) label (record { index = index; receives = receives })
@@ -64,7 +64,7 @@ module _ (es : List Seen) (e : Seen) where
 
   module _ (t : ℕ → Option FirstBearer) (are : (label : Label) → IsFirstBearer es label (t label.0))
     where
-      -- the label was there
+      -- if the label has a bearer, it keeps that
       pub labels_same : (first : FirstBearer) → t e.label.0 ≡ Some first → (label : Label)
           → IsFirstBearer (es ++ e ∷ []) label (t label.0)
       labels_same first there label =
@@ -90,7 +90,7 @@ module _ (es : List Seen) (e : Seen) where
             (sym other ∙ eq-eqb e.label.0 label.0 (ap (λ (l : Label). l.0) bears.1)))
             (are label)
 
-        -- or it comes now
+        -- else the event becomes its bearer
         pub labels_more : (label : Label) → IsFirstBearer (es ++ e ∷ []) label (u label.0)
         labels_more label = subst (IsFirstBearer (es ++ e ∷ []) label) (sym (now label.0))
             (by_label label (e.label.0 == label.0) refl)

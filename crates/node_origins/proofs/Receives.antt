@@ -1,7 +1,7 @@
 -- The receive right before a stamp can have brought its token exactly if the stamp goes on plainly
--- after it, or if a token put back right before the receive leads there. What gives the stamp tells
--- that: a token that was put back right before the stamp, with a count that isn't below the
--- receive's, was held before the receive, since that brought another one.
+-- after it, or a token that was put back right before the receive leads there. What gives the
+-- stamp tells which: a token that was put back right before the stamp, with a count not below the
+-- receive's, was held before the receive, which brought another token.
 use Rattle.std.proofs.Common.{◌≡◌, ℕ, ◌<◌, ◌≤◌, ◌^◌, ◌⊎◌, max, suc, true, false, List, [], ◌∷◌}
 use Rattle.std.proofs.Common.{◌++◌, take, Some, inl, inr, refl, arith, sym, ◌∙◌, ap, subst}
 use Rattle.std.proofs.Common.{append-nil}
@@ -196,7 +196,7 @@ module _ (front : List Seen) (receive e : Seen) (taken : takes receive ≡ true)
       ]
     ]
 
-    -- a count at which the receive's isn't above the token's
+    -- the receive's count isn't above the token's
     not_above : (t : Serial) → IsAmong (tokens whole) t → e.serial.this ≡ stamp_count t.this
         → (e.serial.this ≡ 0) ⊎ (e.serial.prev < e.serial.this)
         → receive.serial.this ≤ t.this

@@ -1,4 +1,4 @@
--- The list of all entries has that of each event at its index.
+-- The walk adds each event's entry at its index.
 use Rattle.std.proofs.Common.{◌≡◌, ◌↔◌, ℕ, ◌<◌, ◌≤◌, true, false, List, Some, length, get_or, refl}
 use Rattle.std.proofs.Common.{arith, sym, ◌∙◌, ap}
 use Rattle.std.specs.List.{slice_get}
@@ -21,7 +21,6 @@ use Rattle.node_origins.proofs.Entries.{one_parts, unknown_parts}
 use Rattle.node_origins.proofs.InRuns.{origin_in_run}
 use Rattle.node_given.proofs.ForCallers.{blank}
 
--- an entry is there if the list has it
 as_entry : (found : List EventOrigins) (i : ℕ) (o p : EventOrigins) → slice_get found i ≡ Some o
     → (slice_get found i ≡ Some p → o ≡ p) × (o ≡ p → slice_get found i ≡ Some p)
 as_entry found i o p at = (λ is. same_Some o p (sym at ∙ is), λ same. at ∙ ap Some same)
@@ -70,7 +69,7 @@ module _ (es : List Seen) (found : List EventOrigins) (n : ℕ) (count : length 
       let both = entry_one es i e stamp here.entry here.is h in
       (λ is. both.0 (same.0 is), λ one. same.1 (both.1 one))
 
-  -- the event of an entry
+  -- the event at the entry's index
   record IsFor (i : ℕ) (o : EventOrigins) : Type 0 where
     event : Seen
     at : slice_get es i ≡ Some event

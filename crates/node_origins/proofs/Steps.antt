@@ -1,4 +1,5 @@
--- A token that is put back before a receive is put back right before it too.
+-- A token that is put back before several receives leads to the clock of a token that is put back
+-- right before the last of them.
 use Rattle.std.proofs.Common.{◌≡◌, ℕ, ◌++◌, max, true, List, [], ◌∷◌, refl, sym, ◌∙◌, ap, subst}
 use Rattle.std.proofs.Common.{append_assoc, append-nil}
 use Rattle.st_core.specs.declared.types.Serial.{Serial}

@@ -1,5 +1,4 @@
--- The table of successors with one event more: only the token that the event shows comes to what it
--- has, and that is under the stamp that succeeds the token.
+-- The walk adds only the token that the event shows, under the stamp that succeeds it.
 use Rattle.std.proofs.Common.{◌≡◌, ℕ, ◌+◌, ◌==◌, ◌⊎◌, cond, Bool, true, false, List, Some, inl, inr}
 use Rattle.std.proofs.Common.{refl, arith, sym, ◌∙◌, ap, subst}
 use Rattle.std.specs.List.{slice_get}
@@ -40,7 +39,7 @@ successor_true a b label prev this =
     (both_true (a.prev == b.prev) (a.this == b.this) (eq-eqb a.prev b.prev prev)
     (eq-eqb a.this b.this this))
 
--- the table with one entry more
+-- adding a token changes the origins under one stamp
 pub added : (t u : Successors) (key : Successor) (all o : EventOrigins)
     → ((q : Successor) → get successor_eq u.origins q
     ≡ cond (successor_eq key q) (Some all) (get successor_eq t.origins q))
@@ -60,7 +59,7 @@ added t u key all o now is q =
     ]) refl
 
 module _ (es : List Seen) (i : ℕ) (e : Seen) where
-  -- what comes to the table
+  -- the origin of a receive's token is the receive
   pub receive_origin : is_receipt e ≡ true
       → IsSummary (OfToken es i e) (origins.One (stamp_origin.Follows i))
   receive_origin kind = (
@@ -149,7 +148,7 @@ module _ (es : List Seen) (i : ℕ) (e : Seen) (at : slice_get es i ≡ Some e) 
             })
       ]
 
-  -- an answer's token isn't taken
+  -- an answer adds no token, since its token isn't taken
   pub successors_answer : (t : Successors) → e.answer ≡ true → AreSuccessors es i t
       → AreSuccessors es (i + 1) t
   successors_answer t answer are = λ x.
@@ -215,7 +214,7 @@ module _ (es : List Seen) (i : ℕ) (e : Seen) (at : slice_get es i ≡ Some e) 
         subst (IsSummary (LeadsTo es (i + 1) x.label x.prev x.this)) (sym (now x))
         (by_key x (successor_eq key x) refl)
 
-  -- and what it has for the stamp e
+  -- the table has the origins of the tokens that the stamp e succeeds
   pub predecessors : (t : Successors) → AreSuccessors es i t → (key : Successor)
       → key.label ≡ e.label.0 → key.prev ≡ e.serial.prev → key.this ≡ e.serial.this
       → IsSummary (FromPredecessor es i) (origins_in t key)

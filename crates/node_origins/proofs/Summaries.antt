@@ -1,4 +1,4 @@
--- A result that stands for a set of origins, and another one, are joined by cases.
+-- Two sets of origins together have none, one or several, by cases of what each has.
 use Rattle.std.proofs.Common.{◌≡◌, ◌≢◌, ℕ, ◌⊎◌, List, cond, true, false, inl, inr, refl, sym, ◌∙◌}
 use Rattle.std.proofs.Common.{ap}
 use Rattle.std.proofs.lemmas.Bool.{eqb-false, eqb-true, false≢true}
@@ -41,7 +41,7 @@ eq_apart (stamp_origin.Follows j) (stamp_origin.Follows k) is = λ same.
 
 module _ (P Q : TokenOrigin → Type 0) (to : (h : TokenOrigin) → P h → Q h)
     (from : (h : TokenOrigin) → Q h → P h) where
-  -- a result stands for each set with these members
+  -- sets with the same members have the same summary
   pub same_summary : (o : EventOrigins) → IsSummary P o → IsSummary Q o
   same_summary origins.Receive is = absurd is
   same_summary origins.Unknown is = λ h there. is h (from h there)

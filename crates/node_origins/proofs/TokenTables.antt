@@ -1,5 +1,4 @@
--- The table of tokens keeps the first number that it is told for each, and numbers never fall: so
--- it has the least.
+-- The table keeps the first number for each token, and numbers never fall: so it has the least.
 use Rattle.std.proofs.Common.{◌≡◌, ℕ, ◌+◌, ◌<◌, ◌≤◌, ◌==◌, ◌⊎◌, cond, Bool, true, false, List, []}
 use Rattle.std.proofs.Common.{◌∷◌, ◌++◌, length, take, Option, Some, None, is_some, inl, inr, refl}
 use Rattle.std.proofs.Common.{arith, sym, ◌∙◌, ap, subst}
@@ -71,7 +70,7 @@ same_parts p q a b is =
 
 module _ (es : List Seen) (n : ℕ) (xs : List Serial) (x : Serial) (t : FirstTokens)
     (since : IsSince es n xs t) where
-  -- the table has one with its successor
+  -- the table has a token with the same successor
   pub since_same : (m : ℕ) → get same_serial t.since (x.prev, stamp_count x.this) ≡ Some m
       → IsSince es n (x ∷ xs) t
   since_same m there = record {
@@ -89,7 +88,7 @@ module _ (es : List Seen) (n : ℕ) (xs : List Serial) (x : Serial) (t : FirstTo
     ];
   }
 
-  -- or it comes to the table now
+  -- the token joins the table
   module _ (u : FirstTokens)
       (none : get same_serial t.since (x.prev, stamp_count x.this) ≡ None)
       (now : (q : ℕ × ℕ) → get same_serial u.since q

@@ -1,5 +1,5 @@
--- Where the origins of the stamp at an index come from: a token that it succeeds, the receive right
--- before it, the request of the answer right before it, and home.
+-- The four sources of a stamp's origins: a token that the stamp succeeds, the receive right before
+-- it, the request of the answer right before it, and home.
 use Rattle.std.specs.Prelude.{◌≡◌, ◌⊎◌, ℕ, ◌<◌, true, false, List}
 use Rattle.node_machine.specs.declared.types.Seen.{Seen}
 use Rattle.node_machine.specs.Counts.{answer_count, serial_count, stamp_count}
@@ -13,7 +13,7 @@ abbrev pub FromPredecessor : List Seen → ℕ → TokenOrigin → Type 0
 FromPredecessor es i h = (k : ℕ)
     × ((IsSuccessor true es i k × (h ≡ Follows k)) ⊎ (IsSuccessor false es i k × Can es k h))
 
--- the origin that the token of the event e at an index can have
+-- the event e at index i allows the origin h for the token that it shows
 abbrev pub OfToken : List Seen → ℕ → Seen → TokenOrigin → Type 0
 OfToken es i e h =
     ((is_receipt e ≡ true) × (h ≡ Follows i)) ⊎ ((is_receipt e ≡ false) × Can es i h)
@@ -27,9 +27,9 @@ FromRequest es i h = (k : ℕ) × IsAnsweredAt es i k × Can es k h
 abbrev pub FromHome : List Seen → ℕ → TokenOrigin → Type 0
 FromHome es i h = IsAtHome es i × (h ≡ Home)
 
--- The receive right before a stamp, which brought its prev, can have brought its token, by what
--- gives the stamp. If a token was put back right before the stamp, that can as well have happened
--- before the receive, unless the receive lifted the clock above the token's count
+-- The receive right before a stamp, whose count is the stamp's prev, can have brought its token.
+-- If what gives the stamp is a token that was put back right before it, that can as well have
+-- happened before the receive, unless the receive lifted the clock above the token's count
 abbrev pub LeavesReceive : Way → Seen → Type 0
 LeavesReceive way.Plain e = Unit {0}
 LeavesReceive (way.Lowered t) e = Unit {0}
@@ -37,7 +37,7 @@ LeavesReceive (way.PutBack t) e = (e.serial.this ≡ 0) ⊎ (e.serial.prev < e.s
 LeavesReceive way.Receive e = ⊥
 LeavesReceive way.Ungiven e = ⊥
 
--- the event, right before the stamp, can have brought its token
+-- the event right before the stamp can have brought its token
 pub record Brings (event stamp : Seen) (w : Way) : Type 0 where
   pub kind : is_receipt event ≡ true
   pub own : event.answer ≡ false

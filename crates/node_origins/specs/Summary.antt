@@ -1,4 +1,4 @@
--- How the result for an event stands for the set of the origins that are allowed.
+-- How an entry, the walk's result for an event, stands for the set of origins that are allowed.
 use Rattle.std.specs.Prelude.{◌≡◌, ◌≢◌, ℕ, ◌==◌, Bool, true, false, List, if◌then◌else◌}
 use Rattle.node_machine.specs.declared.types.Seen.{Seen}
 use Rattle.node_machine.specs.Readings.{is_receipt}
@@ -13,7 +13,8 @@ abbrev pub origin_of : StampOrigin → TokenOrigin
 origin_of stamp_origin.Home = AtHome
 origin_of (stamp_origin.Follows k) = FollowsEvent k
 
--- a set of origins has none, this one alone, or these two that differ and maybe more
+-- a set of origins has no member, the one origin alone, or both origins (which differ) and maybe
+-- more
 abbrev pub HasNoOrigin : (TokenOrigin → Type 0) → Type 0
 HasNoOrigin Allows = (h : TokenOrigin) → ¬ (Allows h)
 
@@ -24,7 +25,7 @@ HasOneOrigin Allows h =
 abbrev pub HasBothOrigins : (TokenOrigin → Type 0) → StampOrigin → StampOrigin → Type 0
 HasBothOrigins Allows a b = Allows (origin_of a) × Allows (origin_of b) × (a ≢ b)
 
--- the result stands for the set; that for a receive does for none
+-- the entry stands for the set; a receive's stands for none
 abbrev pub IsSummary : (TokenOrigin → Type 0) → EventOrigins → Type 0
 IsSummary Allows origins.Receive = ⊥
 IsSummary Allows origins.Unknown = HasNoOrigin Allows
@@ -36,7 +37,7 @@ origin_eq stamp_origin.Home stamp_origin.Home = true
 origin_eq (stamp_origin.Follows j) (stamp_origin.Follows k) = j == k
 origin_eq a b = false
 
--- the result for what one of two sets has
+-- the entry for an origin and the origins of another entry
 abbrev pub either_origin : StampOrigin → EventOrigins → EventOrigins
 either_origin a (origins.One b) =
     if origin_eq a b then origins.One b else origins.Several a b
@@ -48,7 +49,8 @@ either_origins (origins.One a) o = either_origin a o
 either_origins (origins.Several a b) o = origins.Several a b
 either_origins n o = o
 
--- the result for the event e at an index: a receive is named, and of a stamp all that can be
+-- the entry is that of the event e at index i: a receive is named, and a stamp has the origins
+-- that are allowed
 abbrev pub IsEntry : List Seen → ℕ → Seen → EventOrigins → Type 0
 IsEntry es i e origins.Receive = is_receipt e ≡ true
 IsEntry es i e o = (is_receipt e ≡ false) × IsSummary (Can es i) o

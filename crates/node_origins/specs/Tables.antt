@@ -1,5 +1,5 @@
--- The tables of the walk: the first event that bears each label, since when a process has had each
--- token, and the origins of the tokens that a stamp may succeed.
+-- The walk's tables: the first event that bears each label, the number of events after which a
+-- process has had each token, and the origins of the tokens that a stamp may succeed.
 use Rattle.std.specs.Prelude.{◌≡◌, ◌⊎◌, ℕ, ◌+◌, ◌<◌, ◌≤◌, ◌==◌, ◌&&◌, nat_eq, Bool, true, false}
 use Rattle.std.specs.Prelude.{List, [], length, take, slice_get, Option, Some, None}
 use Rattle.std.specs.List.{AllByRecursion}
@@ -25,11 +25,11 @@ use Rattle.node_origins.specs.Summary.{IsSummary}
 
 -- LABELS
 
--- none of these events bears the label
+-- no event bears the label
 abbrev pub NoneBears : Label → List Seen → Type 0
 NoneBears label es = AllByRecursion (λ e. ¬ (Bears label e)) es
 
--- this is the first event that does
+-- `first` is the first event that bears the label
 pub record IsBearer (es : List Seen) (label : Label) (first : FirstBearer) : Type 0 where
   pub event : Seen
   pub at : slice_get es first.index ≡ Some event
@@ -49,7 +49,7 @@ AreFirstLabels es t = (label : Label) → IsFirstBearer es label (first_in t lab
 
 -- TOKENS
 
--- one of these tokens is succeeded by a stamp of this serial
+-- a stamp with the serial succeeds a token of the list
 pub record HasPredecessor (xs : List Serial) (prev this : ℕ) : Type 0 where
   pub token : Serial
   pub held : IsAmong xs token
@@ -59,8 +59,8 @@ pub record HasPredecessor (xs : List Serial) (prev this : ℕ) : Type 0 where
 abbrev pub same_serial : ℕ × ℕ → ℕ × ℕ → Bool
 same_serial a b = a.0 == b.0 && a.1 == b.1
 
--- the table has, for the tokens of fewer than n of the events and for these of n, the least number
--- of events after which there is one
+-- the table has the least number of events after which a token with each successor was held, for
+-- the tokens before the number n and the tokens xs at n
 pub record IsSince (es : List Seen) (n : ℕ) (xs : List Serial) (t : FirstTokens) : Type 0 where
   pub sound : (prev this m : ℕ) → get same_serial t.since (prev, this) ≡ Some m
       → ((m < n) × HasPredecessor (tokens (take m es)) prev this)
@@ -78,8 +78,8 @@ AreFirstEvents es t = AreFirstLabels es t.labels × AreFirstTokens es t.tokens
 
 -- SUCCESSORS
 
--- one of the first n events shows a token that a stamp of this label and serial may succeed, and
--- the origin of that may be this one
+-- one of the first n events shows a token that a stamp with the label and serial succeeds, and
+-- allows it the origin h
 pub record LeadsTo (es : List Seen) (n label prev this : ℕ) (h : TokenOrigin) : Type 0 where
   pub index : ℕ
   pub event : Seen

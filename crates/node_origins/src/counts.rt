@@ -6,7 +6,6 @@ ghost use Rattle.node_machine.specs.Counts.{answer_count, serial_count, stamp_co
 /// The least number that a serial can't show.
 const SERIAL_END: u64 = 1 << 60;
 
-/// The count that the stamp after this clock shows.
 pub(crate) fn count_after(clock: u64) -> u64
     ensures { result ≡ stamp_count clock }
 {

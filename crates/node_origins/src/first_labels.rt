@@ -13,9 +13,7 @@ use std::collections::HashMap;
 /// The first event that shows that a token of its process had a label.
 #[derive(Clone, Copy, Debug, PartialEq, Eq)]
 pub(crate) struct FirstBearer {
-    /// Its index.
     pub(crate) index: usize,
-    /// Whether it is a receive.
     pub(crate) receives: bool,
 }
 
@@ -28,12 +26,10 @@ fn receives(event: Seen) -> bool
 /// The first event that bears each label.
 #[derive(Drop)]
 pub(crate) struct FirstLabels {
-    /// By label.
     pub(crate) bearers: HashMap<u32, FirstBearer>,
 }
 
 impl FirstLabels {
-    /// With an event more, which has this index.
     fn note(&mut self, index: usize, event: Seen) -> Result<(), AllocError>
         ensures { (es : List SeenValue) → length es ≡ index → AreFirstLabels es self.old
             → OnOk result (AreFirstLabels (es ++ event ∷ []) self.new) }
@@ -54,7 +50,6 @@ impl FirstLabels {
         }
     }
 
-    /// Those of a process's events.
     pub(crate) fn of(alloc: Global, events: &[Seen]) -> Result<FirstLabels, AllocError>
         ensures { IfOk result (AreFirstLabels events.now) }
     {
@@ -67,7 +62,6 @@ impl FirstLabels {
         Ok(labels)
     }
 
-    /// The first event that bears this label.
     pub(crate) fn get(&self, label: Label) -> Option<FirstBearer>
         ensures { result ≡ first_in self.now label }
     {

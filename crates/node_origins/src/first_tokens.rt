@@ -1,4 +1,4 @@
-//! Since when a process has had a token.
+//! How early a process has had each token.
 
 ghost use Rattle.std.specs.Prelude.{◌≡◌, ◌+◌, ◌<◌, ◌≤◌, ◌^◌, ◌↔◌, [], ◌∷◌, ℕ, length, slice_get};
 ghost use Rattle.std.specs.Prelude.{take};
@@ -16,11 +16,12 @@ use st_core::{Kind, Serial};
 use std::alloc::{AllocError, Global};
 use std::collections::HashMap;
 
-/// Since when a process has had, or can have made, a token that a stamp succeeds.
+/// The number of events after which a process has had, or can have made, a token that a stamp
+/// succeeds.
 #[derive(Drop)]
 pub(crate) struct FirstTokens {
-    /// By the stamp's prev and count: the number of the events up to the one that first shows the
-    /// token.
+    /// The number of events up to the one that first shows the token, by the stamp's prev and
+    /// count.
     pub(crate) since: HashMap<(u64, u64), usize>,
 }
 
@@ -33,7 +34,7 @@ impl FirstTokens {
         }
     }
 
-    /// With a token that the event with this number shows.
+    /// Adds a token that the event with a number shows.
     fn note(&mut self, prev: u64, this: u64, number: usize) -> Result<(), AllocError>
         ensures { (es : List SeenValue) (xs : List SerialValue) → IsSince es number xs self.old
             → OnOk result (IsSince es number (record { prev = prev; this = this } ∷ xs) self.new) }
@@ -48,7 +49,6 @@ impl FirstTokens {
         }
     }
 
-    /// With those that an event shows.
     fn note_event(&mut self, index: usize, event: Seen) -> Result<(), AllocError>
         requires fit { event.serial.this < 2 ^ 60 }
         requires room { index + 1 < 2 ^ 64 }
@@ -74,7 +74,6 @@ impl FirstTokens {
         }
     }
 
-    /// Those that a process's events show.
     pub(crate) fn of(alloc: Global, events: &[Seen]) -> Result<FirstTokens, AllocError>
         requires { AreFit events.now }
         ensures { IfOk result (AreFirstTokens events.now) }
@@ -87,14 +86,16 @@ impl FirstTokens {
         Ok(tokens)
     }
 
-    /// The number of the first event that shows a token that a stamp of this serial succeeds.
+    /// Returns the number of events up to the one that first shows a token that the stamp
+    /// succeeds.
     fn number(&self, stamp: Serial) -> Option<usize>
         ensures { result ≡ get same_serial self.now.since (stamp.prev, stamp.this) }
     {
         self.since.get(&(stamp.prev, stamp.this)).copied()
     }
 
-    /// Whether the process had a token that the stamp succeeds after this many of its events.
+    /// Returns whether the process had a token that the stamp succeeds after the first `events`
+    /// events.
     pub(crate) fn has(&self, stamp: Seen, events: usize) -> bool
         ensures { (es : List SeenValue) → AreFirstTokens es self.now → events ≤ length es
             → IsTrue result

@@ -1,4 +1,4 @@
-//! Whether a process can have given a stamp's token its label.
+//! Tests whether a process can have given a stamp's token its label.
 
 ghost use Rattle.std.specs.Prelude.{◌≡◌, ◌↔◌, slice_get, List, Some, IfOk, IsTrue};
 ghost use Rattle.node_machine.specs.declared.types.Seen.{Seen as SeenValue};
@@ -22,7 +22,6 @@ pub(crate) struct Firsts {
 }
 
 impl Firsts {
-    /// Those of a process's events.
     pub(crate) fn of(alloc: Global, events: &[Seen]) -> Result<Firsts, AllocError>
         requires { AreFit events.now }
         ensures { IfOk result (AreFirstEvents events.now) }
@@ -33,7 +32,6 @@ impl Firsts {
         })
     }
 
-    /// Whether the stamp at this index can have the origin home.
     fn allow_home(&self, index: usize, stamp: Seen) -> bool
         ensures { (es : List SeenValue) → AreFirstEvents es self.now
             → slice_get es index ≡ Some stamp → IsTrue result ↔ IsAtHome es index }
@@ -46,7 +44,7 @@ impl Firsts {
         }
     }
 
-    /// The origin home, if the events allow it for the stamp at this index.
+    /// Returns home if the events allow it for the stamp at an index.
     pub(crate) fn home(&self, index: usize, stamp: Seen) -> EventOrigins
         ensures { (es : List SeenValue) → AreFirstEvents es self.now
             → slice_get es index ≡ Some stamp → IsSummary (FromHome es index) result }

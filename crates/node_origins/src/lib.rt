@@ -1,5 +1,5 @@
-//! Finds what the token of each stamp of a process may have come from, if it ran on a standard
-//! node, by one walk over its events.
+//! Finds which origins a process's events allow for the token of each of its stamps, if it ran on
+//! a standard node, by one walk over the events.
 #![tactic(auto)]
 
 mod counts;

@@ -1,4 +1,4 @@
-//! The origin of a stamp's token, and what events allow.
+//! The origin of a stamp's token, and the origins that events allow.
 
 ghost use Rattle.std.specs.Prelude.{◌≡◌};
 ghost use Rattle.node_origins.specs.Summary.{either_origins};
@@ -6,27 +6,27 @@ ghost use Rattle.node_origins.specs.Summary.{either_origins};
 /// The origin of a stamp's token.
 #[derive(Clone, Copy, Debug, PartialEq, Eq)]
 pub enum StampOrigin {
-    /// Its process made it, or set its label.
+    /// The process made the token, or set its label.
     Home,
-    /// It came with the message of its process's receive at this index.
+    /// The token came with the message of its process's receive at this index.
     Follows(usize),
 }
 
-/// The origins of an event that the events of its process allow.
+/// The origins of an event's token that the events of its process allow.
 #[derive(Clone, Copy, Debug, PartialEq, Eq)]
 pub enum EventOrigins {
-    /// It is a receive, and not asked.
+    /// None was asked for: the event is a receive.
     Receive,
-    /// No origin: the process had no token that gives the stamp with its label.
+    /// None: the process had no token that gives the stamp with its label.
     Unknown,
-    /// One origin.
+    /// Exactly one.
     One(StampOrigin),
-    /// At least two: these are different, and there may be more.
+    /// At least two: the two named here differ, and there may be more.
     Several(StampOrigin, StampOrigin),
 }
 
 impl EventOrigins {
-    /// The origins that one of two sets has.
+    /// Returns the origins of both.
     pub(crate) fn or(self, other: EventOrigins) -> EventOrigins
         ensures { result ≡ either_origins self other }
     {

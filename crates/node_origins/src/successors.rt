@@ -1,4 +1,4 @@
-//! The origins that are allowed of a stamp by the tokens that it may succeed.
+//! The origins that a stamp's token may have by the tokens that the stamp may succeed.
 
 ghost use Rattle.std.specs.Prelude.{◌≡◌, ℕ, ◌+◌, slice_get, List, Some, OnOk, if◌then◌else◌};
 ghost use Rattle.node_machine.specs.declared.types.Seen.{Seen as SeenValue};
@@ -14,18 +14,15 @@ use st_core::Kind;
 use std::alloc::{AllocError, Global};
 use std::collections::HashMap;
 
-/// A stamp, as the token that it succeeds tells it.
+/// A stamp's label and serial, as the token that it succeeds gives them.
 #[derive(Clone, Copy, Debug, PartialEq, Eq, Hash)]
 pub(crate) struct Successor {
-    /// Its label.
     pub(crate) label: u32,
-    /// The first number of its serial.
     pub(crate) prev: u64,
-    /// The second number.
     pub(crate) this: u64,
 }
 
-/// The origins of the token that an event shows. A stamp has these.
+/// Returns the origins of the token that an event shows; a stamp's are `origins`.
 fn token_origins(index: usize, event: Seen, origins: EventOrigins) -> EventOrigins
     ensures { (es : List SeenValue) → IsEntry es index event origins
         → IsSummary (OfToken es index event) result }
@@ -36,10 +33,9 @@ fn token_origins(index: usize, event: Seen, origins: EventOrigins) -> EventOrigi
     }
 }
 
-/// The origins of the tokens so far, by the stamps that may succeed them.
+/// The origins of the tokens so far, by the stamps that succeed them.
 #[derive(Drop)]
 pub(crate) struct Successors {
-    /// The origins of the tokens that a stamp may succeed, by the stamp.
     pub(crate) origins: HashMap<Successor, EventOrigins>,
 }
 
@@ -52,7 +48,6 @@ impl Successors {
         }
     }
 
-    /// The origins of the tokens that a stamp may succeed.
     fn at(&self, stamp: Successor) -> EventOrigins
         ensures { result ≡ origins_in self.now stamp }
     {
@@ -62,7 +57,7 @@ impl Successors {
         }
     }
 
-    /// With a token more that a stamp may succeed, which has these origins.
+    /// Adds a token that a stamp succeeds.
     fn add(&mut self, stamp: Successor, origins: EventOrigins) -> Result<(), AllocError>
         ensures { OnOk result ((q : SuccessorValue) → origins_in self.new q
             ≡ (if successor_eq stamp q then either_origins (origins_in self.old q) origins
@@ -75,7 +70,7 @@ impl Successors {
         }
     }
 
-    /// With the token that an event shows. A stamp has these origins.
+    /// Adds the token that an event shows; a stamp's origins are `origins`.
     pub(crate) fn note(
         &mut self,
         index: usize,
@@ -97,7 +92,6 @@ impl Successors {
         self.add(successor, token_origins(index, event, origins))
     }
 
-    /// The origins of the tokens that a stamp may succeed.
     pub(crate) fn origins_of(&self, stamp: Seen) -> EventOrigins
         ensures { (es : List SeenValue) (i : ℕ) → AreSuccessors es i self.now
             → slice_get es i ≡ Some stamp → IsSummary (FromPredecessor es i) result }

@@ -1,4 +1,4 @@
-//! Tests that `origins` returns, which no contract says.
+//! Tests that `origins` succeeds, which no contract says.
 
 ghost use Rattle.std.specs.Prelude.{◌≡◌};
 
@@ -17,7 +17,7 @@ fn event(kind: Kind, label: u32, prev: u64, this: u64) -> Seen
     }
 }
 
-/// A label begins here, and two receives of one serial come.
+/// The first label is new to the process, and two receives have the same serial.
 #[test]
 fn each_set_of_origins_is_found(rt: HostRuntime) {
     let events = [

@@ -1,4 +1,4 @@
-//! The walk.
+//! The walk over the events of a process.
 
 ghost use Rattle.std.specs.Prelude.{◌≡◌, ◌≢◌, ◌<◌, ◌≤◌, ◌^◌, ◌↔◌, false, true, ℕ};
 ghost use Rattle.std.specs.Prelude.{length, slice_get, take, List, Some, IfOk, IsTrue};
@@ -29,7 +29,8 @@ use node_machine::Seen;
 use st_core::Kind;
 use std::alloc::{AllocError, Global};
 
-/// Whether the receive right before a stamp, which brought its prev, can have brought its token.
+/// Returns whether the receive right before a stamp, whose count is the stamp's prev, can have
+/// brought its token.
 fn leaves_receive(way: Way, stamp: Seen) -> bool
     ensures { IsTrue result ↔ LeavesReceive way stamp }
 {
@@ -40,7 +41,7 @@ fn leaves_receive(way: Way, stamp: Seen) -> bool
     }
 }
 
-/// Whether this event, right before a stamp, can have brought its token.
+/// Returns whether the event right before a stamp can have brought its token.
 fn brings(event: Seen, stamp: Seen, way: Way) -> bool
     ensures { IsTrue result ↔ Brings event stamp way }
 {
@@ -51,7 +52,7 @@ fn brings(event: Seen, stamp: Seen, way: Way) -> bool
         && leaves_receive(way, stamp)
 }
 
-/// The receive right before the stamp at this index, if it can have brought its token.
+/// Returns the receive right before the stamp at an index, if it can have brought its token.
 fn receive_before(events: &[Seen], index: usize, stamp: Seen, way: Way) -> EventOrigins
     requires fit { AreFit events.now }
     requires at { slice_get events.now index ≡ Some stamp }
@@ -69,7 +70,7 @@ fn receive_before(events: &[Seen], index: usize, stamp: Seen, way: Way) -> Event
     }
 }
 
-/// Whether a stamp goes on from an answer right before it, which is that to this request.
+/// Returns whether a stamp goes on from the answer to the request, right before it.
 fn goes_on_from(request: Seen, answer: Seen, stamp: Seen) -> bool
     requires { answer.serial.this < 2 ^ 60 }
     ensures { IsTrue result ↔ FollowsAnswer request answer stamp }
@@ -81,8 +82,8 @@ fn goes_on_from(request: Seen, answer: Seen, stamp: Seen) -> bool
         && stamp.serial.this == count_after(clock_of_answer(answer.serial.this))
 }
 
-/// The origins of the request before an answer that is right before the stamp at this index, if the
-/// stamp goes on from that answer.
+/// Returns the origins of the request whose answer is right before the stamp at an index, if the
+/// stamp goes on from the answer.
 fn request_before(
     events: &[Seen],
     found: &[EventOrigins],
@@ -107,7 +108,6 @@ fn request_before(
     }
 }
 
-/// The origins of the stamp at this index.
 fn stamp_origins(
     events: &[Seen],
     found: &[EventOrigins],
@@ -138,7 +138,6 @@ fn stamp_origins(
     tokens.or(others)
 }
 
-/// The entry of the event at this index.
 fn event_origins(
     events: &[Seen],
     found: &[EventOrigins],
@@ -167,13 +166,16 @@ fn event_origins(
     }
 }
 
-/// Finds what the events of one process, in order, allow as the origin of the token of each of its
-/// stamps, if it ran on a standard node. In a serial a count is the number from 0 to 2^60 - 1 that
-/// has its bits.
+/// Finds which origins the events of one process, in order, allow for the token of each of its
+/// stamps, if it ran on a standard node. Each count of a serial is the number from 0 to 2^60 - 1
+/// with its bits.
 ///
-/// In each run in which these are its events, it reported each stamp and each receive of a token,
-/// and its tokens and their labels are its own, an origin that is the one allowed is that of the
-/// stamp. If none is allowed for some stamp, there is no such run.
+/// In each run in which the process has these events, reports each stamp and each receive of a
+/// token, gets each answer right after its request, and puts back only tokens and gives only
+/// labels of its own, a stamp with one allowed origin has that origin. If a stamp has none, there
+/// is no such run.
+///
+/// It fails only if memory runs out.
 pub fn origins(alloc: Global, events: &[Seen]) -> Result<Vec<EventOrigins>, AllocError>
     requires { AreFit events.now }
     ensures each { IfOk result (λ v. length v.items ≡ length events.now) }

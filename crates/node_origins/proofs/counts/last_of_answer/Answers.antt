@@ -1,4 +1,4 @@
--- A serial shows the rest.
+-- A serial shows a count modulo its size.
 use Rattle.std.proofs.Common.{ap, ◌∙◌}
 use Rattle.node_machine.specs.Counts.{serial_count}
 use Rattle.node_given.proofs.ForCallers.{serial_is}

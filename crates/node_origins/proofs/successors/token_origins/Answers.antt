@@ -1,4 +1,4 @@
--- A receive's token came with it.
+-- A receive's token comes with its message, and a stamp's token has the stamp's origins.
 use Rattle.std.proofs.Common.{ap}
 use Rattle.st_core.specs.declared.types.Kind.{Kind}
 use Rattle.st_core.specs.declared.types.Kind.TheVariants as kind

@@ -1,4 +1,4 @@
--- A receive is named, and of a stamp all that is allowed.
+-- A receive's entry names it, and a stamp's has the origins that are allowed.
 use Rattle.std.proofs.Common.{ap}
 use Rattle.st_core.specs.declared.types.Kind.{Kind}
 use Rattle.st_core.specs.declared.types.Kind.TheVariants as kind

@@ -1,4 +1,4 @@
--- One event more has its entry, and in runs a stamp's origin is one that is allowed.
+-- Each event gets its entry, and in a run a stamp's origin is one that is allowed.
 use Rattle.std.proofs.Common.{◌≡◌, ◌<◌, get_or, length, inl, inr, arith, sym, ◌∙◌, ap, subst, Some}
 use Rattle.std.specs.List.{slice_get}
 use Rattle.std.proofs.lemmas.Option.{none-some, same_Some, slice_get-get_or as at_get_or}

@@ -1,4 +1,4 @@
--- So far each event has its entry, and the table has the tokens that they show.
+-- So far each event has its entry, and the table has the tokens that the events show.
 use Rattle.std.proofs.Common.{◌≡◌, ℕ, Some, length}
 use Rattle.std.specs.List.{slice_get}
 use Rattle.node_machine.specs.declared.types.Seen.{Seen}

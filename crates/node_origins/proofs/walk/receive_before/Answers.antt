@@ -1,4 +1,4 @@
--- The receive is at the index before the stamp's.
+-- Only the receive at the index before the stamp's can have brought the token.
 use Rattle.std.proofs.Common.{◌≡◌, ◌-◌, ◌<◌, suc, length, get_or, arith, sym, ◌∙◌}
 use Rattle.std.proofs.lemmas.Bool.{false≢true}
 use Rattle.node_origins.proofs.Befores.{none_brings, receive_brings}

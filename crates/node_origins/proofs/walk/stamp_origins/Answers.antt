@@ -1,4 +1,4 @@
--- The four sources together are all that is allowed.
+-- The origins from the four sources are all that are allowed.
 use Rattle.std.proofs.Common.{◌⊎◌, sym, subst}
 use Rattle.node_machine.specs.Origins.{Can, TokenOrigin}
 use Rattle.node_origins.specs.Sources.{FromHome, FromPredecessor, FromReceive, FromRequest}

@@ -1,4 +1,4 @@
--- The table keeps what it has.
+-- The table keeps the first bearer that it has.
 use Rattle.std.proofs.Common.{nat_eq, sym, ◌∙◌}
 use Rattle.std.specs.HashMap.{get}
 use Rattle.node_origins.proofs.LabelTables.{labels_answer, labels_more, labels_same}

@@ -1,4 +1,4 @@
--- One event more comes to the table.
+-- Each event joins the table in turn.
 use Rattle.std.proofs.Common.{◌≤◌, get_or, length, take, arith, sym, subst}
 use Rattle.node_given.proofs.ForCallers.{taken_more, blank}
 use Rattle.node_origins.specs.Tables.{AreFirstLabels}

@@ -1,4 +1,4 @@
--- The table has the least number.
+-- The table has the least number for each token.
 use Rattle.std.proofs.Common.{sym}
 use Rattle.std.proofs.lemmas.Bool.{false≢true, le-leb, leb-true}
 use Rattle.node_origins.proofs.TokenTables.{since_held, since_least, since_none}

@@ -1,4 +1,4 @@
--- The table keeps the number that it has.
+-- The table keeps the number that it has for a token.
 use Rattle.std.proofs.Common.{cond, Some, sym, ◌∙◌, ap}
 use Rattle.std.specs.HashMap.{get}
 use Rattle.node_origins.specs.Tables.{same_serial}

@@ -1,4 +1,4 @@
--- An event's tokens come to the table one after the other.
+-- The tokens of an event join the table one after the other.
 use Rattle.std.proofs.Common.{◌+◌, [], ◌∷◌, ap, subst}
 use Rattle.st_core.specs.declared.types.Kind.{Kind}
 use Rattle.st_core.specs.declared.types.Kind.TheVariants as kind

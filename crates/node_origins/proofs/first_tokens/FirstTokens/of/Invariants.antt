@@ -1,4 +1,4 @@
--- So far the table has the tokens of the events.
+-- So far the table has the tokens that the events show.
 use Rattle.std.proofs.Common.{◌+◌, []}
 use Rattle.node_origins.specs.Tables.{IsSince}
 use Rattle.node_origins.proofs.first_tokens.FirstTokens.of.Given as goal

@@ -1,4 +1,4 @@
--- Whether a stamp is at home follows from the first event that bears its label.
+-- The first event that bears a stamp's label decides whether the stamp can be at home.
 use Rattle.std.proofs.Common.{◌≤◌, length, not, inl, inr, refl, arith, sym, ◌∙◌, ap, subst}
 use Rattle.st_core.proofs.ForCallers.{not_true}
 use Rattle.std.proofs.lemmas.Bool.{false≢true, le-leb}

@@ -1,4 +1,4 @@
--- Only what is under the stamp changes.
+-- Only the origins under the stamp change.
 use Rattle.std.proofs.Common.{◌∙◌, ap}
 use Rattle.node_origins.specs.declared.origin.EventOrigins.{EventOrigins}
 use Rattle.node_origins.specs.Summary.{either_origins}

@@ -1,4 +1,4 @@
--- The token that the event shows comes to the table, but for an answer's.
+-- The token that the event shows joins the table, unless the event is an answer.
 use Rattle.std.proofs.Common.{refl}
 use Rattle.node_given.proofs.ForCallers.{on_ok}
 use Rattle.node_origins.proofs.SuccessorTables.{successors_answer, successors_more}

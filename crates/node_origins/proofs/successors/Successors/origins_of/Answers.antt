@@ -1,4 +1,4 @@
--- Under a stamp the table has the origins of the tokens that it succeeds.
+-- The table has, under a stamp, the origins of the tokens that it succeeds.
 use Rattle.std.proofs.Common.{refl, sym, subst}
 use Rattle.node_origins.specs.Sources.{FromPredecessor}
 use Rattle.node_origins.specs.Summary.{IsSummary}
