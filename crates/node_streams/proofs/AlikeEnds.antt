@@ -1,5 +1,5 @@
--- Ends that are sorted by content, alike ones in their order: how many alike ones stand before one
--- is how many events before its own tell of the message.
+-- A sort by content keeps alike ends in their order, so as many alike ends come before an end as
+-- events before its own tell of its message.
 use Rattle.std.proofs.Common.{◌≡◌, ℕ, ◌+◌, ◌<◌, ◌≤◌, zero, suc, cond, Bool, true, false, List, []}
 use Rattle.std.proofs.Common.{◌∷◌, length, get_or, take, Option, Some, None, refl, arith, sym, ◌∙◌}
 use Rattle.std.proofs.Common.{ap, subst, eq-eqb, inl, inr, ◌==◌, ◌≢◌}
@@ -26,7 +26,7 @@ use Rattle.node_machine.proofs.ForCallers.{count_first}
 use Rattle.st_pair.proofs.ForCallers.{at_get_or}
 
 module _ {X : Type 0} (test : X → Bool) where
-  -- what passes stands behind as many in the filtered list
+  -- in the filtered list an item comes after as many as pass before it
   pub filter_at : (xs : List X) (i : ℕ) (x : X) → slice_get xs i ≡ Some x → test x ≡ true
       → slice_get (filter test xs) (count_by test (take i xs)) ≡ Some x
   filter_at [] i x at is = absurd (none-some x at)
@@ -85,12 +85,12 @@ some_index : (o : Option End) (j : ℕ) → index_of o ≡ Some j
 some_index None j is = absurd (none-some j is)
 some_index (Some x) j is = (x, refl, same_Some x.index j is)
 
--- how many events before that of an end tell of its message
+-- the number of events before an end's own that tell of its message
 abbrev pub told_before : Kind → List Event → End → ℕ
 told_before k es x = count_by (tells k x.content) (take x.index es)
 
 module _ (k : Kind) (es : List Event) (v : List End) (are : AreByContent (ends_from k 0 es) v) where
-  -- the event of an end comes after as many alike ones as the end does
+  -- as many events that tell of an end's message come before its event as alike ends before it
   pub end_event : (i : ℕ) (x : End) → slice_get v i ≡ Some x
       → IsNth (tells k x.content) (count_by (alike x.content) (take i v)) es x.index
   end_event i x at =
@@ -126,7 +126,7 @@ module _ (k : Kind) (es : List Event) (v : List End) (are : AreByContent (ends_f
       (ap (λ xs. slice_get xs n) (are.groups c) ∙ read.1) in
       (place.0, read.0, place.1, content_same read.0.content c place.2, read.2)
 
-  -- no alike end stands before one that isn't alike the one right before it
+  -- if the end right before another one isn't alike, no end before it is
   pub none_before : (i : ℕ) (x y : End) → slice_get v i ≡ Some y → slice_get v (suc i) ≡ Some x
       → alike x.content y ≡ false → (j : ℕ) (z : End) → j < suc i → slice_get v j ≡ Some z
       → alike x.content z ≡ false
@@ -154,7 +154,7 @@ module _ (k : Kind) (es : List Event) (v : List End) (are : AreByContent (ends_f
         | false ↦ λ no. no
       ]) refl
 
-  -- the number of an end, by that of the one before it
+  -- an end's number follows from the number of the end before it
   pub next_number : (i : ℕ) (x y : End) (n : ℕ) → slice_get v i ≡ Some y
       → slice_get v (suc i) ≡ Some x → n ≡ count_by (alike y.content) (take i v)
       → cond (content_eq y.content x.content) (n + 1) 0
@@ -194,7 +194,6 @@ module _ (k : Kind) (es : List Event) (v : List End) (are : AreByContent (ends_f
   abbrev IsTold : List ℕ → End → Type 0
   IsTold numbers x = slice_get numbers x.index ≡ Some (told_before k es x)
 
-  -- one end more has its number
   pub told_more : (i m : ℕ) (x : End) (old new : List ℕ) → slice_get v i ≡ Some x
       → length old ≡ length es → m ≡ count_by (alike x.content) (take i v)
       → new ≡ slice_set old x.index m
@@ -229,7 +228,6 @@ module _ (k : Kind) (es : List Event) (v : List End) (are : AreByContent (ends_f
       ∙ ap (λ c. Some (count_by (tells k c) (take x.1.index es))) x.3
       ∙ ap (λ n. Some (count_by (tells k (content_of e)) (take n es))) x.4
 
--- the number of an event is read at its index
 pub number_is_told : (k : Kind) (es : List Event) (numbers : List ℕ) → CountAlike k es numbers
     → (i : ℕ) (e : Event) → slice_get es i ≡ Some e → (n : ℕ)
     → n ≡ unwrap_or (slice_get numbers i) 0 → kind_eq e.kind k ≡ true

@@ -1,4 +1,4 @@
--- One event more: how many pass a test, which is the nth that does, and contents that are one.
+-- One event more counts if it passes the test, and two contents that compare equal are equal.
 use Rattle.std.proofs.Common.{◌≡◌, ℕ, ◌+◌, ◌==◌, zero, suc, cond, Bool, true, List, [], ◌∷◌, ◌++◌}
 use Rattle.std.proofs.Common.{Some, refl, arith, ◌∙◌, ap, take, eq-eqb}
 use Rattle.std.specs.List.{count_by, slice_get}

@@ -1,5 +1,5 @@
--- A function's results for each event of a list and those before it: for one event more, and where
--- they are read.
+-- A list of results has the result for each event at the event's index, and for one event more one
+-- result more.
 use Rattle.std.proofs.Common.{◌≡◌, ℕ, ◌+◌, zero, suc, List, [], ◌∷◌, ◌++◌, take, drop, Some, arith}
 use Rattle.std.proofs.Common.{sym, ◌∙◌, ap, append_assoc, append-nil}
 use Rattle.std.specs.List.{slice_get}

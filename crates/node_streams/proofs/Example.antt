@@ -1,5 +1,5 @@
--- The examples: the one run keeps to what the laws ask. In the other one each of the two processes
--- would have to go first.
+-- The run `sends_twice` keeps to the premises of the laws. In `sends_unreported` each of two
+-- processes would have to go first.
 use Rattle.std.proofs.Common.{◌≡◌, ℕ, ◌||◌, true, false, List, [], ◌∷◌, take, Some, None, refl}
 use Rattle.std.proofs.Common.{arith, sym, ◌∙◌, ap, subst}
 use Rattle.std.specs.List.{slice_get}
@@ -87,7 +87,7 @@ unreported_shown = (refl, (refl, tt))
 pub nothing_unsent : unsent_among unreported_streams (pids_of unreported_streams) ≡ []
 nothing_unsent = refl
 
--- a process whose first event is a receive waits for its send
+-- a process can't go on if its next event is a receive whose send hasn't come
 waits : (p : Pid) (e : Event) (j : ℕ) → next_event unreported_streams [] p ≡ Some e
     → takes_message e ≡ true
     → send_of unreported_streams (take (turns p []) (events_of unreported_streams p)) e
@@ -106,7 +106,7 @@ no_others p apart other = ap (λ es. slice_get es (turns p []))
     (unlisted_events unreported_streams p
     (ap (λ b. b || (pid_eq server p || false)) apart ∙ ap (λ b. b || false) other))
 
--- nobody can go first: the first event of each is a receive, whose send is the other's second
+-- no process can go first: each begins with a receive whose send is the other's second event
 stuck : (p : Pid) → CanGo unreported_streams [] p → ⊥
 stuck p can = (elim (pid_eq client p) as (λ b. pid_eq client p ≡ b → ⊥) [
   | true ↦ λ same.

@@ -1,4 +1,4 @@
--- The lemmas that proofs of the crates above may cite. They hold by the definitions alone.
+-- The lemmas that proofs of the crates above may cite. They follow from the definitions alone.
 
 -- ---- the other ends of messages
 pub use Rattle.node_streams.proofs.OtherEnds.{IsNth, IsReceiveOf, IsSendOf, nth_is, partner_at}

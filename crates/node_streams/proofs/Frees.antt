@@ -1,4 +1,5 @@
--- Tells whether a process can go on, by how many turns it had and which send its next event took.
+-- A process's turns give its next event, which is free unless it is a receive whose send hasn't
+-- come.
 use Rattle.std.proofs.Common.{◌≡◌, ℕ, ◌<◌, ◌≤◌, cond, true, false, List, take, Option, Some, None}
 use Rattle.std.proofs.Common.{arith, sym, ◌∙◌, ap, subst}
 use Rattle.std.specs.List.{slice_get}
@@ -14,7 +15,6 @@ use Rattle.node_streams.specs.Messages.{takes_message, send_of, taken_send}
 use Rattle.node_streams.specs.Order.{CanGo, next_event, turns}
 
 module _ (streams : List Stream) (order : List Pid) (p : Pid) (n : ℕ) (is : n ≡ turns p order) where
-  -- who has no event left can't go on
   pub over_stays : slice_get (events_of streams p) n ≡ None → CanGo streams order p → ⊥
   over_stays none can =
       absurd (none-some can.event (sym none ∙ ap (slice_get (events_of streams p)) is ∙ can.next))
@@ -23,7 +23,6 @@ module _ (streams : List Stream) (order : List Pid) (p : Pid) (n : ℕ) (is : n 
     pub next_is : next_event streams order p ≡ Some e
     next_is = ap (slice_get (events_of streams p)) (sym is) ∙ here
 
-    -- a send or a print waits for nothing
     pub free_stamp : kind_eq e.kind kind.Receive ≡ false → CanGo streams order p
     free_stamp other = record {
       event = e;
@@ -39,7 +38,7 @@ module _ (streams : List Stream) (order : List Pid) (p : Pid) (n : ℕ) (is : n 
           ∙ ap (λ b. cond b (send_of streams (take (turns p order) (events_of streams p)) e) None)
           receive)
 
-      -- a receive is free if its send came
+      -- a receive is free if its send came, or has no send
       pub free_receive : ((j : ℕ) → send ≡ Some j → j < turns e.from order) → CanGo streams order p
       free_receive early = record {
         event = e;
@@ -47,7 +46,6 @@ module _ (streams : List Stream) (order : List Pid) (p : Pid) (n : ℕ) (is : n 
         sent = λ _ j sent. early j (sym send_is ∙ sent);
       }
 
-      -- else it waits
       pub receive_stays : (j : ℕ) → send ≡ Some j → turns e.from order ≤ j
           → CanGo streams order p → ⊥
       receive_stays j is_j late can =

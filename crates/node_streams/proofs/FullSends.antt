@@ -1,4 +1,5 @@
--- A process that reports its stamps reports its sends of tokens, and the streams list all that act.
+-- A process that reports its stamps reports its sends of tokens, and the streams list all
+-- processes that act.
 use Rattle.std.proofs.Common.{◌≡◌, true, false, cond, Bool, List, [], ◌∷◌, Some, None, is_some}
 use Rattle.std.proofs.Common.{refl, sym, ◌∙◌, subst}
 use Rattle.std.specs.List.{AllByRecursion}
@@ -28,7 +29,7 @@ send_moves : (r : Process) (a : Act) (q : Pid) → token_receiver r a ≡ Some q
 send_moves r (act.Send p x v) q is = some_if (is_some r.local.token) x q is
 send_moves r a q is = absurd (none-some q is)
 
--- what holds of each of the pids holds of each process at the start
+-- if P holds of all pids, it holds of each process at the start
 zero_all : (P : Pid → Type 0) (pids : List Pid) → AllByRecursion P pids → (p : Pid) (r : Process)
     → process (zero_state pids) p ≡ Some r → P p
 zero_all P [] all p r is = absurd (none-some r is)
@@ -40,7 +41,7 @@ zero_all P (q ∷ pids) all p r is =
       | false ↦ λ _ later. zero_all P pids all.1 p r later
     ]) refl is
 
--- each process is listed, and reports what it has to
+-- each process is listed, and reports its stamps and receives of tokens
 abbrev AllReport : List Stream → State → List NodeAct → List Outcome → Type 0
 AllReport streams s acts os = (p : Pid) (r : Process) → process s p ≡ Some r
     → (lists streams p ≡ true) × ReportsTokens p s acts os

@@ -1,6 +1,6 @@
--- A run gives its events an order: that of its acts. Up to each act at most as many messages of a
--- content were received, or lie in a queue with their tokens, as were sent and reported. So a
--- receive that comes after n alike ones had more than n alike sends before it.
+-- The order of a run's acts is one of its events. Up to each act at most as many messages of a
+-- content were received, or lie in a queue with their tokens, as were sent and reported: so a
+-- receive after n alike ones comes after more than n alike sends.
 use Rattle.std.proofs.Common.{◌≡◌, ℕ, ◌+◌, ◌≤◌, ◌<◌, ◌⊎◌, ◌&&◌, zero, suc, cond, Bool, true, false}
 use Rattle.std.proofs.Common.{List, [], ◌∷◌, ◌++◌, take, drop, Some, None, is_some, IsSome}
 use Rattle.std.proofs.Common.{option_to_list, inl, inr, refl, arith, sym, ◌∙◌, ap, subst}
@@ -68,7 +68,7 @@ none_dropped (x ∷ xs) (suc n) is = none_dropped xs n is
 
 -- COUNTS
 
--- how many of the events that q's turns brought pass the test
+-- the number of q's events so far that pass the test
 abbrev told : List Stream → List Pid → (Event → Bool) → Pid → ℕ
 told streams order test q = count_by test (take (turns q order) (events_of streams q))
 
@@ -94,7 +94,7 @@ told_more streams order test p q e next =
           ap (λ m. count_by test (take m es)) none ∙ sym (add_zero (count_by test (take n es)))
     ]) refl
 
--- the event's message has this content
+-- the event's message has the content
 abbrev pub is_content : MessageContent → Event → Bool
 is_content c e = content_eq (content_of e) c
 
@@ -113,7 +113,7 @@ pub send_no_receive : (k : Kind) (same : Bool) → kind_eq k kind.Send ≡ true
 send_no_receive kind.Send same is = refl
 send_no_receive k same is = absurd (false≢true is)
 
--- the turns are those that led to s, and these acts and outcomes are left
+-- the order led to s, and the acts and outcomes are left
 record IsReached (streams : List Stream) (order : List Pid) (s : State) (acts : List NodeAct)
     (os : List Outcome) : Type 0 where
   left : (p : Pid) → lists streams p ≡ true
@@ -123,7 +123,7 @@ record IsReached (streams : List Stream) (order : List Pid) (s : State) (acts : 
 
 -- ONE ACT
 
--- what an act must report
+-- an act that sends a token to a listed process reports it, and its actor is listed
 abbrev ReportsSend : List Stream → State → NodeAct → Outcome → Type 0
 ReportsSend streams s a o = (r : Process) → process s (node_actor a) ≡ Some r → (q : Pid)
     → token_receiver r (machine_act a) ≡ Some q → lists streams q ≡ true
@@ -136,7 +136,8 @@ module _ (streams : List Stream) (order : List Pid) (s : State) (a : NodeAct)
   abbrev p : Pid
   p = node_actor a
 
-  -- what the act does to the messages of a content in q's queue
+  -- q's queue has no more messages of the content than before, with the one that the act reports
+  -- as received
   abbrev Keeps : MessageContent → Pid → Type 0
   Keeps c q = alike_in (is_content c) o.after q
       + cond (pid_eq p q) (takes_alike (is_content c) o.report) 0
@@ -227,12 +228,12 @@ module _ (streams : List Stream) (order : List Pid) (s : State) (a : NodeAct)
               ∙ ap (λ b. cond b (option_to_list o.report) [] ++ node_stream rest others q) apart
         ]) refl
 
-    -- the event, if it is a receive of this content
+    -- the report counts as a receive of the content exactly if its event is one
     takes_is : (c : MessageContent)
         → takes_alike (is_content c) o.report ≡ cond (tells kind.Receive c e) 1 0
     takes_is c = ap (takes_alike (is_content c)) is
 
-    -- a send of a content is one of its sender
+    -- the sender of a content that the act sends is its actor
     sender_is : (c : MessageContent) → tells kind.Send c e ≡ true → pid_eq p c.from ≡ true
     sender_is c so =
         let parts = and_parts (kind_eq e.kind kind.Send) (is_content c e) so in

@@ -1,6 +1,5 @@
 -- No order of all events leads past turns after which no process can go on: the first of its turns
--- to do
--- so would be one of a process that can.
+-- that does would be one of a process that can.
 use Rattle.std.proofs.Common.{◌≡◌, ℕ, ◌+◌, ◌<◌, ◌≤◌, ◌⊎◌, cond, true, false, List, [], ◌∷◌, length}
 use Rattle.std.proofs.Common.{take, Some, None, inl, inr, refl, arith, sym, ◌∙◌, ap, subst, zero}
 use Rattle.std.proofs.Common.{suc}
@@ -31,7 +30,7 @@ less_or_same (suc m) (suc n) most = elim (less_or_same m n (omega arith)) [
 
 module _ (streams : List Stream) (order : List Pid)
     (stuck : (p : Pid) → CanGo streams order p → ⊥) where
-  -- who can go after earlier turns, of which as many were its own, can go now
+  -- a process that could go on after fewer turns, of which as many were its own, still can
   still_can : (before : List Pid) (p : Pid) → ((q : Pid) → turns q before ≤ turns q order)
       → turns p before ≡ turns p order → CanGo streams before p → CanGo streams order p
   still_can before p most same can = record {

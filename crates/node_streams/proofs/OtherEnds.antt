@@ -1,4 +1,4 @@
--- Two ends of a message are each other's: before each of them as many alike ones came.
+-- Two events are the ends of one message if as many alike ones come before each.
 use Rattle.std.proofs.Common.{◌≡◌, ℕ, ◌+◌, ◌&&◌, zero, suc, cond, Bool, true, false, List, [], ◌∷◌}
 use Rattle.std.proofs.Common.{take, Option, Some, None, option_map, refl, arith, sym, ◌∙◌, ap}
 use Rattle.std.proofs.Common.{subst}
@@ -47,7 +47,7 @@ nth_failed test zero e es is = ap (λ b. cond b (Some 0) (option_map suc (nth te
 nth_failed test (suc n) e es is =
     ap (λ b. cond b (option_map suc (nth test n es)) (option_map suc (nth test (suc n) es))) is
 
--- an event that passes comes after as many that do
+-- an event that passes comes after as many events as pass before it
 pub nth_counts : (test : Event → Bool) (es : List Event) (i : ℕ) (e : Event)
     → slice_get es i ≡ Some e → test e ≡ true → nth test (count_by test (take i es)) es ≡ Some i
 nth_counts test [] i e at is = absurd (none-some e at)
@@ -68,7 +68,7 @@ nth_counts test (d ∷ es) (suc i) e at is = (elim (test d) as (λ b. test d ≡
           ∙ ap (option_map suc) (nth_counts test es i e at is)
     ]) refl
 
--- and the event that comes after n of them, if there is one
+-- the event at index j passes, after n others that do
 pub record IsNth (test : Event → Bool) (n : ℕ) (es : List Event) (j : ℕ) : Type 0 where
   pub event : Event
   pub at : slice_get es j ≡ Some event
@@ -141,7 +141,7 @@ told_content k c e is =
     content_same (content_of e) c
     (and_parts (kind_eq e.kind k) (content_eq (content_of e) c) is).1
 
--- a send whose receive is event i of p
+-- event j of q is the send of the receive at event i of p
 pub record IsSendOf (streams : List Stream) (p : Pid) (i : ℕ) (q : Pid) (j : ℕ) : Type 0 where
   pub event : Event
   pub at : slice_get (events_of streams q) j ≡ Some event
@@ -149,7 +149,7 @@ pub record IsSendOf (streams : List Stream) (p : Pid) (i : ℕ) (q : Pid) (j : �
   pub receiver : owner kind.Receive (content_of event) ≡ p
   pub received : other_end_of streams (take j (events_of streams q)) event ≡ Some i
 
--- a receive of the message that event j of q sends
+-- event i of p is the receive of the message that event j of q sends
 pub record IsReceiveOf (streams : List Stream) (q : Pid) (j : ℕ) (p : Pid) (i : ℕ) : Type 0 where
   pub event : Event
   pub at : slice_get (events_of streams p) i ≡ Some event
@@ -157,7 +157,7 @@ pub record IsReceiveOf (streams : List Stream) (q : Pid) (j : ℕ) (p : Pid) (i 
   pub sender : event.from ≡ q
   pub sent : send_of streams (take i (events_of streams p)) event ≡ Some j
 
--- the partner of an event, as one of this kind
+-- the index of an event's other end, by the event's kind
 abbrev partner_by : List Stream → List Event → Event → Kind → Option ℕ
 partner_by streams before e k = let c = content_of e in elim k as (λ _. Option ℕ) [
   | kind.Send ↦ nth (tells kind.Receive c) (count_by (tells kind.Send c) before)

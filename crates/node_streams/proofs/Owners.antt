@@ -1,4 +1,4 @@
--- Each event of streams is its process's own.
+-- A stream has only events of its own process, so an event tells who reports its message.
 use Rattle.std.proofs.Common.{◌≡◌, ℕ, zero, suc, true, false, cond, List, [], ◌∷◌, Option, Some}
 use Rattle.std.proofs.Common.{None, is_some, refl, ap, subst}
 use Rattle.std.specs.Prelude.{is_none}
@@ -63,7 +63,7 @@ send_from p e own is = (elim e.kind as (λ k. is_of k e.from e.to p ≡ true
       | kind.Receive ↦ λ _ other. absurd (false≢true other)
     ]) own is
 
--- an event of p's is the end of a message that p reports
+-- the owner of the message of an event of p is p
 pub owner_is : (p : Pid) (e : Event) → is_own p e ≡ true → owner e.kind (content_of e) ≡ p
 owner_is p e own = (elim e.kind as (λ k. is_of k e.from e.to p ≡ true
     → owner k (content_of e) ≡ p) [

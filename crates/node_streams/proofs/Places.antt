@@ -1,4 +1,4 @@
--- The number at the place of a process: where it is read, and what one that is put there changes.
+-- A process's number is at its place, and putting a number there changes that of no other process.
 use Rattle.std.proofs.Common.{◌≡◌, ◌≢◌, ℕ, ◌<◌, zero, suc, cond, Bool, true, false, List, [], ◌∷◌}
 use Rattle.std.proofs.Common.{length, replicate, Some, refl, sym, ◌∙◌, ap, arith}
 use Rattle.std.specs.List.{AllByRecursion, slice_get, slice_set}

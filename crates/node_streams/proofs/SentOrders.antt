@@ -1,4 +1,4 @@
--- In an order in which each receive comes after its send, each has one: so if the order has all
+-- In an order in which each receive comes after a send, each has one: so if the order has all
 -- events, none is unsent.
 use Rattle.std.proofs.Common.{◌≡◌, ℕ, ◌+◌, ◌<◌, ◌&&◌, zero, suc, cond, Bool, true, false, List, []}
 use Rattle.std.proofs.Common.{◌∷◌, ◌++◌, length, take, Some, None, option_map, inl, inr, refl}
@@ -19,7 +19,7 @@ use Rattle.node_streams.proofs.Counting.{turns_more}
 use Rattle.node_streams.proofs.Orders.{less_or_same, past_end}
 use Rattle.node_machine.proofs.ForCallers.{count_first}
 
--- after these turns p has an event left, and if that is a receive, it has a send, which came
+-- after the turns p has an event left, and if it is a receive, it has a send, which came
 pub record GoesSent (streams : List Stream) (order : List Pid) (p : Pid) : Type 0 where
   pub event : Event
   pub next : next_event streams order p ≡ Some event
@@ -31,7 +31,7 @@ abbrev pub IsSentOrder : List Stream → List Pid → Type 0
 IsSentOrder streams [] = Unit {0}
 IsSentOrder streams (p ∷ order) = GoesSent streams order p × IsSentOrder streams order
 
--- all events have such an order
+-- all events have an order in which each receive comes after its send
 pub record HaveSentOrder (streams : List Stream) : Type 0 where
   pub order : List Pid
   pub is_order : IsSentOrder streams order
@@ -126,7 +126,7 @@ module _ (streams : List Stream) where
 
 -- THE SEND OF A RECEIVE
 
--- the event that passes the test after k others, if more than k do among the first n
+-- the event that passes after k others is among the first n, if more than k pass there
 pub nth_within : (test : Event → Bool) (es : List Event) (n k : ℕ)
     → k < count_by test (take n es)
     → (j : ℕ) × (nth test k es ≡ Some j) × (j < n)

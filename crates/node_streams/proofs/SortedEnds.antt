@@ -1,5 +1,5 @@
--- Ends that are sorted by content, alike ones in their order: those of one content stand together,
--- so that the nth of them is found from the first, and it is the nth event that tells of it.
+-- A sort by content puts the ends of one content together, in their order: so the nth of them is
+-- found from the first, and is that of the nth event that tells of the content.
 use Rattle.std.proofs.Common.{◌≡◌, ℕ, ◌+◌, ◌<◌, ◌≤◌, ◌==◌, ◌&&◌, zero, suc, cond, Bool, true, false}
 use Rattle.std.proofs.Common.{List, [], ◌∷◌, ◌++◌, length, get_or, drop, Option, Some, None, ◌⊎◌}
 use Rattle.std.proofs.Common.{inl, inr, append_assoc, ltb, option_map, refl, arith, sym, ◌∙◌, ap}
@@ -80,7 +80,6 @@ tied Less r is = ap (λ x. not (is_lt x) && false) is
 tied Equal r is = ap (λ x. not (is_lt x) && true) is
 tied Greater r is = ap (λ x. not (is_lt x) && true) is
 
--- an end of the content, wherever it is
 abbrev pub end_of : MessageContent → End
 end_of c = record { content = c; index = 0 }
 
@@ -90,7 +89,7 @@ alike_ties c y =
     (content_total.antisymm c y.content)
     ∙ eq_content y.content c
 
--- what a stable sort by content leaves
+-- a stable sort by content leaves the ends by their content
 pub by_content : (all sorted : List End)
     → IsSortedByKey (λ (x : End). x.content) content_cmp sorted
     → ((x : End) → filter (ties below x) sorted ≡ filter (ties below x) all)
@@ -155,7 +154,7 @@ module _ {X : Type 0} (rank : X → ℕ) where
       let least = up 0 (suc k) d (omega arith) (omega (arith, within)) in
       omega (arith, least, far)
 
-  -- those of rank 1 come first among those that aren't below
+  -- if no rank is below 1, the items of rank 1 come first
   in_group : (xs : List X) (n : ℕ) → Rises xs
       → ((k : ℕ) (d : X) → k < length xs → 1 ≤ rank (get_or xs k d))
       → slice_get (filter one xs) n ≡ found_by one (slice_get xs n)
@@ -246,7 +245,7 @@ module _ (all v : List End) (are : AreByContent all v) (c : MessageContent) wher
       (λ k d past inside. index_least (content_cmp (get_or v k d).content c)
       (point.1 k d past inside)))
 
-  -- what is read there
+  -- the end read there is the nth of its content
   pub nth_read : (first n : ℕ) (o : Option End) → first ≤ length v
       → IsPartitionPoint (λ x. below_content c x ≡ true) (λ x. below_content c x ≡ false) v first
       → o ≡ slice_get (drop first v) n
@@ -327,7 +326,7 @@ module _ (k : Kind) (es : List Event) (i : ℕ) (e : Event) (at : slice_get es i
       ∙ ap (λ xs. old ++ ends_from k i xs) (sym (first_left es i e at))
       ∙ so_far
 
--- a list with one element more is read so
+-- an item of a list with one more is one of the list, or the one at its end
 pub got_more : {A : Type 0} (xs : List A) (x y : A) (i : ℕ) → slice_get (xs ++ x ∷ []) i ≡ Some y
     → (slice_get xs i ≡ Some y) ⊎ ((i ≡ length xs) × (x ≡ y))
 got_more [] x y zero at = inr (refl, same_Some x y at)

@@ -1,4 +1,4 @@
--- The send that an event took, as the table of a process has it.
+-- The send that an event took is at its index in its process's list.
 use Rattle.std.proofs.Common.{◌≡◌, ℕ, ◌&&◌, cond, Bool, true, false, List, take, Option, Some, None}
 use Rattle.std.proofs.Common.{option_and_then, refl, ◌∙◌, ap}
 use Rattle.std.specs.List.{slice_get}

@@ -1,4 +1,4 @@
--- Follows what a turn does to the counts of the walk, and processes that are listed before.
+-- A turn adds one to its process's number, so it leaves fewer events.
 use Rattle.std.proofs.Common.{◌≡◌, ℕ, ◌+◌, ◌-◌, ◌≤◌, ◌<◌, ◌||◌, suc, cond, true, false, List, []}
 use Rattle.std.proofs.Common.{◌∷◌, length, replicate, Option, Some, None, IfNone, Result, Ok, Err}
 use Rattle.std.proofs.Common.{OnOk, refl, arith, sym, ◌∙◌, ap}
@@ -41,7 +41,7 @@ unlisted_events (x ∷ streams) p is = (elim (pid_eq x.pid p) as (λ b.
       | false ↦ λ so. unlisted_events streams p so
     ]) is
 
--- so what holds of those that are, and of each without events, holds of all
+-- what holds of each listed process, and of each without events, holds of all
 pub any_process : (streams : List Stream) (P : Pid → Type 0)
     → ((i : ℕ) (p : Pid) → slice_get (pids_of streams) i ≡ Some p → P p)
     → ((p : Pid) → events_of streams p ≡ [] → P p) → (p : Pid) → P p
@@ -106,7 +106,7 @@ pub if_none : {A : Type 0} {P Q : Type 0} (o : Option A) → (P → Q) → IfNon
 if_none None then is = then is
 if_none (Some x) then is = tt
 
--- how many events a process has left
+-- the number of events that a process has left
 abbrev left_of : (Pid → ℕ) → Stream → ℕ
 left_of done s = length s.events - done s.pid
 

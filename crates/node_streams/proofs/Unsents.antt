@@ -1,4 +1,4 @@
--- The places of unsent receives, with one event more.
+-- One event more adds its place if it is unsent.
 use Rattle.std.proofs.Common.{◌≡◌, ℕ, ◌+◌, ◌≤◌, zero, suc, cond, Bool, List, [], ◌∷◌, ◌++◌, length}
 use Rattle.std.proofs.Common.{take, drop, Some, refl, arith, sym, ◌∙◌, ap, append_assoc}
 use Rattle.std.specs.List.{slice_get}

@@ -1,4 +1,4 @@
--- Two runs of two processes.
+-- Two runs of two processes: one keeps to the premises of the laws, one leaves a send unreported.
 use Rattle.std.specs.Prelude.{false, true, List, [], ◌∷◌, Some}
 use Rattle.st_core.specs.declared.types.Pid.{Pid}
 use Rattle.st_core.specs.declared.types.Token.{Token}
@@ -15,7 +15,7 @@ client = record { node = 0; number = 1 }
 abbrev pub server : Pid
 server = record { node = 0; number = 2 }
 
--- a token of the client's whose sends are reported, with count 0
+-- a token of the client's with count 0, whose sends are reported
 abbrev pub start_token : Token
 start_token = record {
   label = record { 0 = 0 };
@@ -24,23 +24,23 @@ start_token = record {
   from = client;
 }
 
--- the same, but its sends aren't reported
+-- the start token, but its sends aren't reported
 abbrev pub quiet_token : Token
 quiet_token = record start_token { flags = record start_token.flags { send = false } }
 
--- that token after its first stamp
+-- the start token after its first stamp
 abbrev pub first_stamp : Token
 first_stamp = record start_token { serial = record { prev = 0; this = 1 } }
 
--- The client sends one message twice, since it puts its token back in between. A reset takes the
--- second one's token away.
+-- The client sends the same message twice, since it puts its token back in between. A reset takes
+-- the token of the second one away.
 abbrev pub sends_twice : List NodeAct
 sends_twice = Common (act.Tracer client true) ∷ Common (act.Restore client start_token)
     ∷ Common (act.Send client server 5) ∷ Common (act.Restore client start_token)
     ∷ Common (act.Send client server 5) ∷ Common (act.Receive server want.First)
     ∷ Common (act.Reset client) ∷ Common (act.Receive server want.First) ∷ []
 
--- its streams: both sends, and the receive of one
+-- the streams of `sends_twice`: both sends, and the receive of one
 abbrev pub twice_streams : List Stream
 twice_streams = record {
   pid = client;
@@ -51,8 +51,8 @@ twice_streams = record {
   events = token_event kind.Receive first_stamp (Some server) 5 ∷ [];
 } ∷ []
 
--- The client sends a message and doesn't report that. The server receives it and replies. Only when
--- the client has the reply, it sends the message once more, and reports that.
+-- The client sends a message and doesn't report it. The server receives it and replies. Once the
+-- client has the reply, it sends the message again, and reports it.
 abbrev pub sends_unreported : List NodeAct
 sends_unreported = Common (act.Tracer client true) ∷ Common (act.Restore client quiet_token)
     ∷ Common (act.Send client server 5) ∷ Common (act.Receive server want.First)
@@ -64,7 +64,8 @@ sends_unreported = Common (act.Tracer client true) ∷ Common (act.Restore clien
 abbrev pub reply_stamp : Token
 reply_stamp = record first_stamp { from = server }
 
--- its streams: the reported send seems to be that of the message that was received long before
+-- the streams of `sends_unreported`: the reported send seems to be that of the message that was
+-- received long before
 abbrev pub unreported_streams : List Stream
 unreported_streams = record {
   pid = client;

@@ -1,4 +1,4 @@
--- The definitions: which send each receive took, an order of all events, and the runs that have
+-- The definitions: the send that each receive took, an order of all events, and the runs that have
 -- both, with examples.
 pub mod Messages
 pub mod Order

@@ -1,5 +1,5 @@
--- Which send a receive took. Counts may repeat on a node, so a message is known by all that its
--- events say of it, and messages that are alike are taken in order.
+-- The send that a receive took. Counts may repeat on a node, so a message is known by all that its
+-- events say of it, and alike messages are taken in order.
 use Rattle.std.specs.Prelude.{ℕ, ◌==◌, ◌&&◌, zero, suc, Bool, List, [], ◌∷◌, ◌++◌, length}
 use Rattle.std.specs.Prelude.{Option, Some, None, option_map, if◌then◌else◌, is_none, count_by, map}
 use Rattle.std.specs.Option.{unwrap_or}
@@ -13,7 +13,7 @@ use Rattle.st_core.specs.Run.{Stream}
 use Rattle.st_core.specs.Streams.{events_of}
 use Rattle.node_streams.specs.declared.content.MessageContent.{MessageContent}
 
--- what an event says of its message
+-- the message of an event, as the event tells it
 abbrev pub content_of : Event → MessageContent
 content_of e = record {
   from = e.from;
@@ -28,25 +28,25 @@ abbrev pub content_eq : MessageContent → MessageContent → Bool
 content_eq c d = pid_eq c.from d.from && (to_eq c.to d.to
     && (c.label == d.label && (c.prev == d.prev && (c.this == d.this && c.value == d.value))))
 
--- the event is of this kind, and its message has this content
+-- whether the event is of kind k, and its message has the content c
 abbrev pub tells : Kind → MessageContent → Event → Bool
 tells k c e = kind_eq e.kind k && content_eq (content_of e) c
 
--- the index of the event that passes the test after n others that do
+-- the index of the event that passes the test after n others
 abbrev pub nth : (Event → Bool) → ℕ → List Event → Option ℕ
 nth test n [] = None
 nth test n (e ∷ es) = if test e
     then elim n [ zero ↦ Some 0 | suc m ↦ option_map suc (nth test m es) ]
     else option_map suc (nth test n es)
 
--- the process that reports an end of this kind of such a message
+-- the process that reports a message's end of the kind: its sender, or its receiver
 abbrev pub owner : Kind → MessageContent → Pid
 owner kind.Send c = c.from
 owner kind.Receive c = unwrap_or c.to c.from
 owner kind.Print c = c.from
 
 -- the index of the send that a receive took, in its sender's stream: as many alike messages were
--- sent before it as were received among the events before the receive. None if too few were sent
+-- sent before it as its process had received before. None if too few were sent
 abbrev pub send_of : List Stream → List Event → Event → Option ℕ
 send_of streams before e =
     (let c = content_of e in
@@ -55,25 +55,26 @@ send_of streams before e =
 abbrev pub takes_message : Event → Bool
 takes_message e = kind_eq e.kind kind.Receive
 
--- a receive of a message that nobody sent, as far as was reported
+-- whether an event is the receive of a message that nobody sent, as far as was reported
 abbrev pub is_unsent : List Stream → List Event → Event → Bool
 is_unsent streams before e = takes_message e && is_none (send_of streams before e)
 
--- the places of such receives among these events of p, which reported the others before
+-- the places of unsent receives among the events, before which p reported others
 abbrev pub unsent_from : List Stream → Pid → List Event → List Event → List (Pid × ℕ)
 unsent_from streams p before [] = []
 unsent_from streams p before (e ∷ es) =
     (if is_unsent streams before e then (p, length before) ∷ [] else [])
     ++ unsent_from streams p (before ++ e ∷ []) es
 
--- those of these processes
+-- the places of unsent receives in the streams of the processes
 abbrev pub unsent_among : List Stream → List Pid → List (Pid × ℕ)
 unsent_among streams [] = []
 unsent_among streams (p ∷ ps) =
     unsent_from streams p [] (events_of streams p) ++ unsent_among streams ps
 
--- the index of a message's other end, in the stream of the process that reports that: of a receive
--- its send, of a send its receive, which is found in the same way; none if too few were reported
+-- the index of the other end of an event's message, in the stream of the process that reports it:
+-- a receive's send, or a send's receive, which is found in the same way; none if too few were
+-- reported
 abbrev pub other_end_of : List Stream → List Event → Event → Option ℕ
 other_end_of streams before e = let c = content_of e in elim e.kind [
   | kind.Send ↦ nth (tells kind.Receive c) (count_by (tells kind.Send c) before)
@@ -82,7 +83,7 @@ other_end_of streams before e = let c = content_of e in elim e.kind [
   | kind.Print ↦ None
 ]
 
--- what a function has of each of these events and of those before it, of which these are the first
+-- the results of f for each event and the events before it, which begin with the given ones
 abbrev pub each_from : {A : Type 0} → (List Event → Event → A) → List Event → List Event → List A
 each_from f before [] = []
 each_from f before (e ∷ es) = f before e ∷ each_from f (before ++ e ∷ []) es
@@ -90,18 +91,18 @@ each_from f before (e ∷ es) = f before e ∷ each_from f (before ++ e ∷ []) 
 abbrev pub partners : List Stream → List Event → List (Option ℕ)
 partners streams es = each_from (other_end_of streams) [] es
 
--- those of each process
+-- the partners in each process's stream
 abbrev pub all_partners : List Stream → List (List (Option ℕ))
 all_partners streams = map (λ x. partners streams x.events) streams
 
--- the index of the send that an event took, if it is a receive
+-- the index of the send that an event took, if the event is a receive
 abbrev pub taken_send : List Stream → List Event → Event → Option ℕ
 taken_send streams before e = if takes_message e then send_of streams before e else None
 
--- those of a process's events
+-- the sends that a process's events took
 abbrev pub taken_sends : List Stream → List Event → List (Option ℕ)
 taken_sends streams es = each_from (taken_send streams) [] es
 
--- those of each process
+-- the sends that each process's events took
 abbrev pub all_taken_sends : List Stream → List (List (Option ℕ))
 all_taken_sends streams = map (λ x. taken_sends streams x.events) streams

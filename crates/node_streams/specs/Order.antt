@@ -1,4 +1,4 @@
--- An order of all events, in which each receive comes after its send.
+-- An order of all events in which each receive comes after its send.
 use Rattle.std.specs.Prelude.{◌≡◌, ℕ, ◌<◌, true, List, [], ◌∷◌, take, Option, Some, None, slice_get}
 use Rattle.std.specs.Prelude.{count_by}
 use Rattle.st_core.specs.declared.types.Pid.{Pid}
@@ -8,16 +8,16 @@ use Rattle.st_core.specs.Run.{Stream}
 use Rattle.st_core.specs.Streams.{events_of}
 use Rattle.node_streams.specs.Messages.{takes_message, send_of}
 
--- how many of the turns were p's
+-- the number of p's turns in the order
 abbrev pub turns : Pid → List Pid → ℕ
 turns p order = count_by (λ q. pid_eq q p) order
 
--- p's next event, after these turns
+-- p's next event after the turns
 abbrev pub next_event : List Stream → List Pid → Pid → Option Event
 next_event streams order p = slice_get (events_of streams p) (turns p order)
 
--- after these turns p has an event left, and if that is a receive, its send came, unless it wasn't
--- reported
+-- after the turns p can go on: it has an event left, and if that is a receive, its send came,
+-- unless it wasn't reported
 pub record CanGo (streams : List Stream) (order : List Pid) (p : Pid) : Type 0 where
   pub event : Event
   pub next : next_event streams order p ≡ Some event
@@ -25,7 +25,7 @@ pub record CanGo (streams : List Stream) (order : List Pid) (p : Pid) : Type 0 w
       → send_of streams (take (turns p order) (events_of streams p)) event ≡ Some j
       → j < turns event.from order
 
--- events in an order, by the process of each, the last one first
+-- the order, its last turn first, has only turns of processes that can go on
 abbrev pub IsTurnOrder : List Stream → List Pid → Type 0
 IsTurnOrder streams [] = Unit {0}
 IsTurnOrder streams (p ∷ order) = CanGo streams order p × IsTurnOrder streams order

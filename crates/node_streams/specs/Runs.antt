@@ -1,6 +1,5 @@
--- Runs of the node whose streams these are. Each token that reaches a listed process was sent by
--- one, which reported that. Nothing is asked of other sends, of prints and receives, of the tokens
--- that are put back, or of resets.
+-- Runs in which each token that reaches a listed process was sent by a listed one, which reported
+-- the send. Other sends, prints and receives may go unreported, and put-backs and resets are free.
 use Rattle.std.specs.Prelude.{◌≡◌, true, List, [], ◌∷◌, map, Option, Some, None, if◌then◌else◌}
 use Rattle.std.specs.Prelude.{is_some, IsSome}
 use Rattle.std.specs.List.{AllByRecursion}
@@ -18,12 +17,12 @@ use Rattle.node_machine.specs.Node.{machine_act, NodeAct, node_actor, node_run}
 abbrev pub node_stream : List NodeAct → List Outcome → Pid → List Event
 node_stream acts os p = stream (map machine_act acts) os p
 
--- the process to which an act sends its actor's token, if it sends one
+-- the process to which an act sends its actor's token, if it sends it
 abbrev pub token_receiver : Process → Act → Option Pid
 token_receiver r (act.Send p q v) = if is_some r.local.token then Some q else None
 token_receiver r a = None
 
--- each token that is sent to a listed process, in a run from s, a listed one sends and reports
+-- in a run from s each send of a token to a listed process is by a listed one, and is reported
 abbrev pub ReportSends : List Stream → State → List NodeAct → List Outcome → Type 0
 ReportSends streams s [] os = Unit {0}
 ReportSends streams s (a ∷ rest) [] = Unit {0}
@@ -37,7 +36,8 @@ ReportSends streams s (a ∷ rest) (o ∷ os) =
 abbrev pub AreReported : List Stream → List NodeAct → List Outcome → Type 0
 AreReported streams acts os = AllByRecursion (λ x. node_stream acts os x.pid ≡ x.events) streams
 
--- the acts have a run over these pids in which sends are reported so, and which has these streams
+-- the acts have a run over the pids that has the streams, and in which sends are reported as
+-- `ReportSends` says
 pub record AreStreamsOf (streams : List Stream) (pids : List Pid) (acts : List NodeAct)
     (os : List Outcome) : Type 0 where
   pub runs : node_run pids acts ≡ Some os

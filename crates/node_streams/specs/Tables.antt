@@ -20,19 +20,19 @@ use Rattle.node_streams.specs.declared.walk.Walk.{Walk}
 use Rattle.node_streams.specs.Messages.{content_eq, content_of, taken_sends, tells}
 use Rattle.node_streams.specs.Order.{CanGo, IsTurnOrder, next_event, turns}
 
--- for each event of this kind among these, by its index, the number of alike ones before it
+-- the numbers have, at the index of each event of kind k, how many alike ones come before it
 abbrev pub CountAlike : Kind → List Event → List ℕ → Type 0
 CountAlike k es numbers = (i : ℕ) (e : Event) → slice_get es i ≡ Some e → kind_eq e.kind k ≡ true
     → slice_get numbers i ≡ Some (count_by (tells k (content_of e)) (take i es))
 
--- the ends of this kind among these events, of which the first has this index
+-- the ends of kind k among the events, the first of which has index i
 abbrev pub ends_from : Kind → ℕ → List Event → List End
 ends_from k i [] = []
 ends_from k i (e ∷ es) =
     (if kind_eq e.kind k then record { content = content_of e; index = i } ∷ [] else [])
     ++ ends_from k (i + 1) es
 
--- an end of this content
+-- whether an end has the content
 abbrev pub alike : MessageContent → End → Bool
 alike c x = content_eq x.content c
 
@@ -43,62 +43,62 @@ content_cmp c d = ordering_then (pid_cmp c.from d.from)
     (ordering_then (nat_cmp c.label d.label) (ordering_then (nat_cmp c.prev d.prev)
     (ordering_then (nat_cmp c.this d.this) (nat_cmp c.value d.value)))))
 
--- a list has these ends by their content, alike ones in their order
+-- a list has the ends sorted by content, alike ones in their order
 pub record AreByContent (all sorted : List End) : Type 0 where
   pub rise : IsSortedByKey (λ (x : End). x.content) content_cmp sorted
   pub groups : (c : MessageContent) → filter (alike c) sorted ≡ filter (alike c) all
 
--- the lists have the ends of this kind of each process
+-- the lists have the ends of kind k of each process, sorted by content
 pub record AreEnds (k : Kind) (streams : List Stream) (lists : List (List End)) : Type 0 where
   pub each : length lists ≡ length (pids_of streams)
   pub sorted : (i : ℕ) (p : Pid) (v : List End) → slice_get (pids_of streams) i ≡ Some p
       → slice_get lists i ≡ Some v → AreByContent (ends_from k 0 (events_of streams p)) v
 
--- the index of an end, if it is of this content
+-- the index of an end, if the end has the content
 abbrev pub index_if : MessageContent → Option End → Option ℕ
 index_if c None = None
 index_if c (Some x) = if alike c x then Some x.index else None
 
--- the lists have the sends of streams
+-- the lists have the sends of the streams
 pub record AreSends (streams : List Stream) (sends : List (List End)) : Type 0 where
   pub sound : IsStreams streams
   pub sent : AreEnds kind.Send streams sends
 
--- and these the sends and the receives
+-- the lists have the sends and the receives of the streams
 pub record AreBothEnds (streams : List Stream) (sends receives : List (List End)) : Type 0 where
   pub sound : IsStreams streams
   pub sent : AreEnds kind.Send streams sends
   pub received : AreEnds kind.Receive streams receives
 
--- the number at the place of p among pids, 0 if there is none
+-- the number at p's place among the pids, 0 if p isn't there
 abbrev pub number_by_pid : List Pid → List ℕ → Pid → ℕ
 number_by_pid [] ns p = 0
 number_by_pid (q ∷ qs) [] p = 0
 number_by_pid (q ∷ qs) (n ∷ ns) p = if pid_eq q p then n else number_by_pid qs ns p
 
--- how many events of p came
+-- the number of p's events that the walk has passed
 abbrev pub done_in : List Stream → Walk → Pid → ℕ
 done_in streams w p = number_by_pid (pids_of streams) w.done.items p
 
--- the walk is where these turns lead
+-- the walk is where the turns lead
 pub record IsAt (streams : List Stream) (order : List Pid) (w : Walk) : Type 0 where
   pub each : length w.done.items ≡ length (pids_of streams)
   pub done : (p : Pid) → done_in streams w p ≡ turns p order
 
--- some turns lead to where the walk is
+-- some order leads to where the walk is
 pub record IsReached (streams : List Stream) (w : Walk) : Type 0 where
   pub order : List Pid
   pub is_order : IsTurnOrder streams order
   pub at : IsAt streams order w
 
--- p is at place i, has these events, and took these sends
+-- the process at place i is p, which has the events, and they took the sends
 pub record AreOf (streams : List Stream) (i : ℕ) (p : Pid) (events : List Event)
     (taken : List (Option ℕ)) : Type 0 where
   pub place : slice_get (pids_of streams) i ≡ Some p
   pub own : events ≡ events_of streams p
   pub sends : taken ≡ taken_sends streams (events_of streams p)
 
--- after these turns the process at place i can go on, with this event
+-- after the turns the process at place i can go on with the event e
 pub record GoesNext (streams : List Stream) (order : List Pid) (i : ℕ) (e : Event) : Type 0 where
   pub pid : Pid
   pub place : slice_get (pids_of streams) i ≡ Some pid

@@ -1,5 +1,5 @@
-//! How many alike messages were told before that of each event. The ends are sorted for that, since
-//! whoever writes a trace could choose contents whose hashes meet.
+//! The number of alike messages before each event's. The ends are sorted for it, since whoever
+//! writes a trace could choose contents whose hashes meet.
 
 ghost use Rattle.std.specs.Prelude.{◌≡◌, ◌+◌, false, IfOk, if◌then◌else◌};
 ghost use Rattle.std.specs.Option.{option_map_or};
@@ -12,7 +12,8 @@ use crate::numbers::put;
 use st_core::{Event, Kind};
 use std::alloc::{AllocError, Global};
 
-/// The number of alike ends before one, if the end before it is this one with its number.
+/// Returns the number of alike ends before an end with the content, from the last end before it
+/// and that end's number.
 fn number_after(
     last: Option<MessageContent>,
     number: u64,
@@ -34,7 +35,7 @@ fn number_after(
     }
 }
 
-/// For each event of this kind the number of alike ones before it, and 0 for the others.
+/// Returns for each event of a kind the number of alike ones before it, and 0 for the others.
 pub(crate) fn alike_before(
     alloc: Global,
     kind: Kind,

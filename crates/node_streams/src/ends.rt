@@ -29,16 +29,14 @@ fn is_of_kind(kind: Kind, event: &Event) -> bool
     }
 }
 
-/// The reported end of a message.
+/// A reported end of a message.
 #[derive(Clone, Copy, Debug, PartialEq, Eq)]
 pub(crate) struct End {
-    /// The message, as this end tells it.
     pub(crate) content: MessageContent,
-    /// Its index in its process's stream.
+    /// The index of the end's event in its process's stream.
     pub(crate) index: u64,
 }
 
-/// The ends of this kind among a process's events, in order.
 fn own_ends(alloc: Global, kind: Kind, events: &[Event]) -> Result<Vec<End>, AllocError>
     ensures { IfOk result (λ v. v.items ≡ ends_from kind 0 events.now) }
 {
@@ -59,7 +57,7 @@ fn own_ends(alloc: Global, kind: Kind, events: &[Event]) -> Result<Vec<End>, All
     Ok(ends)
 }
 
-/// The ends of this kind among a process's events, by their content.
+/// Returns the ends of a kind among a process's events, sorted by content.
 pub(crate) fn ends_by_content(
     alloc: Global,
     kind: Kind,
@@ -72,7 +70,7 @@ pub(crate) fn ends_by_content(
     Ok(ends)
 }
 
-/// The end at this index of those from this place on.
+/// Returns the end `number` places after the one at `first`.
 fn end_behind(ends: &[End], first: usize, number: u64) -> Option<End>
     requires { first ≤ length ends.now }
     ensures { result ≡ slice_get (drop first ends.now) number }
@@ -80,7 +78,6 @@ fn end_behind(ends: &[End], first: usize, number: u64) -> Option<End>
     ends[first..].get(number as usize).copied()
 }
 
-/// The index of an end, if there is one and it is of this content.
 fn index_if(content: MessageContent, end: Option<End>) -> Option<u64>
     ensures { result ≡ index_if content end }
 {
@@ -96,8 +93,8 @@ fn index_if(content: MessageContent, end: Option<End>) -> Option<u64>
     }
 }
 
-/// The index of the end of this content that comes after this many alike ones, among ends that are
-/// sorted by their content.
+/// Returns the index of the end with a content that comes after `number` alike ones, among ends
+/// sorted by content.
 fn nth_end(ends: &[End], content: MessageContent, number: u64) -> Option<u64>
     ensures { (all : List EndValue) → AreByContent all ends.now
         → result ≡ option_map (λ x. x.index) (slice_get (filter (alike content) all) number) }
@@ -106,7 +103,7 @@ fn nth_end(ends: &[End], content: MessageContent, number: u64) -> Option<u64>
     index_if(content, end_behind(ends, first, number))
 }
 
-/// The ends of this kind of all processes, each by its content.
+/// Returns the ends of a kind of each process, sorted by content.
 pub(crate) fn all_ends(
     alloc: Global,
     streams: &Streams,
@@ -123,7 +120,7 @@ pub(crate) fn all_ends(
     Ok(lists)
 }
 
-/// The index, in the stream of this process, of its end of this content that comes after this many
+/// Returns the index, in a process's stream, of its end with a content that comes after `number`
 /// alike ones.
 pub(crate) fn place(
     streams: &Streams,

@@ -1,4 +1,4 @@
-//! The judge of streams as a whole.
+//! The judge of all streams together.
 
 ghost use Rattle.std.specs.Prelude.{◌≡◌, ◌≢◌, List, [], IfOk};
 ghost use Rattle.st_core.specs.Run.{pids_of};
@@ -15,22 +15,22 @@ use crate::sends::all_taken_sends;
 use st_core::{Pid, Streams};
 use std::alloc::{AllocError, Global};
 
-/// The findings about the messages of streams. A place is a process and the index of one of its
-/// events.
+/// What the messages of all streams show. A place is a process and the index of one of its events.
 #[derive(Drop)]
 pub struct Judgement {
-    /// The receives of messages of which no send is left, in the order of the text: as many alike
-    /// ones were received before as were sent, as far as was reported.
+    /// The receives of messages of which no send is left, in the order of the text: before each,
+    /// no fewer alike ones were received than were sent, as far as was reported.
     pub unsent: Vec<(Pid, u64)>,
-    /// No places if all events have an order in which each comes after those of its process before
-    /// it, and a receive after its send. Else the next events, all of them receives that wait for
-    /// their sends, of the processes that can't go on.
+    /// Empty if all events have an order in which each comes after those of its process before it,
+    /// and a receive after its send. Else the next events of the processes that can't go on, all
+    /// of them receives that wait for their sends.
     pub cycle: Vec<(Pid, u64)>,
 }
 
 /// Pairs each receive with its send, and looks for an order of all events. If a receive is unsent
 /// or there is a cycle, a standard node has no run with these streams in which each token that
-/// reached a listed process was sent by one, which reported that. Fails only if memory runs out.
+/// reached a listed process was sent by a listed one, which reported the send. Fails only if
+/// memory runs out.
 pub fn judge(alloc: Global, streams: &Streams) -> Result<Judgement, AllocError>
     ensures unsent { IfOk result (λ j. j.unsent.items
         ≡ unsent_among streams.now (pids_of streams.now)) }

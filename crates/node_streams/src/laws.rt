@@ -1,6 +1,5 @@
 //! The laws of the streams of a standard node in all its runs, as contracts of functions that do
-//! nothing: each clause is a theorem over the definitions of `specs/`, and a proof that calls the
-//! function may use it.
+//! nothing: a proof that calls a function may use its clause.
 
 ghost use Rattle.std.specs.Prelude.{◌≡◌, true, List, [], ◌∷◌, Some};
 ghost use Rattle.std.specs.List.{AllByRecursion};
@@ -17,21 +16,22 @@ ghost use Rattle.node_streams.specs.Messages.{unsent_among};
 ghost use Rattle.node_streams.specs.Order.{HaveOrder};
 ghost use Rattle.node_streams.specs.Runs.{AreReported, AreStreamsOf, ReportSends};
 
-/// If each token that reaches a listed process was sent by one, which reported that, no receive is
-/// unsent: whichever alike message it takes, whatever tokens were put back, and whatever was reset.
+/// If each token that reaches a listed process was sent by a listed one, which reported the send,
+/// no receive is unsent, whatever was put back or reset.
 pub fn reported_sends_leave_nothing_unsent()
     ensures { (streams : List Stream) (pids : List Pid) (acts : List NodeAct) (os : List Outcome)
         → AreStreamsOf streams pids acts os → unsent_among streams (pids_of streams) ≡ [] }
 {}
 
-/// And all events have an order, since the run has one.
+/// Under the premises of `reported_sends_leave_nothing_unsent` all events have an order, since the
+/// run has one.
 pub fn a_run_has_an_order()
     ensures { (streams : List Stream) (pids : List Pid) (acts : List NodeAct) (os : List Outcome)
         → AreStreamsOf streams pids acts os → HaveOrder streams }
 {}
 
-/// Each token was sent so if the streams list all processes, and each reports its stamps and its
-/// receives of tokens, as the laws of one process ask.
+/// `ReportSends` holds if the streams list all processes, and each reports its stamps and its
+/// receives of tokens.
 pub fn reports_of_all_have_each_send()
     ensures { (streams : List Stream) (pids : List Pid) (acts : List NodeAct) (os : List Outcome)
         → node_run pids acts ≡ Some os → AllByRecursion (λ p. lists streams p ≡ true) pids
@@ -39,7 +39,7 @@ pub fn reports_of_all_have_each_send()
         → ReportSends streams (zero_state pids) acts os }
 {}
 
-/// A run can keep to this: here is one that sends two alike messages, and a reset takes the token
+/// A run can keep to the premises: this one sends two alike messages, and a reset takes the token
 /// of one away.
 pub fn a_run_reports_its_sends()
     ensures { (os : List Outcome)
@@ -47,7 +47,7 @@ pub fn a_run_reports_its_sends()
 {}
 
 /// If a send isn't reported, a later one of an alike message stands for it. So there may be no
-/// order, and nothing unsent either.
+/// order, and yet nothing unsent.
 pub fn an_unreported_send_can_leave_no_order()
     ensures { (os : List Outcome)
         × (node_run (client ∷ server ∷ []) sends_unreported ≡ Some os)

@@ -1,4 +1,4 @@
-//! Judges the streams of a standard node as a whole: which send each receive took, and whether all
+//! Judges the streams of a standard node together: which send each receive took, and whether all
 //! events have an order.
 #![tactic(auto)]
 

@@ -1,4 +1,4 @@
-//! Whether all events have an order.
+//! Looks for an order of all events.
 
 ghost use Rattle.std.specs.Prelude.{◌≡◌, ◌≢◌, [], List, None, Some, IfOk};
 ghost use Rattle.st_core.specs.declared.types.Event.{Event as EventValue};
@@ -11,7 +11,7 @@ use crate::walk::Walk;
 use st_core::{Pid, Sequence, Streams};
 use std::alloc::{AllocError, Global};
 
-/// The next event of each process that has one left.
+/// Returns the next event of each process that has one left.
 fn events_left(alloc: Global, streams: &Streams, walk: &Walk) -> Result<Vec<(Pid, u64)>, AllocError>
     ensures none { (order : List PidValue) → IsAt streams.now order walk.now → IfOk result (λ v.
         v.items ≡ [] → (p : PidValue) → next_event streams.now order p ≡ None) }
@@ -29,8 +29,8 @@ fn events_left(alloc: Global, streams: &Streams, walk: &Walk) -> Result<Vec<(Pid
     Ok(left)
 }
 
-/// Finds out whether all events have an order. If not, it returns for each process that can't go on
-/// the place of its next event.
+/// Walks through all events in an order. Returns the next event of each process that can't go on,
+/// and so nothing if all events have an order.
 pub(crate) fn cycle(
     alloc: Global,
     streams: &Streams,

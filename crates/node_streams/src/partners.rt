@@ -1,4 +1,4 @@
-//! The other ends of messages.
+//! Finds the other ends of messages.
 
 ghost use Rattle.std.specs.Prelude.{◌≡◌, true, List, IfOk, count_by};
 ghost use Rattle.st_core.specs.Event.{kind_eq};
@@ -14,7 +14,6 @@ use st_core::{Event, Kind, Pid, Sequence, Streams};
 use std::alloc::{AllocError, Global};
 use std::marker::Model;
 
-/// The process that receives the message of this event.
 pub(crate) fn receiver_of(event: &Event) -> Pid
     ensures { result ≡ owner kind.Receive (content_of event.now) }
 {
@@ -46,7 +45,7 @@ impl<'a> Model for MessageEnds<'a> {
 }
 
 impl<'a> MessageEnds<'a> {
-    /// Those of streams. Fails only if memory runs out.
+    /// Collects the ends of streams. Fails only if memory runs out.
     pub fn of(alloc: Global, streams: &'a Streams) -> Result<Self, AllocError>
         ensures { IfOk result (λ ends. ends ≡ streams.now) }
     {
@@ -59,8 +58,8 @@ impl<'a> MessageEnds<'a> {
         })
     }
 
-    /// The index of the other end of an event's message. So many alike ones were sent before it if
-    /// it is a send, and so many were received if it is a receive.
+    /// Returns the index of the other end of an event's message: `sent` alike ones were sent
+    /// before it if it is a send, and `received` were received if it is a receive.
     fn partner(&self, event: &Event, sent: u64, received: u64) -> Option<u64>
         ensures { (before : List EventValue)
             → (kind_eq event.now.kind kind.Send ≡ true
@@ -88,8 +87,8 @@ impl<'a> MessageEnds<'a> {
         }
     }
 
-    /// For each event of a process the index of the other end of its message, in the stream of the
-    /// process that reports that. Fails only if memory runs out.
+    /// Returns for each event of a process the index of the other end of its message, in the
+    /// stream of the process that reports it. Fails only if memory runs out.
     pub fn partners(&self, alloc: Global, events: &[Event]) -> Result<Vec<Option<u64>>, AllocError>
         ensures { IfOk result (λ v. v.items ≡ partners self.now events.now) }
     {

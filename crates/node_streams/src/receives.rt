@@ -1,4 +1,4 @@
-//! The receives of messages that nobody sent.
+//! Finds the receives of messages that nobody sent.
 
 ghost use Rattle.std.specs.Prelude.{◌≡◌, ◌&&◌, ◌++◌, [], List, IfOk, OnOk, is_none};
 ghost use Rattle.st_core.specs.Run.{pids_of, Stream};
@@ -9,7 +9,7 @@ use crate::sends::{taken_at, taken_of};
 use st_core::{Event, Kind, Pid, Sequence, Streams};
 use std::alloc::{AllocError, Global};
 
-/// Whether an event that took this send is the receive of a message that nobody sent.
+/// Returns whether an event is the receive of a message that nobody sent, if it took `send`.
 fn is_unsent(event: &Event, send: Option<u64>) -> bool
     ensures { result ≡ (takes_message event.now && is_none send) }
 {
@@ -19,7 +19,6 @@ fn is_unsent(event: &Event, send: Option<u64>) -> bool
     }
 }
 
-/// Adds the places of such receives among the events of a process.
 fn add_unsent(
     places: &mut Vec<(Pid, u64)>,
     pid: Pid,
@@ -38,7 +37,6 @@ fn add_unsent(
     Ok(())
 }
 
-/// Finds the receives of messages of which no send is left.
 pub(crate) fn unsent(
     alloc: Global,
     streams: &Streams,

@@ -1,4 +1,4 @@
-//! The sends that receives took.
+//! Finds the sends that receives took.
 
 ghost use Rattle.std.specs.Prelude.{◌≡◌, true, List, Some, IfOk, count_by, option_and_then};
 ghost use Rattle.std.specs.Prelude.{slice_get};
@@ -40,7 +40,7 @@ impl<'a> Model for Sends<'a> {
 }
 
 impl<'a> Sends<'a> {
-    /// Those of streams. Fails only if memory runs out.
+    /// Collects the sends of streams. Fails only if memory runs out.
     pub fn of(alloc: Global, streams: &'a Streams) -> Result<Self, AllocError>
         ensures { IfOk result (λ sends. sends ≡ streams.now) }
     {
@@ -48,15 +48,15 @@ impl<'a> Sends<'a> {
         Ok(Sends { streams, ends })
     }
 
-    /// The streams.
+    /// Returns the streams that it borrows.
     pub fn streams(&self) -> &Streams
         ensures { result.now ≡ self.now }
     {
         self.streams
     }
 
-    /// The index of the send that an event took, if it is a receive, which so many alike ones come
-    /// before.
+    /// Returns the index of the send that an event took, if it is a receive after `number` alike
+    /// ones.
     fn taken(&self, event: &Event, number: u64) -> Option<u64>
         ensures { (before : List EventValue) → (takes_message event.now ≡ true
             → number ≡ count_by (tells kind.Receive (content_of event.now)) before)
@@ -77,8 +77,8 @@ impl<'a> Sends<'a> {
         }
     }
 
-    /// For each event of a process the index of the send that it took, in its sender's stream.
-    /// Fails only if memory runs out.
+    /// Returns for each event of a process the index of the send that it took, in its sender's
+    /// stream. Fails only if memory runs out.
     pub fn taken_by(&self, alloc: Global, events: &[Event]) -> Result<Vec<Option<u64>>, AllocError>
         ensures { IfOk result (λ v. v.items ≡ taken_sends self.now events.now) }
     {
@@ -91,7 +91,6 @@ impl<'a> Sends<'a> {
     }
 }
 
-/// The sends that the receives of all processes took.
 pub(crate) fn all_taken_sends(
     alloc: Global,
     streams: &Streams,
@@ -107,7 +106,7 @@ pub(crate) fn all_taken_sends(
     Ok(lists)
 }
 
-/// Those that the receives of the process at this place took.
+/// Returns the sends that the events of the process at a place took.
 pub(crate) fn taken_of(taken: &[Sequence<Option<u64>>], place: usize) -> &[Option<u64>]
     ensures { (streams : List StreamValue) (p : PidValue) → IsRising (pids_of streams)
         → taken.now ≡ all_taken_sends streams → slice_get (pids_of streams) place ≡ Some p
@@ -119,7 +118,7 @@ pub(crate) fn taken_of(taken: &[Sequence<Option<u64>>], place: usize) -> &[Optio
     }
 }
 
-/// The send that the event at this index took, none past the end.
+/// Returns the send that the event at an index took, none past the end.
 pub(crate) fn taken_at(taken: &[Option<u64>], index: usize) -> Option<u64>
     ensures { result ≡ option_and_then (λ o. o) (slice_get taken.now index) }
 {

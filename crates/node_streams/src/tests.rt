@@ -1,4 +1,4 @@
-//! Tests that `judge` returns, which no contract says.
+//! Tests that `judge` succeeds, which no contract says.
 
 ghost use Rattle.std.specs.Prelude.{◌≡◌};
 
@@ -36,7 +36,7 @@ fn a_message_is_received_twice(rt: HostRuntime) {
     assert!(rt; judged.cycle.is_empty());
 }
 
-/// Each message is sent after the other one came.
+/// Each message is sent after the other one is received.
 #[test]
 fn two_messages_wait_for_each_other(rt: HostRuntime) {
     let (first, second) = (Pid::new(30), Pid::new(31));

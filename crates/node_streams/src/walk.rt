@@ -1,4 +1,4 @@
-//! The walk over all events, each receive after its send.
+//! The walk over all events, in which each receive comes after its send.
 
 ghost use Rattle.std.specs.Prelude.{◌≡◌, ◌<◌, ◌≤◌, [], ◌∷◌, ℕ, List, Some, IfOk, OnOk, IfNone};
 ghost use Rattle.std.specs.Prelude.{IfSome, IsFalse, IsTrue, slice_get};
@@ -19,14 +19,13 @@ use std::alloc::{AllocError, Global};
 /// The state of the walk. A place is that of a process among the pids.
 #[derive(Drop)]
 pub(crate) struct Walk {
-    /// How many events of the process at each place came.
+    /// The number of events that each process has passed, by place.
     pub(crate) done: Vec<u64>,
     /// The places of processes that may go on. Only time depends on them.
     candidates: Vec<usize>,
 }
 
 impl Walk {
-    /// Before all events.
     pub(crate) fn new(alloc: Global, streams: &Streams) -> Result<Walk, AllocError>
         ensures start { IfOk result (IsAt streams.now []) }
         ensures sound { OnOk result (IsStreams streams.now) }
@@ -40,14 +39,12 @@ impl Walk {
         Ok(Walk { done, candidates })
     }
 
-    /// How many events of the process at this place came.
     pub(crate) fn done_at(&self, place: usize) -> u64
         ensures { result ≡ unwrap_or (slice_get self.now.done.items place) 0 }
     {
         number_at(&self.done, place)
     }
 
-    /// How many events of a process came.
     fn done_of(&self, streams: &Streams, pid: Pid) -> u64
         requires { IsStreams streams.now }
         ensures { result ≡ done_in streams.now self.now pid }
@@ -58,7 +55,7 @@ impl Walk {
         }
     }
 
-    /// Whether this send of a process came, if it was reported.
+    /// Returns whether a send of a process has come, or wasn't reported.
     fn is_sent(&self, streams: &Streams, from: Pid, send: Option<u64>) -> bool
         requires { IsStreams streams.now }
         ensures yes { IsTrue result → (j : ℕ) → send ≡ Some j
@@ -72,8 +69,8 @@ impl Walk {
         }
     }
 
-    /// The next event of the process at this place, which has these events and took these sends, if
-    /// it can go on.
+    /// Returns the next event of the process at a place, which has the events and took the sends,
+    /// if it can go on.
     fn free_event_of(
         &self,
         streams: &Streams,
@@ -106,7 +103,6 @@ impl Walk {
         }
     }
 
-    /// The next event of the process at this place, if it can go on.
     fn free_event(
         &self,
         streams: &Streams,
@@ -127,8 +123,7 @@ impl Walk {
         self.free_event_of(streams, place, streams.events(pid), taken_of(taken, place))
     }
 
-    /// The last candidate that can go on, with its next event. It and those after it are candidates
-    /// no longer.
+    /// Removes candidates from the end, and returns the first that can go on, with its next event.
     fn candidate(
         &mut self,
         streams: &Streams,
@@ -148,7 +143,6 @@ impl Walk {
         None
     }
 
-    /// The first process that can go on, with its next event.
     fn free_process(
         &self,
         streams: &Streams,
@@ -169,7 +163,7 @@ impl Walk {
         None
     }
 
-    /// A process that can go on, with its next event.
+    /// Returns a process that can go on, with its next event.
     pub(crate) fn next(
         &mut self,
         streams: &Streams,
@@ -189,7 +183,7 @@ impl Walk {
         }
     }
 
-    /// Goes on with the next event of the process at this place.
+    /// Goes on with the next event of the process at a place.
     pub(crate) fn go(
         &mut self,
         streams: &Streams,
@@ -212,7 +206,7 @@ impl Walk {
         }
     }
 
-    /// Makes a process a candidate: it may wait for a message that was sent.
+    /// Makes a process a candidate: it may have waited for a message that was sent.
     fn wake(&mut self, streams: &Streams, pid: Pid) -> Result<(), AllocError>
         ensures { self.new.done ≡ self.old.done }
     {
@@ -222,7 +216,7 @@ impl Walk {
         Ok(())
     }
 
-    /// Goes on with the events of the process at this place, up to one that waits.
+    /// Goes on with the events of the process at a place, up to one that waits.
     pub(crate) fn go_far(
         &mut self,
         streams: &Streams,

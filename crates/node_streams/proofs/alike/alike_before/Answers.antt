@@ -1,4 +1,4 @@
--- One end more has its number.
+-- The walk over the sorted ends gives each end its number.
 use Rattle.std.proofs.Common.{◌≡◌, get_or, length, take, Some, refl, ◌∙◌, ap, arith, sym, subst}
 use Rattle.std.specs.List.{count_by, slice_get}
 use Rattle.std.proofs.Math.ListN.{length-set}

@@ -1,4 +1,4 @@
--- The ends that were passed have their numbers, and the last one is kept with its own.
+-- The ends so far have their numbers, and the last one is kept with its own.
 use Rattle.std.proofs.Common.{◌≡◌, ℕ, ◌<◌, suc, Some, None, length, take}
 use Rattle.std.specs.List.{count_by, slice_get}
 use Rattle.node_streams.specs.declared.ends.End.{End}

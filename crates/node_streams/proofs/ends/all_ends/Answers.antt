@@ -1,4 +1,4 @@
--- One process more, whose list comes last.
+-- The list of one process more comes last.
 use Rattle.std.proofs.Common.{◌≡◌, ◌+◌, get_or, length, Some, inl, inr, sym, ◌∙◌, ap, subst}
 use Rattle.std.specs.List.{slice_get}
 use Rattle.std.proofs.lemmas.Option.{same_Some}

@@ -1,4 +1,4 @@
--- The lists so far are those of the processes that were passed.
+-- The lists so far are those of the processes so far.
 use Rattle.std.proofs.Common.{◌≡◌, ℕ, List, Some, length}
 use Rattle.std.specs.List.{slice_get}
 use Rattle.st_core.specs.declared.types.Pid.{Pid}

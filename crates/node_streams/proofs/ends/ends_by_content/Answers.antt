@@ -1,4 +1,4 @@
--- A stable sort by content.
+-- The sort is stable.
 use Rattle.std.proofs.Common.{rules, subst}
 use Rattle.std.proofs.lemmas.List.Sorted.{answers_always}
 use Rattle.node_streams.specs.declared.ends.End.{End}

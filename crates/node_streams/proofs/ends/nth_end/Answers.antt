@@ -1,4 +1,4 @@
--- The ends of the content begin where the search ends, if there are any.
+-- The search finds where the ends of the content begin, if there are any.
 use Rattle.std.proofs.Common.{rules, ◌∙◌}
 use Rattle.std.proofs.lemmas.List.Sorted.{IsPartitionPoint-from_clause}
 use Rattle.node_streams.proofs.SortedEnds.{below_content, nth_read, parted}

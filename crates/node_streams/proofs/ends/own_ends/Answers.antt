@@ -1,4 +1,4 @@
--- One event more: it is added if it is of the kind.
+-- One event more is added if it is of the kind.
 use Rattle.std.proofs.Common.{cond, get_or, [], ◌∷◌, ◌++◌, sym, ◌∙◌, ap, append-nil, Vec, Global}
 use Rattle.node_streams.specs.Messages.{content_of}
 use Rattle.node_streams.specs.declared.content.MessageContent.{MessageContent}

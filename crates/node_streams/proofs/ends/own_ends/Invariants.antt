@@ -1,4 +1,4 @@
--- The ends of the events that were passed are there.
+-- The ends of the events so far are there.
 use Rattle.std.proofs.Common.{◌≡◌, ◌++◌, drop}
 use Rattle.node_streams.specs.Tables.{ends_from}
 use Rattle.node_streams.proofs.ends.own_ends.Given as goal

@@ -1,4 +1,4 @@
--- A process that isn't listed has no events, and a listed one has a list at its place.
+-- A process that isn't listed has no events, and a listed one has its list at its place.
 use Rattle.std.proofs.Common.{◌<◌, Some, ◌∙◌, ap, sym, subst}
 use Rattle.st_core.specs.Run.{pids_of}
 use Rattle.st_core.specs.Streams.{events_of}

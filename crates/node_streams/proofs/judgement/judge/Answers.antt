@@ -1,4 +1,5 @@
--- In a run no receive is unsent, and there is an order: so what is found is in none.
+-- In a run no receive is unsent, and its acts order the events: so streams with an unsent receive
+-- or a cycle have no run.
 use Rattle.std.proofs.Common.{◌∙◌}
 use Rattle.node_streams.proofs.InRuns.{all_sent, run_order}
 use Rattle.node_streams.proofs.judgement.judge.Goals as goal

@@ -1,4 +1,4 @@
--- The example does.
+-- The run `sends_twice` does.
 use Rattle.node_streams.proofs.Example.{twice_run, twice_outcomes}
 use Rattle.node_streams.proofs.laws.a_run_reports_its_sends.Goals as goal
 

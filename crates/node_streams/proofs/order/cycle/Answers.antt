@@ -1,5 +1,5 @@
--- The walk is where an order leads, and each turn leaves fewer events. If no process can go on, no
--- order leads further.
+-- The walk follows an order, and each turn leaves fewer events. If no process can go on, no order
+-- leads further.
 use Rattle.std.proofs.Common.{◌∷◌, ◌∙◌, arith, ap, subst}
 use Rattle.std.specs.List.{slice_get}
 use Rattle.std.specs.Option.{IfNone, IfSome}

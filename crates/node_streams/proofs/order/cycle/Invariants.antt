@@ -1,4 +1,4 @@
--- The walk is where some order leads. Each turn leaves fewer events.
+-- The walk has followed some order, and each turn leaves fewer events.
 use Rattle.node_streams.specs.Tables.{done_in, IsReached}
 use Rattle.node_streams.proofs.Turns.{events_left}
 use Rattle.node_streams.proofs.order.cycle.Given as goal

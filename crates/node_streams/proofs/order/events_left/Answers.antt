@@ -1,4 +1,4 @@
--- Each listed process was asked, and the others have no events.
+-- Each listed process is asked, and the others have no events.
 use Rattle.std.proofs.Common.{◌≡◌, ◌≤◌, get_or, length, List, [], ◌∷◌, ◌++◌, false, Option}
 use Rattle.std.proofs.Common.{Some, None, is_some, inl, inr, refl, sym, ◌∙◌, arith, ap, subst}
 use Rattle.std.specs.List.{slice_get}

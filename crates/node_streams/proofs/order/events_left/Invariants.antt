@@ -1,4 +1,4 @@
--- The places are those of the processes that were taken and have an event left.
+-- The places so far are those of the processes so far that have an event left.
 use Rattle.std.proofs.Common.{◌≡◌, ◌≢◌, ℕ, ◌<◌, List, [], None, Some}
 use Rattle.std.specs.List.{slice_get}
 use Rattle.st_core.specs.declared.types.Pid.{Pid}

@@ -1,4 +1,4 @@
--- One event more: its place is added if it is such a receive.
+-- One event more adds its place if it is unsent.
 use Rattle.std.proofs.Common.{cond, get_or, take, [], ◌∷◌, ◌++◌, sym, ◌∙◌, ap, append-nil, Vec}
 use Rattle.std.proofs.Common.{Global, ℕ}
 use Rattle.st_core.specs.declared.types.Pid.{Pid}

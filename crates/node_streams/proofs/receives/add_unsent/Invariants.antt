@@ -1,4 +1,4 @@
--- The places of the receives that were passed and took no send are there.
+-- The places of the unsent receives so far are there.
 use Rattle.std.proofs.Common.{◌≡◌, List, [], ◌++◌, take, drop}
 use Rattle.st_core.specs.Run.{Stream}
 use Rattle.node_streams.specs.Messages.{taken_sends, unsent_from}

@@ -1,4 +1,4 @@
--- One process more, whose places come last.
+-- The places of one process more come last.
 use Rattle.std.proofs.Common.{◌≡◌, ◌+◌, suc, get_or, drop, [], ◌∷◌, ◌++◌, Some, append_assoc, arith}
 use Rattle.std.proofs.Common.{sym, ◌∙◌, ap, subst}
 use Rattle.std.specs.List.{slice_get}

@@ -1,4 +1,4 @@
--- The places of the processes that were taken are there.
+-- The places of the processes so far are there.
 use Rattle.std.proofs.Common.{◌≡◌, ◌++◌, drop}
 use Rattle.st_core.specs.Run.{pids_of}
 use Rattle.node_streams.specs.Messages.{unsent_among}

@@ -1,4 +1,4 @@
--- So far these are the sends of the streams that were passed.
+-- The sends so far are those of the streams so far.
 use Rattle.std.proofs.Common.{◌≡◌, map, take}
 use Rattle.node_streams.specs.Messages.{taken_sends}
 use Rattle.node_streams.proofs.sends.all_taken_sends.Given as goal

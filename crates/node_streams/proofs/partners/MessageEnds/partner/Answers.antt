@@ -1,4 +1,4 @@
--- The receive of a send is found as a send is.
+-- The receive of a send is found as the send of a receive is.
 use Rattle.std.proofs.Common.{rules, ap}
 use Rattle.st_core.specs.declared.types.Kind.TheVariants as kind
 use Rattle.st_core.specs.Event.{kind_eq}

@@ -1,4 +1,4 @@
--- The partners of the events before are there.
+-- The partners of the events so far are there.
 use Rattle.std.proofs.Common.{◌≡◌, ◌++◌, take, drop}
 use Rattle.node_streams.specs.Messages.{each_from, other_end_of, partners}
 use Rattle.node_streams.proofs.partners.MessageEnds.partners.Given as goal

@@ -1,4 +1,4 @@
--- The sends that the receives before took are there.
+-- The sends of the events so far are there.
 use Rattle.std.proofs.Common.{◌≡◌, ◌++◌, take, drop}
 use Rattle.node_streams.specs.Messages.{each_from, taken_send, taken_sends}
 use Rattle.node_streams.proofs.sends.Sends.taken_by.Given as goal

@@ -1,4 +1,4 @@
--- The walk is where it was.
+-- The search leaves the walk where it is.
 use Rattle.node_streams.proofs.Turns.{same_walk}
 use Rattle.node_streams.proofs.walk.Walk.candidate.Goals as goal
 

@@ -1,4 +1,4 @@
--- Only the candidates change, and who waits.
+-- Only the candidates change.
 use Rattle.std.proofs.Common.{◌≡◌, length}
 use Rattle.node_streams.proofs.walk.Walk.candidate.Given as goal
 

@@ -1,4 +1,4 @@
--- The number of a process is at its place, and one that isn't listed has none.
+-- A process's number is at its place, and a process that isn't listed has no events.
 use Rattle.std.proofs.Common.{sym, ◌∙◌}
 use Rattle.st_core.specs.Run.{pids_of}
 use Rattle.node_streams.proofs.Places.{number_here, number_none}

@@ -1,4 +1,4 @@
--- The process at the place is asked.
+-- The process at the place has the events and sends that are looked up.
 use Rattle.std.proofs.Common.{refl, sym, ◌∙◌, ap, subst}
 use Rattle.std.specs.List.{slice_get}
 use Rattle.std.proofs.lemmas.Option.{same_Some, slice_get_read}

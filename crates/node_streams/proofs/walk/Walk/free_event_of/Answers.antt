@@ -1,4 +1,4 @@
--- A receive is free if its send came or wasn't reported.
+-- A receive is free if its send came, or has no reported send.
 use Rattle.std.proofs.Common.{◌≡◌, false, inl, inr, refl, arith, sym, ◌∙◌, ap}
 use Rattle.std.specs.List.{slice_get}
 use Rattle.std.proofs.lemmas.Option.{slice_get_past, slice_get_read}

@@ -1,4 +1,4 @@
--- None of the processes that were taken can go on.
+-- None of the processes so far can go on.
 use Rattle.std.proofs.Common.{◌≡◌, ℕ, ◌<◌, List, Some}
 use Rattle.std.specs.List.{slice_get}
 use Rattle.st_core.specs.declared.types.Pid.{Pid}

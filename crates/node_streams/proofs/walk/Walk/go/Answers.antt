@@ -1,4 +1,4 @@
--- One event more.
+-- Its process's number grows by one.
 use Rattle.std.proofs.Common.{◌+◌, ◌∙◌, ap}
 use Rattle.node_streams.proofs.Turns.{gone_at, if_ok}
 use Rattle.node_streams.proofs.walk.Walk.go.Goals as goal

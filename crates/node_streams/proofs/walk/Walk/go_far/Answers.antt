@@ -1,4 +1,4 @@
--- Each event is one that can go.
+-- Each turn is of a process that can go on.
 use Rattle.std.proofs.Common.{IfSome, ◌∷◌, refl, sym, ◌∙◌, arith, ap, subst}
 use Rattle.std.specs.List.{slice_get}
 use Rattle.std.proofs.lemmas.Option.{slice_get_read}

@@ -1,4 +1,4 @@
--- The walk is where some order leads, and no event is taken back. Each turn leaves fewer events.
+-- The walk has followed some order, and takes no event back. Each turn leaves fewer events.
 use Rattle.std.proofs.Common.{◌≤◌}
 use Rattle.st_core.specs.declared.types.Pid.{Pid}
 use Rattle.node_streams.specs.Tables.{done_in, IsReached}

@@ -1,4 +1,4 @@
--- No event came.
+-- Before all turns each number is 0.
 use Rattle.std.proofs.Common.{sym}
 use Rattle.node_streams.proofs.Turns.{before_all}
 use Rattle.node_streams.proofs.walk.Walk.new.Goals as goal

@@ -1,4 +1,4 @@
--- The candidates were asked at the same place.
+-- The candidates are asked first, then all processes, with the walk at the same place.
 use Rattle.node_streams.proofs.Turns.{same_walk}
 use Rattle.node_streams.proofs.walk.Walk.next.Goals as goal
 
