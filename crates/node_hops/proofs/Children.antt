@@ -1,7 +1,7 @@
--- An event is directly below another exactly if its hop leads there. A receive, since its send
--- names it as it names its send. A stamp, since the receive that its hop names is directly before
--- its row, so that the stamp is in the row after that receive; and the row of a stamp in it goes
--- back to the receive.
+-- An event is directly below another exactly if its hop leads there. A receive is, since its send
+-- is the one that names it. A stamp is, since the receive that its hop names is directly before
+-- its row: so the stamp is in the row after that receive, and the row of a stamp there begins at
+-- the receive.
 use Rattle.std.proofs.Common.{◌≡◌, ℕ, ◌+◌, ◌-◌, ◌≤◌, ◌==◌, ◌&&◌, ◌||◌, zero, suc, Bool, true, false}
 use Rattle.std.proofs.Common.{cond, List, [], ◌∷◌, ◌++◌, take, drop, Option, Some, None}
 use Rattle.std.proofs.Common.{option_and_then, option_map, slice_get, get_or, option_to_list, inl}
@@ -33,7 +33,7 @@ use Rattle.node_hops.proofs.RowLemmas.{received_is, row_between, row_passes, row
 use Rattle.node_hops.proofs.RowLemmas.{row_stops}
 use Rattle.node_hops.proofs.Stamps.{kind_receive}
 
--- it is in the list
+-- x is in the list
 abbrev pub IsAmong : {A : Type 0} → List A → A → Type 0
 IsAmong xs x = (k : ℕ) × (slice_get xs k ≡ Some x)
 
@@ -46,7 +46,7 @@ prefix_more test x xs true is =
     ap (λ b. cond b (1 + prefix_len test xs) 0) is ∙ number
 prefix_more test x xs false is = ap (λ b. cond b (1 + prefix_len test xs) 0) is
 
--- what passes with all before it is in the part of a list that passes
+-- an item that passes with all before it is in the front of the list that passes
 taken_in : (test : Event → Bool) (xs : List Event) (m : ℕ) (e : Event)
     → ((n : ℕ) (d : Event) → n ≤ m → slice_get xs n ≡ Some d → test d ≡ true)
     → slice_get xs m ≡ Some e
@@ -60,7 +60,7 @@ taken_in test (x ∷ xs) (suc m) e all at =
     (sym (prefix_more test x xs true (all 0 x (omega arith) refl)))
     (taken_in test xs m e (λ n d less there. all (suc n) d (omega arith) there) at)
 
--- and what is in that part passes with all before it
+-- an item of that front passes with all before it
 record IsTakenFrom (test : Event → Bool) (xs : List Event) (m : ℕ) (e : Event) : Type 0 where
   at : slice_get xs m ≡ Some e
   all : (n : ℕ) (d : Event) → n ≤ m → slice_get xs n ≡ Some d → test d ≡ true
@@ -143,7 +143,7 @@ module _ (all : Bool) (p : Pid) (label : Label) where
         | false ↦ (rest.0, there)
       ]
 
-  -- what a place of a row is the place of
+  -- y is the place of an event of the row
   record IsPlaceOf (first : ℕ) (row : List Event) (y : Pid × ℕ) : Type 0 where
     offset : ℕ
     event : Event
@@ -233,7 +233,7 @@ next_by_label across p j received label =
     ]
 
 module _ (streams : List Stream) (across : Bool) where
-  -- the label of the receive is the one that the row is asked for
+  -- the label of the receive is the one that the row is filtered by
   asked_label : (es : List Event) (j : ℕ) (d e : Event) → slice_get es j ≡ Some d
       → (across || ((label_there_or es j e.label).0 == e.label.0))
       ≡ (across || e.label.0 == d.label.0)
@@ -246,7 +246,7 @@ module _ (streams : List Stream) (across : Bool) where
 
   -- ALL THAT FOLLOWS IS BELOW
 
-  -- a stamp is in the row after the receive that is directly before its row
+  -- a stamp is in the row after the receive directly before its row
   in_row_behind : (es : List Event) (i : ℕ) (e : Event) (j : ℕ) (x : IsReceivedBefore es
       (row_first e.serial.prev es i) j
       e.serial.prev) → slice_get es i ≡ Some e → is_stamp e ≡ true → (m : ℕ) → j + 1 + m ≡ i
@@ -330,7 +330,7 @@ module _ (streams : List Stream) (across : Bool) where
             ∙ ap (λ (r : Pid). (let y : Option (Pid × ℕ) = Some (r, i) in y)) x.receiver,
       )
 
-  -- by the receive directly before the row of a stamp
+  -- the stamp is below the receive directly before its row
   hop_below : (p : Pid) (i : ℕ) (e : Event) (x : Pid × ℕ) → event_at streams p i ≡ Some e
       → is_stamp e ≡ true → (o : Option ℕ)
       → take_before e.serial.prev (events_of streams p)
@@ -410,7 +410,7 @@ listed_one (Some x) zero y h = h
 listed_one (Some x) (suc k) y h = absurd (none-some y h)
 
 module _ (streams : List Stream) (across : Bool) where
-  -- the hop of an event, by what it is
+  -- the next place of a stamp is that of its hop
   stamp_next : (p : Pid) (i : ℕ) (e : Event) → event_at streams p i ≡ Some e → is_stamp e ≡ true
       → next_at streams across (p, i) ≡ next_of across p (hop_of_stamp (events_of streams p) i e)
   stamp_next p i e at stamps =
@@ -427,7 +427,7 @@ module _ (streams : List Stream) (across : Bool) where
       ∙ ap (λ b. next_of across p (cond b (hop_of_stamp (events_of streams p) i e)
       (node_hop_to_send e.from (send_of streams (take i (events_of streams p)) e)))) receives
 
-  -- the row of a stamp that is in the row after a receive begins there
+  -- the row of a stamp in the row after a receive begins right after the receive
   row_begins : (p : Pid) (j : ℕ) (d : Event) (m : ℕ) (e : Event) → event_at streams p j ≡ Some d
       → is_take d ≡ true
       → slice_get (row_ahead d.serial.this (drop (j + 1) (events_of streams p))) m ≡ Some e
@@ -453,7 +453,7 @@ module _ (streams : List Stream) (across : Bool) where
       row_passes this es (j + 1) i (omega arith) between ∙ ap (row_first this es) next
       ∙ row_stops this es j d at receive
 
-  -- a stamp of the row after a receive leads to it
+  -- the hop of a stamp in the row after a receive leads to the receive
   row_leads : (p : Pid) (j : ℕ) (d : Event) (m : ℕ) (e : Event) → event_at streams p j ≡ Some d
       → is_take d ≡ true
       → slice_get (row_ahead d.serial.this (drop (j + 1) (events_of streams p))) m ≡ Some e
@@ -480,7 +480,7 @@ module _ (streams : List Stream) (across : Bool) where
       ∙ next_by_label across p j received e.label
       ∙ wanted_leads across (received.0 == e.label.0) (p, j) asked
 
-  -- the receive of a send leads to it
+  -- the hop of a send's receive leads to the send
   send_leads : IsStreams streams → (q : Pid) (j : ℕ) (d : Event) (y : Pid × ℕ)
       → event_at streams q j ≡ Some d → d.kind ≡ kind.Send → receive_place streams q j d ≡ Some y
       → next_at streams across y ≡ Some (q, j)

@@ -1,5 +1,5 @@
--- The claim of each hop is true: of a stamp by the events before its row, of a receive by the sends
--- of its content.
+-- The claim of a stamp's hop holds by the events before its row, and that of a receive's hop by
+-- the sends of its content.
 use Rattle.std.proofs.Common.{◌≡◌, ◌≢◌, ℕ, ◌<◌, ◌≤◌, ◌==◌, ◌&&◌, zero, suc, true, false, cond}
 use Rattle.std.proofs.Common.{get_or, List, map, take, Option, Some, None, refl, sym, ◌∙◌, ap}
 use Rattle.std.proofs.Common.{arith, subst, eqb-true, eq-eqb}
@@ -40,7 +40,7 @@ same_label k l h = let number = eqb-true k.0 l.0 h in λ i. record { 0 = number 
 other_label : (k l : Label) → (k.0 == l.0) ≡ false → ¬ (k ≡ l)
 other_label k l h same = false≢true (sym h ∙ eq-eqb k.0 l.0 (ap (λ (x : Label). x.0) same))
 
--- neither in the row nor a receive of the count
+-- an event that is neither in the row nor a receive of the count leaves another last
 differs : (d : Event) (prev : ℕ) → is_in_row prev d ≡ false
     → (is_take d && d.serial.this == prev) ≡ false
     → (cond (is_take d) d.serial.this d.serial.prev == prev) ≡ false
@@ -72,7 +72,7 @@ module _ (pids : List Pid) (acts : List NodeAct) (os : List Outcome)
   IsClaimed back = PremisesHold pids acts os p (events_before back) e n (node_premises_of back)
       → HopClaims pids acts os p e n back
 
-  -- by the label of the receive at j
+  -- the claim, if the receive at j is directly before the row
   by_label : (j : ℕ) → take_before e.serial.prev es (row_first e.serial.prev es i) ≡ Some j
       → IsClaimed (node_hop_by_label j (label_there_or es j e.label) e.label)
   by_label j is =
@@ -105,7 +105,7 @@ module _ (pids : List Pid) (acts : List NodeAct) (os : List Outcome)
             }
       ]) refl)
 
-  -- without such a receive, by where the row begins
+  -- the claim, if no receive of the prev is there and the row begins at k
   by_start : (k : ℕ) → row_first e.serial.prev es i ≡ k
       → take_before e.serial.prev es k ≡ None
       → IsClaimed (cond (k == 0 && e.serial.prev == 0) hop.Begins (hop.Moved k))

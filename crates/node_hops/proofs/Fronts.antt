@@ -1,4 +1,4 @@
--- The events that a process reports before an act: one act more, and later acts.
+-- An act adds its report to the events of its process, and nothing to those of others.
 use Rattle.std.proofs.Common.{◌≡◌, ℕ, ◌+◌, ◌≤◌, zero, suc, cond, List, [], ◌∷◌, ◌++◌, length, take}
 use Rattle.std.proofs.Common.{map, Some, option_to_list, drop, refl, sym, ◌∙◌, ap, arith}
 use Rattle.std.proofs.Common.{append_assoc, append-nil}
@@ -16,7 +16,7 @@ use Rattle.st_core.proofs.ForCallers.{mapped, pid_eq-refl}
 use Rattle.node_machine.specs.Node.{machine_act, NodeAct, node_actor}
 use Rattle.node_hops.specs.Claims.{told_before}
 
--- what an act reports for p
+-- the event of p that an act reports
 abbrev pub told_by : Pid → Act → Outcome → List Event
 told_by p a o = cond (pid_eq (actor a) p) (option_to_list o.report) []
 
@@ -80,7 +80,7 @@ module _ (acts : List NodeAct) (os : List Outcome) (p : Pid) where
   told_more n e r = ap length (told_next n e r)
       ∙ length-append (stream (take n (map machine_act acts)) (take n os) p) (e ∷ [])
 
--- the act that reports is one of the node
+-- act n reports the event e of p
 pub record NodeReport (acts : List NodeAct) (os : List Outcome) (p : Pid) (n : ℕ)
     (e : Event) : Type 0 where
   pub act : NodeAct

@@ -1,5 +1,5 @@
--- Gifts of acts: nothing but a receive, a set and a token that is put back changes whose token it
--- is and its label, and only a receive, a token that is put back and an answer change last.
+-- Only a receive, a set and a put-back give a process another token, or its token another label,
+-- and only a receive, a put-back and an answer change last.
 use Rattle.std.proofs.Common.{◌≡◌, ◌≢◌, ℕ, ◌⊎◌, ◌||◌, ◌&&◌, Bool, true, false, cond, Option, Some}
 use Rattle.std.proofs.Common.{None, is_some, option_map, inl, inr, refl, sym, ◌∙◌, ap, subst}
 use Rattle.std.specs.Prelude.{is_none}
@@ -31,7 +31,7 @@ use Rattle.node_hops.specs.Gifts.{PutsBack}
 
 -- KINDS OF GIFTS
 
--- what act n gives bears its number, and a token that is put back moves the counters
+-- a gift bears its act's number, and a put-back moves the counters
 abbrev pub IsGift : ℕ → NodeAct → Gift → Type 0
 IsGift n a (Follows m) = m ≡ n
 IsGift n a (Begins m) = m ≡ n
@@ -49,7 +49,7 @@ gift_is n r a o is = absurd (none-some o is)
 
 -- LABELS
 
--- m has no token, or one with the label of l's
+-- m has no token, or one with the label of l's token
 abbrev pub KeepsLabel : LocalState → LocalState → Type 0
 KeepsLabel l m = (m.token ≡ None)
     ⊎ ((t : Token) × (u : Token) × (l.token ≡ Some u) × (m.token ≡ Some t) × (t.label ≡ u.label))
@@ -68,7 +68,7 @@ no_gift : (b : Bool) (x : Gift) → cond b (Some x) None ≡ None → b ≡ fals
 no_gift true x is = absurd (none-some x (sym is))
 no_gift false x is = refl
 
--- a message that has no token takes the token away, and nothing else changes
+-- a message without a token takes the process's token away, and changes nothing else
 taken_label : (l : LocalState) (token : Option Token) → is_some token ≡ false
     → KeepsLabel l (received l (option_map node_token token))
 taken_label l None none = inl refl
@@ -135,7 +135,7 @@ found_last : (r : Process) (found : Option (ℕ × Message))
 found_last r None none = refl
 found_last r (Some found) none = taken_last r.local found.1.token none
 
--- a receive that isn't given takes no token
+-- a receive that gives nothing takes no token
 not_given : (b : Bool) (n : ℕ) → ((m : ℕ) → cond b (Some (Follows n)) None ≢ Some (Follows m))
     → b ≡ false
 not_given true n isnt = absurd (isnt n refl)
@@ -164,7 +164,7 @@ told_kind traced k (Some t) to v e is =
     let same = (cond_some (traced && flag_of k t.flags) (token_event k t to v) e is).1 in
     (ap (λ (x : Event). x.kind) (sym same), refl)
 
--- only a receive is reported as one
+-- only a receive's report is a receive
 other_kind : (k : Kind) → k ≢ kind.Receive → (traced : Bool) (token : Option Token)
     (to : Option Pid) (v : ℕ) (e : Event) → report traced k token to v ≡ Some e
     → e.kind ≡ kind.Receive
@@ -191,7 +191,7 @@ no_print : (r : Process) (v : ℕ) (e : Event) → e.kind ≡ kind.Receive
 no_print r v e receives is = other_kind kind.Print (λ x. absurd (cc)) r.local.traced
     (after_stamp r.pid r.local).token None v e is receives
 
--- what is reported as received gave the token, unless it is an answer
+-- a reported receive gives its token, unless it is an answer
 pub received_gives : (n : ℕ) (r : Process) (a : NodeAct) (e : Event)
     → (node_acted r a).report ≡ Some e → e.kind ≡ kind.Receive → moves_counters a ≡ false
     → gift_by n r a ≡ Some (Follows n)
@@ -208,7 +208,7 @@ received_gives n r (Common (act.PrintAt p x v)) e is receives still =
 received_gives n r (Answer p place) e is receives still = absurd (false≢true (sym still))
 received_gives n r (Common a) e is receives still = absurd (none-some e is)
 
--- and what gave a token with a message is reported as received
+-- the report of an act that gives a token with a message is a receive
 pub gift_received : (n : ℕ) (r : Process) (a : NodeAct) (m : ℕ) (e : Event)
     → gift_by n r a ≡ Some (Follows m) → (node_acted r a).report ≡ Some e
     → e.kind ≡ kind.Receive

@@ -1,4 +1,4 @@
--- The lemmas on what an act gives, and on the events that a process reports before an act.
+-- The lemmas on gifts, and on the events that a process reports before an act.
 pub mod Fronts
 pub mod Gifts
 pub mod Runs
@@ -10,5 +10,5 @@ pub mod Claims
 pub mod Ways
 pub mod Trees
 pub mod Children
--- The lemmas on what is kept.
+-- The lemmas on the tables.
 pub mod Starts

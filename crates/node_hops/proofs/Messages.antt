@@ -1,7 +1,5 @@
--- The claim of a receive's hop is true: among the acts up to it, as many alike messages were
--- received as were sent at most. So if each was reported when it was sent, the send that is as many
--- alike ones after the first as the receive is came before it; and if there is none, one wasn't
--- reported.
+-- Up to each act at most as many alike messages were received as were sent: so either one of the
+-- sends wasn't reported, or the send of a receive came before it.
 use Rattle.std.proofs.Common.{◌≡◌, ℕ, ◌+◌, ◌<◌, ◌≤◌, ◌⊎◌, ◌&&◌, zero, suc, Bool, true, false, cond}
 use Rattle.std.proofs.Common.{List, [], ◌∷◌, ◌++◌, map, take, drop, Option, Some, None, is_some}
 use Rattle.std.proofs.Common.{option_and_then, option_map, option_to_list, inl, inr, refl, sym, ◌∙◌}
@@ -64,7 +62,7 @@ sends_later a o acts os c s x = record {
   content = x.content;
 }
 
--- the first act sends such a message
+-- the first act sends a message of the content
 sends_first : (s : State) (a : NodeAct) (o : Outcome) (rest : List NodeAct) (os : List Outcome)
     (c : MessageContent) (x : Pid) (t : NodeStepped s a o) → SentAlike (is_content c) s a o x
     → SendsLike (a ∷ rest) (o ∷ os) c 0
@@ -104,7 +102,7 @@ module _ (c : MessageContent) (x : Pid) (to : c.to ≡ Some x) where
   abbrev sent : List NodeAct → List Outcome → ℕ
   sent acts os = count_by (tells kind.Send c) (stream (acts_of acts) os c.from)
 
-  -- a send of that content reported nothing
+  -- a send of the content reported nothing
   abbrev Unreported : List NodeAct → List Outcome → Type 0
   Unreported acts os = (k : ℕ) × SendsLike acts os c k × IsSilent os k
 
@@ -147,7 +145,7 @@ module _ (c : MessageContent) (x : Pid) (to : c.to ≡ Some x) where
     taken = told_count (tells kind.Receive c) (pid_eq (node_actor a) x) o.report
         ∙ ap (λ n. cond (pid_eq (node_actor a) x) n 0) (takes_same o.report)
 
-    -- a reported send is one of its sender's
+    -- a reported send of the content is its sender's
     module _ (e : Event) (report : o.report ≡ Some e) (like : tells kind.Send c e ≡ true) where
       sends : e.kind ≡ kind.Send
       sends = kind_same e.kind kind.Send (and_parts (kind_eq e.kind kind.Send) _ like).0
@@ -261,7 +259,7 @@ sends_in_all n acts os c k x =
 no_send : (e : Event) → e.kind ≡ kind.Receive → e.kind ≡ kind.Send → ⊥
 no_send e receives sends = absurd (cc)
 
--- of streams no place is unlisted
+-- streams list all their processes
 named : (streams : List Stream) → IsStreams streams → AreAllListed streams
 named streams s =
     subst (λ (o : Option (Pid × ℕ)). MatchOption o (AreAllListed streams)
@@ -331,7 +329,7 @@ module _ (streams : List Stream) (sound : IsStreams streams) (pids : List Pid)
       (and_parts (lists streams e.from) (option_map_or (lists streams) e.to true)
       (named streams sound p i e at)).0
 
-  -- so many events the sender reported up to act n
+  -- the number of events that the sender reported up to act n
   abbrev up_to : ℕ
   up_to = told_before acts os sender (suc n)
 
@@ -349,7 +347,7 @@ module _ (streams : List Stream) (sound : IsStreams streams) (pids : List Pid)
   reported_here : IsReported os n
   reported_here = ap is_some r.reports.report
 
-  -- either a send wasn't reported, or the one that the receive is paired with came before
+  -- either a send wasn't reported, or the receive's send came before it
   found : IsSentUnreported acts os c n
       ⊎ ((j : ℕ) × (send_of streams (take i es) e ≡ Some j) × (j < up_to))
   found = elim (told_or_unreported c p receiver (zero_state pids) (take (suc n) acts)

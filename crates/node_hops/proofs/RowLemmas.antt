@@ -1,5 +1,5 @@
--- The events between an index and a later one decide where the row begins that goes up to the later
--- one: nothing but sends and prints of one prev, back to the first event that is none.
+-- The events directly before an index decide where the row up to it begins: the row goes back to
+-- the first event that is no send or print with the prev.
 use Rattle.std.proofs.Common.{◌≡◌, ℕ, ◌<◌, ◌≤◌, ◌&&◌, ◌==◌, zero, suc, Bool, true, false, cond}
 use Rattle.std.proofs.Common.{List, Option, Some, None, inl, inr, refl, sym, ◌∙◌, ap, arith}
 use Rattle.std.specs.Prelude.{not}
@@ -11,7 +11,7 @@ use Rattle.st_core.specs.declared.types.Event.{Event}
 use Rattle.st_core.proofs.ForCallers.{both_true}
 use Rattle.node_hops.specs.Events.{is_in_row, is_take, take_before, row_first}
 
--- all events from index j to below i are in the row of this prev
+-- all events from index j to below i are in the row
 abbrev pub IsRowBetween : ℕ → List Event → ℕ → ℕ → Type 0
 IsRowBetween prev es j i = (x : ℕ) → j ≤ x → x < i → (e : Event) × (slice_get es x ≡ Some e)
     × (is_in_row prev e ≡ true)
@@ -91,7 +91,7 @@ received_at prev es j e at is this =
 
 -- WHAT A ROW SAYS
 
--- after where the row begins there is nothing but it
+-- the row fills all places from its beginning to the index
 pub row_between : (prev : ℕ) (es : List Event) (i : ℕ)
     → IsRowBetween prev es (row_first prev es i) i
 row_between prev es zero = λ x low high. absurd (omega arith)
@@ -115,7 +115,7 @@ row_between prev es (suc i) =
           ] refl
     ] refl
 
--- the receive directly before index k
+-- the event at index j is a receive of the count, directly before index k
 pub record IsReceivedBefore (es : List Event) (k j this : ℕ) : Type 0 where
   pub event : Event
   pub at : slice_get es j ≡ Some event
@@ -166,7 +166,7 @@ row_stopped prev es (suc i) j d starts at =
           ]) refl
     ]) refl starts
 
--- and if it is a receive, it has another count
+-- if no receive of the count is directly before the row, a receive there has another count
 pub not_received : (this : ℕ) (es : List Event) (j : ℕ) (d : Event)
     → take_before this es (suc j) ≡ None → slice_get es j ≡ Some d
     → (is_take d && d.serial.this == this) ≡ false

@@ -1,5 +1,5 @@
--- A run act by act: what an act of a process changes of it is what the act gives, and other acts
--- change nothing of it.
+-- An act that gives its process nothing keeps the label of its token, and acts of others keep its
+-- token and counts.
 use Rattle.std.proofs.Common.{◌≡◌, ◌≢◌, ℕ, ◌<◌, ◌≤◌, ◌⊎◌, zero, suc, true, false, cond, List, []}
 use Rattle.std.proofs.Common.{◌∷◌, Option, Some, None, option_and_then, inl, inr, refl, sym, ◌∙◌}
 use Rattle.std.proofs.Common.{ap, arith, subst}
@@ -64,7 +64,6 @@ plain_at (b ∷ acts) (suc n) a none at = plain_at acts n a none.1 at
 abbrev pub local_at : List Pid → List Outcome → Pid → ℕ → LocalState
 local_at pids os p n = local_in (state_at (zero_state pids) os n) p
 
--- the label is kept, told of states that are the same
 label_same : (k l m n : LocalState) → k ≡ l → n.token ≡ m.token → KeepsLabel l m → KeepsLabel k n
 label_same k l m n before after (inl none) = inl (after ∙ none)
 label_same k l m n before after (inr kept) = inr (
@@ -75,7 +74,7 @@ label_same k l m n before after (inr kept) = inr (
   kept.4,
 )
 
--- act n is p's: it does its part
+-- act n is p's, and does its actor's part
 pub record IsOwn (pids : List Pid) (acts : List NodeAct) (os : List Outcome) (p : Pid) (n : ℕ)
     (a : NodeAct) : Type 0 where
   pub before : Process
@@ -84,7 +83,7 @@ pub record IsOwn (pids : List Pid) (acts : List NodeAct) (os : List Outcome) (p 
   pub then : SameButTraced (node_acted before a).local (local_at pids os p (suc n))
   pub told : (o : Outcome) → slice_get os n ≡ Some o → o.report ≡ (node_acted before a).report
 
--- it isn't: p stays as it was
+-- act n isn't p's, and leaves p as it was
 pub record IsOther (pids : List Pid) (acts : List NodeAct) (os : List Outcome) (p : Pid)
     (n : ℕ) : Type 0 where
   pub gift : act_gift pids acts os p n ≡ None
@@ -198,7 +197,7 @@ module _ (pids : List Pid) (acts : List NodeAct) (os : List Outcome)
     ]
   ]) refl
 
-  -- what gives p something is p's
+  -- an act that gives p something is p's
   pub gift_own : (n : ℕ) (a : NodeAct) → slice_get acts n ≡ Some a → (o : Gift)
       → gift n ≡ Some o → node_actor a ≡ p
   gift_own n a at o is = elim (turn_at n a at) [
@@ -208,7 +207,7 @@ module _ (pids : List Pid) (acts : List NodeAct) (os : List Outcome)
 
   -- ONE ACT MORE
 
-  -- past the end nothing is there
+  -- an act that gives p nothing keeps its label
   pub label_step : (n : ℕ) (a : NodeAct) → slice_get acts n ≡ Some a → gift n ≡ None
       → KeepsLabel (local n) (local (suc n))
   label_step n a at none = elim (turn_at n a at) [
@@ -233,19 +232,19 @@ module _ (pids : List Pid) (acts : List NodeAct) (os : List Outcome)
 
 -- A RANGE OF ACTS
 
--- a number is in [m, n)
+-- the acts from m to below n
 module _ (pids : List Pid) (acts : List NodeAct) (os : List Outcome)
     (h : node_run pids acts ≡ Some os) (plain : NoNodeReset acts) (p : Pid) (m : ℕ) where
-  -- none of these acts gives p anything
+  -- the acts give p nothing
   abbrev pub GiveNothing : ℕ → Type 0
   GiveNothing n = (x : ℕ) → m ≤ x → x < n → act_gift pids acts os p x ≡ None
 
-  -- none of them gives p anything but a beginning
+  -- each of the acts gives p nothing, or a token or label of its own
   abbrev pub GiveBeginnings : ℕ → Type 0
   GiveBeginnings n = (x : ℕ) → m ≤ x → x < n
       → (act_gift pids acts os p x ≡ None) ⊎ (act_gift pids acts os p x ≡ Some (Begins x))
 
-  -- the origin of the stamp after them is that before them, or one of them
+  -- the gift behind a stamp at act n is the one at act m, or a beginning between
   abbrev pub Since : ℕ → Type 0
   Since n = (GiveNothing n × (latest_gift pids acts os p n ≡ latest_gift pids acts os p m))
       ⊎ ((x : ℕ) × (m ≤ x) × (x < n) × (latest_gift pids acts os p n ≡ Some (Begins x))
@@ -297,7 +296,7 @@ module _ (pids : List Pid) (acts : List NodeAct) (os : List Outcome)
     ]
   ]
 
-  -- what holds of a token, or if there is none, and of each with its label, stays
+  -- a claim that depends on no more than the label of p's token stays true
   pub token_stays : (P : LocalState → Type 0)
       → ((k l : LocalState) → KeepsLabel k l → P k → P l) → P (local_at pids os p m)
       → (n : ℕ) → m ≤ n
@@ -320,7 +319,7 @@ module _ (pids : List Pid) (acts : List NodeAct) (os : List Outcome)
     ]
   ]
 
-  -- last stays if none of them takes a token or moves the counters
+  -- last stays if none of the acts takes a token or moves the counters
   pub last_stays : (n : ℕ) → m ≤ n
       → ((x : ℕ) → m ≤ x → x < n → (a : NodeAct) × (slice_get acts x ≡ Some a)
       × ((y : ℕ) → act_gift pids acts os p x ≢ Some (Follows y))

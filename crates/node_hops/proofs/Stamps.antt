@@ -1,6 +1,5 @@
--- The claim of a stamp's hop is true: between the receive that it names, or the event before its
--- row, and the stamp, nothing but what the premises exclude could have given the process another
--- token, or another last.
+-- From the receive that a stamp's hop names, or from the event before its row, up to the stamp,
+-- only what the premises exclude could have given the process another token, or another last.
 use Rattle.std.proofs.Common.{◌≡◌, ◌≢◌, ℕ, ◌<◌, ◌≤◌, ◌⊎◌, ◌==◌, ◌&&◌, ◌||◌, zero, suc, Bool, true}
 use Rattle.std.proofs.Common.{false, cond, List, [], ◌∷◌, map, take, Option, Some, None, is_some}
 use Rattle.std.proofs.Common.{option_map, option_and_then, inl, inr, refl, sym, ◌∙◌, ap, arith}
@@ -41,7 +40,7 @@ use Rattle.node_hops.proofs.Runs.{last_stays, gift_own, local_at, own_at, Since,
 
 -- WHAT IS REPORTED
 
--- the actor's part, by what it reports
+-- the actor's part is a stamp, a receive or an answer, as its report says
 abbrev Reported : Process → NodeAct → Event → Type 0
 Reported r a e = IsStamp r.local (node_acted r a).local (seen (is_answer a) e)
     ⊎ (IsTake r.local (node_acted r a).local (seen (is_answer a) e)
@@ -91,7 +90,7 @@ pub kind_receive : (k : Kind) → (let b : Bool =
 kind_receive kind.Receive is = refl
 kind_receive k is = absurd (false≢true is)
 
--- what an event leaves as last
+-- a reported act leaves the last that its event shows
 left_by : (r : Process) (a : NodeAct) (d : Event) → (node_acted r a).report ≡ Some d
     → moves_counters a ≡ false
     → (node_acted r a).local.last ≡ cond (is_take d) d.serial.this d.serial.prev
@@ -177,7 +176,7 @@ module _ (pids : List Pid) (acts : List NodeAct) (os : List Outcome)
   prev_is : e.serial.prev ≡ (local n).last
   prev_is = stamp.prev ∙ ap (λ (l : LocalState). l.last) (sym own.local)
 
-  -- its token's label
+  -- the label of p's token at the stamp
   had : (u : Token) × ((local n).token ≡ Some u) × (u.label ≡ e.label)
   had = (stamp.had.0, ap (λ (l : LocalState). l.token) own.local ∙ stamp.had.1, stamp.had.2)
 
@@ -191,7 +190,7 @@ module _ (pids : List Pid) (acts : List NodeAct) (os : List Outcome)
     since_is : (x : ℕ) → b ≤ x → IsFrom acts os p k x
     since_is x low = let rise = told_rises acts os p b (suc x) (omega arith) in omega arith
 
-    -- what takes a token there isn't reported
+    -- a take between them isn't reported
     take_untold : (x y : ℕ) → b ≤ x → x < n → gift x ≡ Some (Follows y) → (f : Event)
         → option_and_then (λ (o : Outcome). o.report) (slice_get os x) ≡ Some f → ⊥
     take_untold x y low high is f report =
@@ -233,7 +232,7 @@ module _ (pids : List Pid) (acts : List NodeAct) (os : List Outcome)
         absurd (false≢true (sym (keeps x moving.0 high (since_is x low) moving.1 moving.2)
         ∙ moving.3))
 
-    -- only beginnings give p something, if the premises hold
+    -- if the premises hold, p gets only beginnings
     beginnings : ReportsTakes pids acts os p k n → KeepsCounters pids acts os p k n
         → GiveBeginnings pids acts os h plain p b n
     beginnings takes keeps x low high = by_kind x low high takes keeps (gift x) refl
@@ -298,7 +297,7 @@ module _ (pids : List Pid) (acts : List NodeAct) (os : List Outcome)
         ∙ sym (ap (λ o. option_map_or (λ c. pid_eq (node_actor c) p && moves_counters c) o false)
         at) ∙ isnt
 
-    -- either something moved p's counters there, or they stayed
+    -- something moved p's counters, or last stayed
     moved_or_same : ((x : ℕ) × (b ≤ x) × (x < n) × MovesUnseen pids acts os p x)
         ⊎ ((local n).last ≡ (local b).last)
     moved_or_same = elim (search_range moves b n) [
@@ -339,7 +338,7 @@ module _ (pids : List Pid) (acts : List NodeAct) (os : List Outcome)
     told_m : (node_acted own_m.before node_m.act).report ≡ Some d
     told_m = sym (own_m.told node_m.outcome node_m.is) ∙ node_m.told
 
-    -- act m took the token, if it is no answer
+    -- act m took the token, unless it is an answer
     module _ (still : moves_counters node_m.act ≡ false) where
       gave : gift m ≡ Some (Follows m)
       gave = own_m.gift ∙ received_gives m own_m.before node_m.act d told_m receives still
@@ -370,7 +369,7 @@ module _ (pids : List Pid) (acts : List NodeAct) (os : List Outcome)
             | Some t ↦ λ is. inr (t, then ∙ is, sym (take.label t is))
           ]) refl
 
-      -- if nothing gave p another token, the stamp has the label of the message
+      -- if p got no other token, the stamp has the message's label
       same_label : GiveNothing pids acts os h plain p (suc m) n → d.label ≡ e.label
       same_label none = elim (token_stays pids acts os h plain p (suc m) IsLabelled kept labelled n
           before (λ x low high. there x high) none) [

@@ -1,5 +1,5 @@
--- The row before an event begins where that of the event before it begins, if that event is in the
--- row, else at the event itself. So one pass over the events finds where all rows begin.
+-- The row of an event begins where the row of the event before it begins, if that event is in it,
+-- else at the event itself. So one pass over the events finds where all rows begin.
 use Rattle.std.proofs.Common.{◌≡◌, ◌≢◌, ℕ, ◌+◌, ◌-◌, ◌≤◌, ◌==◌, zero, suc, Bool, true, false, cond}
 use Rattle.std.proofs.Common.{List, [], ◌∷◌, ◌++◌, length, drop, Option, Some, None, slice_get}
 use Rattle.std.proofs.Common.{refl, sym, ◌∙◌, ap, subst, arith, append_assoc}
@@ -26,7 +26,7 @@ start_at prev es i e at =
       | Some x ↦ cond (is_in_row prev x) (row_first prev es i) (suc i)
     ]) at
 
--- the event before is in the row, so that it has the prev; or it isn't
+-- the row begins with the one before, or at the event
 start_behind : (es : List Event) (k : ℕ) (d e : Event) (before : ℕ) (b : Bool)
     → slice_get es k ≡ Some d
     → before ≡ row_first d.serial.prev es k → is_in_row e.serial.prev d ≡ b
@@ -41,7 +41,6 @@ start_behind es k d e before false at is row =
     ap (λ b. cond b (row_first e.serial.prev es k) (suc k)) (sym row)
     ∙ sym (start_at e.serial.prev es k d at)
 
--- the same, as the code finds it
 pub next_start : (es : List Event) (index : ℕ) (d e x : Event) (before : ℕ) (b : Bool) → index ≢ 0
     → slice_get es (index - 1) ≡ Some d → before ≡ row_first d.serial.prev es (index - 1)
     → slice_get es index ≡ Some x → b ≡ is_in_row x.serial.prev d → slice_get es index ≡ Some e
@@ -97,7 +96,7 @@ starts_is es k (suc i) (x ∷ rest) e at =
     let number : k + 1 + i ≡ k + suc i = omega arith in
     starts_is es (k + 1) i rest e at ∙ ap (λ n. Some (row_first e.serial.prev es n)) number
 
--- the start that is kept of an event
+-- the table has, at an event's index, where its row begins
 pub start_kept : (es : List Event) (i : ℕ) (e : Event) (starts : List ℕ) → starts ≡ row_firsts es
     → slice_get es i ≡ Some e → slice_get starts i ≡ Some (row_first e.serial.prev es i)
 start_kept es i e starts are at =
@@ -105,7 +104,7 @@ start_kept es i e starts are at =
     ap (λ l. slice_get l i) are ∙ starts_is es 0 i es e at
     ∙ ap (λ n. Some (row_first e.serial.prev es n)) number
 
--- it is read so, and within the events
+-- reading the table finds where the event's row begins
 pub start_read : (es : List Event) (i : ℕ) (e : Event) (starts : List ℕ) → starts ≡ row_firsts es
     → slice_get es i ≡ Some e → unwrap_or (slice_get starts i) 0 ≡ row_first e.serial.prev es i
 start_read es i e starts are at = ap (λ o. unwrap_or o 0) (start_kept es i e starts are at)

@@ -1,6 +1,7 @@
--- The places that wait come to the rest of the tree, if the last one that waits is the next: taking
--- it off adds it to what was found, and its children, the last one first, come to what is below it.
--- A tree with one more level is longer by one than those of its children, so the loop ends.
+-- The last place that waits is the next one: taking it off adds it to the nodes found, and its
+-- children, the last one first, take its place. So the nodes found and what is below the places
+-- that wait are always the whole tree. With one more level a tree is longer by one than those of
+-- its children, so the loop ends.
 use Rattle.std.proofs.Common.{◌≡◌, ℕ, ◌+◌, ◌-◌, ◌<◌, ◌≤◌, ◌==◌, ◌||◌, suc, Bool, true, false, cond}
 use Rattle.std.proofs.Common.{List, [], ◌∷◌, ◌++◌, length, map, drop, drop-cons, get_or, reverse}
 use Rattle.std.proofs.Common.{refl, sym, ◌∙◌, ap, arith, append_assoc}
@@ -36,15 +37,15 @@ flat_map-map {A} {B} {C} f g [] = refl
 flat_map-map {A} {B} {C} f g (x ∷ xs) = ap (λ ys. f (g x) ++ ys) (flat_map-map f g xs)
 
 module _ (streams : List Stream) (across : Bool) (most : ℕ) where
-  -- what is left of the tree at a node
+  -- the tree below a node, with the node
   abbrev pub below : Node → List Node
   below w = tree streams across (most - w.depth) w.depth w.place
 
-  -- the same with one more level, so that it isn't empty
+  -- the tree with one more level, so that it isn't empty
   abbrev pub weight : Node → List Node
   weight w = tree streams across (suc (most - w.depth)) w.depth w.place
 
-  -- a node and what is below it
+  -- the tree below a node is the node and the trees below its children
   below_is : (w : Node) → w.depth < most
       → below w ≡ w ∷ flat_map below (map (λ x. node (w.depth + 1) x)
       (children streams across w.place))
@@ -64,7 +65,7 @@ module _ (streams : List Stream) (across : Bool) (most : ℕ) where
       (sym (flat_map-map weight (λ x. node (w.depth + 1) x) (children streams across w.place)))
 
   module _ (waiting before after : List Node) (w : Node) (is : waiting ≡ before ++ w ∷ []) where
-    -- a node is found, and its children wait
+    -- the node is found, and its children wait
     pub found : (nodes total : List Node) → w.depth < most
         → after ≡ before ++ reverse (map (λ x. node (w.depth + 1) x)
         (children streams across w.place))
@@ -80,7 +81,7 @@ module _ (streams : List Stream) (across : Bool) (most : ℕ) where
         ∙ ap (λ xs. nodes ++ xs) (sym (popped below waiting before w is))
         ∙ far
 
-    -- a node is past the last level
+    -- the node is past the last level
     pub passed : (nodes total : List Node) → most ≤ w.depth
         → nodes ++ flat_map below (reverse waiting) ≡ total
         → nodes ++ flat_map below (reverse before) ≡ total
@@ -109,11 +110,11 @@ module _ (streams : List Stream) (across : Bool) (most : ℕ) where
 -- ROWS
 
 module _ (all : Bool) (p : Pid) (label : Label) (first depth : ℕ) where
-  -- the places from an index on, as nodes, the last one first
+  -- the places from offset k of the row on, as nodes, the last one first
   abbrev pub behind : ℕ → List Event → List Node
   behind k row = reverse (map (λ x. node depth x) (places_of all p label (first + k) (drop k row)))
 
-  -- those from an index on are those after it, and its own if it is wanted
+  -- one place more comes last, if it is wanted
   one_before : (row : List Event) (k : ℕ) (d : Event) → k < length row → (b : Bool)
       → (let e : Event = get_or row k d in all || e.label.0 == label.0) ≡ b
       → behind k row ≡ behind (suc k) row ++ cond b (node depth (p, first + k) ∷ []) []

@@ -1,4 +1,4 @@
--- A way goes on from its next place with one hop less.
+-- A way of n hops is its first place and a way of one hop less from the next.
 use Rattle.std.proofs.Common.{◌≡◌, ℕ, ◌+◌, ◌-◌, ◌<◌, zero, suc, Bool, List, [], ◌∷◌, ◌++◌, Option}
 use Rattle.std.proofs.Common.{Some, None, refl, sym, ◌∙◌, ap, arith, append_assoc}
 use Rattle.st_core.specs.declared.types.Pid.{Pid}

@@ -1,6 +1,5 @@
--- The claim of a hop's sentence about a run of the node: `gemshowal why` has the sentences, and
--- each definition here is one of them in the machine's words. Nothing of counts is in it, and of
--- streams only where an event is.
+-- The claims of hops about a run of the node, in the machine's words. The sentences are those of
+-- `gemshowal why`. Nothing of counts is in the claims, and of streams only where an event is.
 use Rattle.std.specs.Prelude.{◌≡◌, ◌≢◌, ℕ, ◌<◌, ◌≤◌, ◌⊎◌, suc, true, false, List, map, Option}
 use Rattle.std.specs.Prelude.{Some, None, length, slice_get, take, option_and_then, IsSome}
 use Rattle.st_core.specs.declared.types.Pid.{Pid}
@@ -30,7 +29,7 @@ use Rattle.node_hops.specs.Hops.{events_before, node_premises_of}
 abbrev pub NodeReports : List NodeAct → List Outcome → Pid → ℕ → Event → ℕ → Type 0
 NodeReports acts os p i e n = ReportsEvent (map machine_act acts) os p i e n
 
--- how many events p reported before act n
+-- the number of events that p reported before act n
 abbrev pub told_before : List NodeAct → List Outcome → Pid → ℕ → ℕ
 told_before acts os p n = length (stream (take n (map machine_act acts)) (take n os) p)
 
@@ -43,7 +42,7 @@ IsReported os n = IsSome (option_and_then (λ o. o.report) (slice_get os n))
 
 -- MESSAGES
 
--- act s sends a message of this content: a send of the token that its actor has after it
+-- act s sends a message with the content c, by the token that its actor has after it
 pub record SendsLike (acts : List NodeAct) (os : List Outcome) (c : MessageContent)
     (s : ℕ) : Type 0 where
   pub sending : NodeAct
@@ -58,8 +57,9 @@ pub record SendsLike (acts : List NodeAct) (os : List Outcome) (c : MessageConte
   pub stamped : sender.local.token ≡ Some token
   pub content : content_of (token_event kind.Send token (Some to) value) ≡ c
 
--- `because PID#J sent ..`, of a receive of this content by act n: event j of q is a send of that
--- content, and came before. Messages that are alike in all that they report count as one
+-- `because PID#J sent ..`, of a receive by act n with the content c: event j of q is a send with
+-- that content, and came before act n. Messages that are alike in all that they report count as
+-- one
 pub record IsSentBefore (acts : List NodeAct) (os : List Outcome) (q : Pid) (j : ℕ)
     (c : MessageContent) (n : ℕ) : Type 0 where
   pub event : Event
@@ -69,7 +69,7 @@ pub record IsSentBefore (acts : List NodeAct) (os : List Outcome) (q : Pid) (j :
   pub sends : event.kind ≡ kind.Send
   pub content : content_of event ≡ c
 
--- `nobody reported the send that PID#I follows`: a send of that content, before act n, reported
+-- `nobody reported the send that PID#I follows`: a send with the content, before act n, reported
 -- nothing
 pub record IsSentUnreported (acts : List NodeAct) (os : List Outcome) (c : MessageContent)
     (n : ℕ) : Type 0 where
@@ -80,11 +80,11 @@ pub record IsSentUnreported (acts : List NodeAct) (os : List Outcome) (c : Messa
 
 -- STAMPS
 
--- act x comes no earlier than the act by which p has reported k events
+-- p has reported k events once act x is over
 abbrev pub IsFrom : List NodeAct → List Outcome → Pid → ℕ → ℕ → Type 0
 IsFrom acts os p k x = k ≤ told_before acts os p (suc x)
 
--- `because PID#J received ..`: it follows the message of event j of p
+-- `because PID#J received ..`: the token came with the message of event j of p
 abbrev pub FollowsTake : List NodeAct → List Outcome → Pid → ℕ → Option Gift → Type 0
 FollowsTake acts os p j o =
     (m : ℕ) × (o ≡ Some (Follows m)) × ((r : Event) × NodeReports acts os p j r m)
@@ -93,14 +93,14 @@ FollowsTake acts os p j o =
 abbrev pub IsOwnBeginning : Option Gift → Type 0
 IsOwnBeginning o = (m : ℕ) × (o ≡ Some (Begins m))
 
--- the same after event j of p
+-- p made the token, or set its label, after event j of p
 abbrev pub BeganAfter : List NodeAct → List Outcome → Pid → ℕ → Option Gift → Type 0
 BeganAfter acts os p j o =
     (m : ℕ) × (o ≡ Some (Begins m)) × (j < told_before acts os p m)
 
 -- `begins label .., or its process set that on its token; it had last received PID#J of label M`:
--- event j of p is of label m, which isn't that of event e, and p made the token or set its label
--- after that
+-- event j of p has label m, which isn't that of event e, and after it p made the token or set its
+-- label
 pub record IsChangedLabel (acts : List NodeAct) (os : List Outcome) (p : Pid) (e : Event)
     (j : ℕ) (m : Label) (o : Option Gift) : Type 0 where
   pub receive : Event
@@ -109,14 +109,15 @@ pub record IsChangedLabel (acts : List NodeAct) (os : List Outcome) (p : Pid) (e
   pub other : ¬ (m ≡ e.label)
   pub begins : BeganAfter acts os p j o
 
--- act x of p took a token and didn't report that, or moved the counters in another way
+-- act x of p took a token without a report, or put one back or ended a spawn
 abbrev pub MovesUnseen : List Pid → List NodeAct → List Outcome → Pid → ℕ → Type 0
 MovesUnseen pids acts os p x =
     ((act_gift pids acts os p x ≡ Some (Follows x)) × IsSilent os x)
     ⊎ ((a : NodeAct) × (slice_get acts x ≡ Some a) × (node_actor a ≡ p)
     × (moves_counters a ≡ true))
 
--- `since PID#K its process took a token whose receive wasn't reported, put one back or spawned`
+-- `since PID#K its process took a token whose receive wasn't reported, put one back or spawned`:
+-- an act of p did, from its event k - 1 up to act n
 pub record IsMoved (pids : List Pid) (acts : List NodeAct) (os : List Outcome) (p : Pid)
     (k n : ℕ) : Type 0 where
   pub number : ℕ
@@ -127,7 +128,7 @@ pub record IsMoved (pids : List Pid) (acts : List NodeAct) (os : List Outcome) (
 -- ALL HOPS
 
 module _ (pids : List Pid) (acts : List NodeAct) (os : List Outcome) (p : Pid) where
-  -- what a hop claims of event e of p, which act n reports
+  -- the claim of a hop about event e of p, which act n reports
   abbrev pub HopClaims : Event → ℕ → NodeHop → Type 0
   HopClaims e n (hop.Sent q j) = IsSentBefore acts os q j (content_of e) n
   HopClaims e n hop.Unsent = IsSentUnreported acts os (content_of e) n
@@ -136,22 +137,22 @@ module _ (pids : List Pid) (acts : List NodeAct) (os : List Outcome) (p : Pid) w
   HopClaims e n hop.Begins = IsOwnBeginning (latest_gift pids acts os p n)
   HopClaims e n (hop.Moved k) = IsMoved pids acts os p k n
 
-  -- (1): each token that p took since its event k - 1, up to act n, it reported
+  -- (1): from its event k - 1 up to act n, p reports each token that it takes
   abbrev pub ReportsTakes : ℕ → ℕ → Type 0
   ReportsTakes k n = (x y : ℕ) → x < n → IsFrom acts os p k x
       → act_gift pids acts os p x ≡ Some (Follows y) → IsReported os x
 
-  -- (2): there it put no token back, and ended no spawn
+  -- (2): in that stretch p puts no token back, and ends no spawn
   abbrev pub KeepsCounters : ℕ → ℕ → Type 0
   KeepsCounters k n = (x : ℕ) (a : NodeAct) → x < n → IsFrom acts os p k x
       → slice_get acts x ≡ Some a → node_actor a ≡ p → moves_counters a ≡ false
 
-  -- (3): there it made no token, and set no label
+  -- (3): in that stretch p makes no token, and sets no label
   abbrev pub BeginsNothing : ℕ → ℕ → Type 0
   BeginsNothing k n = (x y : ℕ) → x < n → IsFrom acts os p k x
       → act_gift pids acts os p x ≢ Some (Begins y)
 
-  -- (4): each message of this content that was sent before act n was reported by its sender
+  -- (4): each message with the content c that is sent before act n is reported by its sender
   abbrev pub ReportsLike : MessageContent → ℕ → Type 0
   ReportsLike c n = (x : ℕ) → x < n → SendsLike acts os c x → IsReported os x
 
@@ -161,8 +162,8 @@ module _ (pids : List Pid) (acts : List NodeAct) (os : List Outcome) (p : Pid) w
   PremisesHold k e n premises.KeptToken = (ReportsTakes k n × KeepsCounters k n) × BeginsNothing k n
   PremisesHold k e n premises.SendsReported = ReportsLike (content_of e) n
 
--- The hop's claim about event i of p, which is e, is true in every run of the node without a reset
--- that has the streams and in which the premises hold that the hop names.
+-- The hop's claim about the event e, event i of p, is true in every run of the node without a
+-- reset that has the streams and in which the premises of the hop hold.
 abbrev pub IsTrueOnNode : List Stream → Pid → ℕ → Event → NodeHop → Type 0
 IsTrueOnNode streams p i e back = (pids : List Pid) (acts : List NodeAct) (os : List Outcome)
     → node_run pids acts ≡ Some os → NoNodeReset acts → AreReported streams acts os

@@ -1,4 +1,4 @@
--- The evidence of one process's events for what its send or print at an index goes on from.
+-- The events before a send or print that show what it goes on from.
 use Rattle.std.specs.Prelude.{ℕ, ◌==◌, ◌&&◌, zero, suc, Bool, true, false, not, List, Option, Some}
 use Rattle.std.specs.Prelude.{None, if◌then◌else◌, slice_get}
 use Rattle.st_core.specs.declared.types.Kind.TheVariants as kind
@@ -7,12 +7,12 @@ use Rattle.st_core.specs.declared.types.Event.{Event}
 abbrev pub is_take : Event → Bool
 is_take e = elim e.kind [ kind.Send ↦ false | kind.Receive ↦ true | kind.Print ↦ false ]
 
--- a send or a print with this prev
+-- whether an event is a send or print with the prev
 abbrev pub is_in_row : ℕ → Event → Bool
 is_in_row prev e = not (is_take e) && e.serial.prev == prev
 
--- where the row of sends and prints with this prev begins that goes up to index i: directly before
--- i there is nothing but them
+-- the index at which the row up to index i begins: from there to i there are only sends and prints
+-- with the prev
 abbrev pub row_first : ℕ → List Event → ℕ → ℕ
 row_first prev es zero = 0
 row_first prev es (suc i) = elim (slice_get es i) [
@@ -20,7 +20,7 @@ row_first prev es (suc i) = elim (slice_get es i) [
   | Some e ↦ if is_in_row prev e then row_first prev es i else suc i
 ]
 
--- the index before this one, if a receive of this count is there
+-- the index before the given one, if a receive with the count is there
 abbrev pub take_before : ℕ → List Event → ℕ → Option ℕ
 take_before this es zero = None
 take_before this es (suc j) = elim (slice_get es j) [

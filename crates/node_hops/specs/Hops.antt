@@ -1,4 +1,4 @@
--- The hop back from an event: what the events tell of what it follows, and what that rests on.
+-- The hop back from an event, and the premises on which it rests.
 use Rattle.std.specs.Prelude.{ℕ, suc, ◌==◌, ◌&&◌, List, Option, Some, None, if◌then◌else◌}
 use Rattle.std.specs.Prelude.{[], length, slice_get, take}
 use Rattle.st_core.specs.declared.types.Pid.{Pid}
@@ -14,46 +14,46 @@ use Rattle.node_hops.specs.declared.hop.NodeHop.TheVariants as hop
 use Rattle.node_hops.specs.declared.hop.NodePremises.{NodePremises}
 use Rattle.node_hops.specs.declared.hop.NodePremises.TheVariants as premises
 
--- of a receive from q, by the index of its send there
+-- the hop of a receive from q, by the index of its send there
 abbrev pub node_hop_to_send : Pid → Option ℕ → NodeHop
 node_hop_to_send q (Some j) = hop.Sent q j
 node_hop_to_send q None = hop.Unsent
 
--- the label of event j, this one if there is none
+-- the label of event j, or the given one if there is no event j
 abbrev pub label_there_or : List Event → ℕ → Label → Label
 label_there_or es j label = elim (slice_get es j) [ None ↦ label | Some e ↦ e.label ]
 
--- to the receive at index j if it has the stamp's label, else to what the other label leaves open
+-- the hop to the receive at index j, or over a change of label if the stamp's label is another
 abbrev pub node_hop_by_label : ℕ → Label → Label → NodeHop
 node_hop_by_label j received label =
     if received.0 == label.0 then hop.After j else hop.OtherLabel j received
 
--- of a send or print with this prev and label, by where its row begins and by the receive of the
--- prev that is directly before that
+-- the hop of a send or print, by where its row begins and by the receive of its prev directly
+-- before the row
 abbrev pub node_hop_by : List Event → ℕ → Label → ℕ → Option ℕ → NodeHop
 node_hop_by es prev label start (Some j) = node_hop_by_label j (label_there_or es j label) label
 node_hop_by es prev label start None =
     if start == 0 && prev == 0 then hop.Begins else hop.Moved start
 
--- of a send or print after the first i events of its process
+-- the hop of a send or print after the first i events of its process
 abbrev pub hop_of_stamp : List Event → ℕ → Event → NodeHop
 hop_of_stamp es i e =
     (let start = row_first e.serial.prev es i in
     node_hop_by es e.serial.prev e.label start (take_before e.serial.prev es start))
 
--- of event e, which is event i of p
+-- the hop of the event e, event i of p
 abbrev pub node_hop_of : List Stream → Pid → ℕ → Event → NodeHop
 node_hop_of streams p i e =
     if is_stamp e
     then hop_of_stamp (events_of streams p) i e
     else node_hop_to_send e.from (send_of streams (take i (events_of streams p)) e)
 
--- of each event of p
+-- the hop of each event of p
 abbrev pub node_hops_of : List Stream → Pid → List NodeHop
 node_hops_of streams p =
     each_from (λ before e. node_hop_of streams p (length before) e) [] (events_of streams p)
 
--- the premises that a hop rests on
+-- the premises on which a hop rests
 abbrev pub node_premises_of : NodeHop → NodePremises
 node_premises_of (hop.Sent q j) = premises.SendsReported
 node_premises_of hop.Unsent = premises.Nothing
@@ -62,7 +62,7 @@ node_premises_of (hop.OtherLabel j m) = premises.KeptCounters
 node_premises_of hop.Begins = premises.KeptCounters
 node_premises_of (hop.Moved k) = premises.Nothing
 
--- how many events of the stamp's process come before the part of the run that these are about
+-- the number of its process's events before the stretch of the run that a hop's premises are about
 abbrev pub events_before : NodeHop → ℕ
 events_before (hop.After j) = suc j
 events_before (hop.OtherLabel j m) = suc j

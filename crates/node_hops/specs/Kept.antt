@@ -1,4 +1,4 @@
--- The other ends of messages and where the rows begin, which are kept of each process.
+-- The tables of hops: the other ends of messages, and where rows begin.
 use Rattle.std.specs.Prelude.{◌≡◌, ℕ, ◌+◌, List, [], ◌∷◌, map, Option}
 use Rattle.st_core.specs.declared.types.Event.{Event}
 use Rattle.st_core.specs.Run.{Stream}
@@ -6,7 +6,7 @@ use Rattle.st_core.specs.Streams.{IsStreams}
 use Rattle.node_streams.specs.Messages.{all_partners}
 use Rattle.node_hops.specs.Events.{row_first}
 
--- for each of these last events, which are from index k on, where the row before it begins
+-- the index at which the row of each event from index k on begins
 abbrev pub row_firsts_from : List Event → ℕ → List Event → List ℕ
 row_firsts_from es k [] = []
 row_firsts_from es k (e ∷ rest) = row_first e.serial.prev es k ∷ row_firsts_from es (k + 1) rest
@@ -14,7 +14,7 @@ row_firsts_from es k (e ∷ rest) = row_first e.serial.prev es k ∷ row_firsts_
 abbrev pub row_firsts : List Event → List ℕ
 row_firsts es = row_firsts_from es 0 es
 
--- those of each process
+-- the row beginnings of each process
 abbrev pub all_row_firsts : List Stream → List (List ℕ)
 all_row_firsts streams = map (λ s. row_firsts s.events) streams
 

@@ -1,5 +1,4 @@
--- The tree of an event's followers, in which each event is below the one that
--- its hop leads back to.
+-- The tree of an event's followers: each event is below the one that its hop leads to.
 use Rattle.std.specs.Prelude.{ℕ, ◌+◌, ◌==◌, ◌||◌, zero, suc, Bool, List, [], ◌∷◌, ◌++◌, drop, take}
 use Rattle.std.specs.Prelude.{Option, None, Some, if◌then◌else◌, option_map, option_to_list}
 use Rattle.std.specs.List.{flat_map, prefix_len}
@@ -15,24 +14,23 @@ use Rattle.node_hops.specs.Events.{is_in_row}
 use Rattle.node_hops.specs.declared.node.Node.{Node}
 use Rattle.node_hops.specs.Way.{node}
 
--- the row of sends and prints with this prev at the front of these events
+-- the row of sends and prints with the prev at the front of the events
 abbrev pub row_ahead : ℕ → List Event → List Event
 row_ahead prev es = take (prefix_len (λ e. is_in_row prev e) es) es
 
--- the places of these events of p, which are from index i on: of those of this label, or of all
+-- the places of p's events from index i on, of all or of those with the label
 abbrev pub places_of : Bool → Pid → Label → ℕ → List Event → List (Pid × ℕ)
 places_of all p label i [] = []
 places_of all p label i (e ∷ es) =
     (if all || e.label.0 == label.0 then (p, i) ∷ [] else []) ++ places_of all p label (i + 1) es
 
--- the receive of the message that event e sends, which is event i of p
+-- the place of the receive of the message that the event e, event i of p, sends
 abbrev pub receive_place : List Stream → Pid → ℕ → Event → Option (Pid × ℕ)
 receive_place streams p i e = option_map (λ j. (owner kind.Receive (content_of e), j))
     (other_end_of streams (take i (events_of streams p)) e)
 
--- what follows event e, which is event i of p, directly: the receive of a send; the sends and
--- prints of the row after a receive, those of another label only over changes of label; of a print
--- nothing
+-- the places directly below the event e, event i of p: the receive of a send; the sends and prints
+-- of the row after a receive, those with another label only if `across`; nothing below a print
 abbrev pub children_of : List Stream → Bool → Pid → ℕ → Event → List (Pid × ℕ)
 children_of streams across p i e = elim e.kind [
   | kind.Send ↦ option_to_list (receive_place streams p i e)
@@ -41,14 +39,14 @@ children_of streams across p i e = elim e.kind [
   | kind.Print ↦ []
 ]
 
--- the same of a place
+-- the places directly below a place
 abbrev pub children : List Stream → Bool → Pid × ℕ → List (Pid × ℕ)
 children streams across x = elim (event_at streams x.0 x.1) [
   | None ↦ []
   | Some e ↦ children_of streams across x.0 x.1 e
 ]
 
--- n levels of the tree from this place down: the place, and then what is below it
+-- the tree of n levels from a place down: the place, and then what is below it
 abbrev pub tree : List Stream → Bool → ℕ → ℕ → Pid × ℕ → List Node
 tree streams across zero depth x = []
 tree streams across (suc n) depth x =

@@ -9,8 +9,8 @@ use Rattle.node_hops.specs.declared.hop.NodeHop.{NodeHop}
 use Rattle.node_hops.specs.declared.hop.NodeHop.TheVariants as hop
 use Rattle.node_hops.specs.Hops.{node_hop_of}
 
--- the place that a hop of p's event leads to, if it leads to one: over a change of label only if
--- asked to
+-- the place that a hop of p's event leads to, if there is one; over a change of label only if
+-- `across`
 abbrev pub next_of : Bool → Pid → NodeHop → Option (Pid × ℕ)
 next_of across p (hop.Sent q j) = Some (q, j)
 next_of across p hop.Unsent = None
@@ -19,17 +19,17 @@ next_of across p (hop.OtherLabel j label) = if across then Some (p, j) else None
 next_of across p hop.Begins = None
 next_of across p (hop.Moved k) = None
 
--- the place before this one
+-- the place that the hop of a place leads to
 abbrev pub next_at : List Stream → Bool → Pid × ℕ → Option (Pid × ℕ)
 next_at streams across x =
     option_and_then (λ e. next_of across x.0 (node_hop_of streams x.0 x.1 e))
     (event_at streams x.0 x.1)
 
--- a place n hops from the first one
+-- a place that is `depth` hops from the first one
 abbrev pub node : ℕ → Pid × ℕ → Node
 node depth x = record { depth = depth; place = x }
 
--- n places from this one on, as far as the hops lead, of which the first is k hops from
+-- up to n places, from the given one back as far as hops lead; the given one is `depth` hops from
 -- where the way began
 abbrev pub way : List Stream → Bool → ℕ → ℕ → Option (Pid × ℕ) → List Node
 way streams across zero depth at = []

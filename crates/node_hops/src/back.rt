@@ -1,4 +1,4 @@
-//! The way back from an event.
+//! Finds the way back from an event.
 
 ghost use Rattle.std.specs.Prelude.{◌≡◌, Some, IfOk};
 ghost use Rattle.node_hops.specs.Way.{next_at, next_of, way};
@@ -10,7 +10,6 @@ use crate::reach::Reach;
 use st_core::Pid;
 use std::alloc::{AllocError, Global};
 
-/// The place that a hop leads to.
 fn next_of(across: bool, pid: Pid, hop: NodeHop) -> Option<(Pid, u64)>
     ensures { result ≡ next_of across pid hop }
 {
@@ -22,7 +21,6 @@ fn next_of(across: bool, pid: Pid, hop: NodeHop) -> Option<(Pid, u64)>
     }
 }
 
-/// The place before this one.
 fn next_at(hops: &NodeHops, across: bool, place: (Pid, u64)) -> Option<(Pid, u64)>
     ensures { result ≡ next_at hops.now across place }
 {
@@ -33,9 +31,9 @@ fn next_at(hops: &NodeHops, across: bool, place: (Pid, u64)) -> Option<(Pid, u64
     }
 }
 
-/// The way back from a place, which comes first, also if no event is there. If the events have no
-/// order in which each receive comes after its send, it can go in a circle. Fails only if memory
-/// runs out.
+/// Returns the way back from a place, which comes first, even if no event is there. If the events
+/// have no order in which each receive comes after its send, the way can go in a circle. Fails
+/// only if memory runs out.
 pub fn way(
     alloc: Global,
     hops: &NodeHops,

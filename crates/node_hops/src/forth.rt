@@ -1,4 +1,4 @@
-//! The tree of all events that lead back to one.
+//! Finds the tree of all events that lead back to one.
 
 ghost use Rattle.std.specs.Prelude.{◌≡◌, ◌==◌, ◌||◌, ◌+◌, ◌<◌, ◌^◌, ◌++◌, IfOk, OnOk, length, map};
 ghost use Rattle.std.specs.Prelude.{reverse, option_to_list};
@@ -12,22 +12,19 @@ use crate::rows::row_length;
 use st_core::{Event, Kind, Label, Pid};
 use std::alloc::{AllocError, Global};
 
-/// The row of sends and prints with this prev at the front of these events.
 fn row_ahead(prev: u64, events: &[Event]) -> &[Event]
     ensures { result.now ≡ row_ahead prev events.now }
 {
     &events[..row_length(prev, events)]
 }
 
-/// Whether an event with this label is wanted: all are, or it is this one.
 fn is_wanted(all: bool, label: Label, event: &Event) -> bool
     ensures { result ≡ (all || event.now.label.0 == label.0) }
 {
     all || event.label.0 == label.0
 }
 
-/// Adds the events of a process from this index on, the last one first: those of this label, or
-/// all.
+/// Adds the events of a row, the last one first: those with the label, or all.
 fn add_row(
     waiting: &mut Vec<Node>,
     depth: u64,
@@ -52,7 +49,6 @@ fn add_row(
     Ok(())
 }
 
-/// Adds the place, if there is one.
 fn add_place(
     waiting: &mut Vec<Node>,
     depth: u64,
@@ -70,7 +66,7 @@ fn add_place(
     }
 }
 
-/// Adds what follows the event at this place directly, the last one first.
+/// Adds the places directly below a place, the last one first.
 fn add_children(
     waiting: &mut Vec<Node>,
     depth: u64,
@@ -96,9 +92,10 @@ fn add_children(
     }
 }
 
-/// All that follows the event at a place, as far as the reach goes: the place, and after each place
-/// what is below it. If the events have no order in which each receive comes after its send, it can
-/// go in a circle. Fails only if memory runs out. Its time grows as the number of nodes does.
+/// Returns all that follows the event at a place, as far as the reach goes: the place, and after
+/// each place what is below it. If the events have no order in which each receive comes after its
+/// send, the tree can go in a circle. Fails only if memory runs out. Its time grows as the number
+/// of nodes does.
 pub fn tree(
     alloc: Global,
     hops: &NodeHops,

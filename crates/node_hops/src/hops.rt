@@ -1,5 +1,5 @@
-//! The hops back from all events. The other ends of messages, and where the rows begin, are found
-//! once, in one pass over all events; the rest is read from the streams.
+//! Finds the hops back from all events. One pass over all events finds the other ends of messages,
+//! and where rows begin; the rest is read from the streams.
 
 ghost use Rattle.std.specs.Prelude.{◌≡◌, ◌≤◌, Option, Some, IfOk, OnOk, length, take};
 ghost use Rattle.std.specs.Prelude.{option_and_then, slice_get};
@@ -23,7 +23,6 @@ use st_core::{Event, Kind, Label, Pid, Sequence, Streams};
 use std::alloc::{AllocError, Global};
 use std::marker::Model;
 
-/// The other ends of the messages of all processes.
 fn all_partners(
     alloc: Global,
     streams: &Streams,
@@ -40,7 +39,6 @@ fn all_partners(
     Ok(lists)
 }
 
-/// Where the rows of all processes begin.
 fn all_row_firsts(alloc: Global, streams: &Streams) -> Result<Vec<Sequence<usize>>, AllocError>
     ensures kept { IfOk result (λ v. v.items ≡ all_row_firsts streams.now) }
     ensures streams { OnOk result (IsStreams streams.now) }
@@ -53,7 +51,6 @@ fn all_row_firsts(alloc: Global, streams: &Streams) -> Result<Vec<Sequence<usize
     Ok(lists)
 }
 
-/// The start at this index, 0 past the end.
 fn start_at(starts: &[usize], index: usize) -> usize
     ensures { result ≡ unwrap_or (slice_get starts.now index) 0 }
 {
@@ -63,7 +60,7 @@ fn start_at(starts: &[usize], index: usize) -> usize
     }
 }
 
-/// Where the row before a process's event begins.
+/// Returns where the row up to a process's event begins.
 fn row_first(
     streams: &Streams,
     starts: &[Sequence<usize>],
@@ -83,7 +80,7 @@ fn row_first(
     }
 }
 
-/// The partner at this index, none past the end.
+/// Returns the partner at an index, none past the end.
 pub(crate) fn partner_at(partners: &[Option<u64>], index: usize) -> Option<u64>
     ensures { result ≡ option_and_then (λ o. o) (slice_get partners.now index) }
 {
@@ -93,7 +90,6 @@ pub(crate) fn partner_at(partners: &[Option<u64>], index: usize) -> Option<u64>
     }
 }
 
-/// The index of the other end of the message of a process's event.
 fn partner(
     streams: &Streams,
     partners: &[Sequence<Option<u64>>],
@@ -113,7 +109,6 @@ fn partner(
     }
 }
 
-/// The process that receives the message of this event.
 fn receiver_of(event: &Event) -> Pid
     ensures { result ≡ owner kind.Receive (content_of event.now) }
 {
@@ -123,7 +118,6 @@ fn receiver_of(event: &Event) -> Pid
     }
 }
 
-/// The label of the event at this index, this one if there is none.
 fn label_there_or(events: &[Event], index: u64, label: Label) -> Label
     ensures { result ≡ label_there_or events.now index label }
 {
@@ -133,7 +127,7 @@ fn label_there_or(events: &[Event], index: u64, label: Label) -> Label
     }
 }
 
-/// The hop to the receive at this index with this label, or to what another label leaves open.
+/// Returns the hop to the receive at an index, or over a change of label.
 fn node_hop_by_label(index: u64, received: Label, label: Label) -> NodeHop
     ensures { result ≡ node_hop_by_label index received label }
 {
@@ -144,7 +138,7 @@ fn node_hop_by_label(index: u64, received: Label, label: Label) -> NodeHop
     }
 }
 
-/// The hop of a send or print with this prev and label, whose row begins here.
+/// Returns the hop of a send or print with a prev and a label, whose row begins at `start`.
 pub(crate) fn node_hop_by(
     events: &[Event],
     prev: u64,
@@ -166,7 +160,6 @@ pub(crate) fn node_hop_by(
     }
 }
 
-/// The hop of a receive from this process, by the index of its send.
 pub(crate) fn node_hop_to_send(from: Pid, send: Option<u64>) -> NodeHop
     ensures { result ≡ node_hop_to_send from send }
 {
@@ -176,8 +169,8 @@ pub(crate) fn node_hop_to_send(from: Pid, send: Option<u64>) -> NodeHop
     }
 }
 
-/// The hops back from all events of streams. A contract sees it as the streams. It borrows them,
-/// and keeps 24 bytes an event.
+/// The hops back from all events of streams, which it borrows. A contract sees it as the streams.
+/// It keeps 24 bytes an event.
 #[derive(Drop)]
 pub struct NodeHops<'a> {
     streams: &'a Streams,
@@ -198,7 +191,7 @@ impl<'a> Model for NodeHops<'a> {
 }
 
 impl<'a> NodeHops<'a> {
-    /// The hops of streams. Fails only if memory runs out.
+    /// Collects the hops of streams. Fails only if memory runs out.
     pub fn new(alloc: Global, streams: &'a Streams) -> Result<Self, AllocError>
         ensures { IfOk result (λ hops. hops ≡ streams.now) }
     {
@@ -212,7 +205,7 @@ impl<'a> NodeHops<'a> {
         })
     }
 
-    /// The event at this place, if there is one.
+    /// Returns the event at a place, if there is one.
     pub fn event(&self, pid: Pid, index: u64) -> Option<Event>
         ensures { result ≡ event_at self.now pid index }
     {
@@ -225,7 +218,7 @@ impl<'a> NodeHops<'a> {
         self.streams.events(pid)
     }
 
-    /// The receive of the message that this event sends, which is the one at this place.
+    /// Returns the place of the receive of the message that the event at a place sends.
     pub(crate) fn receiver(&self, pid: Pid, index: u64, event: &Event) -> Option<(Pid, u64)>
         requires { slice_get (events_of self.now pid) index ≡ Some event.now }
         ensures { result ≡ receive_place self.now pid index event.now }
@@ -236,7 +229,7 @@ impl<'a> NodeHops<'a> {
         }
     }
 
-    /// The index of the other end of the message of this event, which is the one at this place.
+    /// Returns the index of the other end of the message of the event at a place.
     fn partner(&self, pid: Pid, index: u64, event: &Event) -> Option<u64>
         requires { slice_get (events_of self.now pid) index ≡ Some event.now }
         ensures { result
@@ -245,8 +238,8 @@ impl<'a> NodeHops<'a> {
         partner(self.streams, self.partners.as_slice(), pid, index, event)
     }
 
-    /// The hop back from this event, which is the one at this place. Takes no memory; its time
-    /// doesn't depend on the trace, but for finding the process.
+    /// Returns the hop back from the event at a place. Takes no memory; its time doesn't depend on
+    /// the trace, but for finding the process.
     pub fn hop(&self, pid: Pid, index: u64, event: &Event) -> NodeHop
         requires { slice_get (events_of self.now pid) index ≡ Some event.now }
         ensures value { result ≡ node_hop_of self.now pid index event.now }
@@ -255,7 +248,7 @@ impl<'a> NodeHops<'a> {
         self.find_hop(self.streams.events(pid), pid, index, event)
     }
 
-    /// The hop of a send or print, by its process's events.
+    /// Returns the hop of a send or print among its process's events.
     fn stamp_hop(&self, events: &[Event], pid: Pid, index: u64, event: &Event) -> NodeHop
         requires own { events.now ≡ events_of self.now pid }
         requires there { slice_get (events_of self.now pid) index ≡ Some event.now }
@@ -267,7 +260,6 @@ impl<'a> NodeHops<'a> {
         node_hop_by(events, prev, event.label, start as u64, receive)
     }
 
-    /// Finds the hop by the event's kind.
     fn find_hop(&self, events: &[Event], pid: Pid, index: u64, event: &Event) -> NodeHop
         requires own { events.now ≡ events_of self.now pid }
         requires there { slice_get (events_of self.now pid) index ≡ Some event.now }

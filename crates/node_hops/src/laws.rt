@@ -1,6 +1,5 @@
-//! The claims of hops in all runs of a standard node without a reset, and what a tree has, as
-//! contracts of functions that do nothing: each clause is a theorem over the definitions of
-//! `specs/`, and a proof that calls the function may use it.
+//! The claims of hops in all runs of a standard node without a reset, and what trees have, as
+//! contracts of functions that do nothing: a proof that calls a function may use its clause.
 
 ghost use Rattle.std.specs.Prelude.{◌≡◌, ℕ, List, Some, slice_get, Bool};
 ghost use Rattle.st_core.specs.declared.types.Event.{Event};
@@ -13,8 +12,8 @@ ghost use Rattle.node_hops.specs.Hops.{node_hop_of};
 ghost use Rattle.node_hops.specs.Tree.{children};
 ghost use Rattle.node_hops.specs.Way.{next_at};
 
-/// The claim of the hop back from an event is true in every run of the node without a reset that
-/// has the streams and in which the premises hold that the hop names.
+/// The claim of a hop is true in every run of the node without a reset that has the streams and in
+/// which the hop's premises hold.
 pub fn hops_are_true()
     ensures { (streams : List Stream) (p : Pid) (i : ℕ) (e : Event) → IsStreams streams
         → event_at streams p i ≡ Some e → IsTrueOnNode streams p i e (node_hop_of streams p i e) }
@@ -27,7 +26,7 @@ pub fn all_that_follows_is_below()
         → (k : ℕ) × (slice_get (children streams across x) k ≡ Some y) }
 {}
 
-/// And adds nothing: the hop of each event that is directly below another leads to that one.
+/// A tree adds nothing: the hop of each event that is directly below another leads to that one.
 pub fn all_that_is_below_follows()
     ensures { (streams : List Stream) (across : Bool) (x y : Pid × ℕ) (k : ℕ) → IsStreams streams
         → slice_get (children streams across x) k ≡ Some y → next_at streams across y ≡ Some x }

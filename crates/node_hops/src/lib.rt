@@ -1,5 +1,5 @@
-//! Hops of a standard node: from event to event, as far as a trace tells of them, back and forth,
-//! and what they claim of each run of the node.
+//! Hops of a standard node, back and forth from event to event, and what they claim of each run of
+//! the node.
 #![tactic(auto)]
 
 mod back;

@@ -5,8 +5,8 @@ use st_core::Pid;
 /// An event, and how far it is from the first one.
 #[derive(Clone, Copy, Debug, PartialEq, Eq)]
 pub struct Node {
-    /// How many hops it is from the first event.
+    /// The number of hops from the first event.
     pub depth: u64,
-    /// Its process, and its index there.
+    /// The event's process, and its index there.
     pub place: (Pid, u64),
 }

@@ -1,4 +1,4 @@
-//! The hops back from all events of one process, which take no more than these events do.
+//! Finds the hops back from all events of one process, which take memory for these events alone.
 
 ghost use Rattle.std.specs.Prelude.{◌≡◌, ◌≤◌, ℕ, Some, IfOk, length, slice_get, take};
 ghost use Rattle.st_core.specs.Streams.{events_of};
@@ -16,7 +16,8 @@ use node_streams::Sends;
 use st_core::{Event, Kind, Pid};
 use std::alloc::{AllocError, Global};
 
-/// The hop back from this event of a process, which took this send, and whose row begins here.
+/// Returns the hop back from an event of a process, which took `send`, and whose row begins at
+/// `start`.
 fn hop_from(
     sends: &Sends<'_>,
     events: &[Event],
@@ -43,7 +44,7 @@ fn hop_from(
     }
 }
 
-/// The hops back from all events of a process, in order. Fails only if memory runs out.
+/// Returns the hops back from all events of a process, in order. Fails only if memory runs out.
 pub fn process_hops(alloc: Global, sends: &Sends<'_>, pid: Pid) -> Result<Vec<NodeHop>, AllocError>
     ensures value { IfOk result (λ v. v.items ≡ node_hops_of sends.now pid) }
     ensures truth { IfOk result (λ v. (i : ℕ) (e : EventValue) (h : NodeHopValue)

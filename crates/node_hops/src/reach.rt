@@ -1,11 +1,11 @@
-//! How far the way back goes.
+//! How far a way or a tree goes.
 
-/// How far to go back.
+/// How far to go from an event.
 #[derive(Clone, Copy, Debug, PartialEq, Eq)]
 pub struct Reach {
-    /// The most hops.
+    /// The most places on a way, or levels of a tree, with the first one.
     pub most: u64,
-    /// Whether to go on if a send or print has another label than the last receive before it.
+    /// Whether to go on to a receive with another label.
     pub across: bool,
 }
 

@@ -1,4 +1,4 @@
-//! The rows of sends and prints with one prev.
+//! Finds rows: sends and prints with one prev, one after the other.
 
 ghost use Rattle.std.specs.Prelude.{◌≡◌, ◌-◌, ◌<◌, ◌≤◌, IfOk, Some, length, slice_get};
 ghost use Rattle.st_core.specs.declared.types.Event.{Event as EventValue};
@@ -9,7 +9,6 @@ ghost use Rattle.node_hops.specs.Events.{is_in_row, take_before, row_first};
 use st_core::{Event, Kind};
 use std::alloc::{AllocError, Global};
 
-/// Whether the event is a send or a print with this prev.
 pub(crate) fn is_in_row(prev: u64, event: &Event) -> bool
     ensures { result ≡ is_in_row prev event.now }
 {
@@ -19,7 +18,7 @@ pub(crate) fn is_in_row(prev: u64, event: &Event) -> bool
     }
 }
 
-/// How many of these events, from the first one on, are in the row.
+/// Returns how many events, from the first one on, are in the row.
 pub(crate) fn row_length(prev: u64, events: &[Event]) -> usize
     ensures value { result ≡ prefix_len (λ e. is_in_row prev e) events.now }
     ensures len { result ≤ length events.now }
@@ -30,8 +29,8 @@ pub(crate) fn row_length(prev: u64, events: &[Event]) -> usize
         .count()
 }
 
-/// Where the row of sends and prints with the prev of this event begins that goes up to it: where
-/// that of the event before begins, if that event is in the row.
+/// Returns where the row up to the event at an index begins, if the row up to the event before it
+/// begins at `before`.
 #[tactic(auto, using(crate::proofs::Starts::next_start))]
 pub(crate) fn next_start(events: &[Event], index: usize, before: usize) -> usize
     requires within { index < length events.now }
@@ -50,7 +49,6 @@ pub(crate) fn next_start(events: &[Event], index: usize, before: usize) -> usize
     }
 }
 
-/// Where the row before each event begins.
 pub(crate) fn row_firsts(alloc: Global, events: &[Event]) -> Result<Vec<usize>, AllocError>
     ensures { IfOk result (λ v. v.items ≡ row_firsts events.now) }
 {
@@ -63,7 +61,7 @@ pub(crate) fn row_firsts(alloc: Global, events: &[Event]) -> Result<Vec<usize>, 
     Ok(found)
 }
 
-/// The index before this one, if a receive of this count is there.
+/// Returns the index before the given one, if a receive with the count is there.
 pub(crate) fn take_before(this: u64, events: &[Event], index: usize) -> Option<u64>
     requires { index ≤ length events.now }
     ensures { result ≡ take_before this events.now index }

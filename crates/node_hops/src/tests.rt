@@ -1,4 +1,4 @@
-//! Tests that the calls return, which no contract says.
+//! Tests that the calls succeed, which no contract says.
 
 ghost use Rattle.std.specs.Prelude.{◌≡◌};
 
@@ -27,7 +27,7 @@ fn node(depth: u64, pid: Pid, index: u64) -> Node
     }
 }
 
-/// A message is sent, received and printed of.
+/// A message is sent, and its receiver prints.
 #[test]
 fn a_print_follows_the_receive_before_it(rt: HostRuntime) {
     let (first, second) = (Pid::new(30), Pid::new(31));

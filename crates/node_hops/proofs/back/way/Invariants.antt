@@ -1,4 +1,4 @@
--- The places so far with the way on from the next one come to the whole way.
+-- The places so far, and the way from the next one, are the whole way.
 use Rattle.std.proofs.Common.{◌≡◌, ◌++◌, ◌-◌, Some}
 use Rattle.node_hops.specs.Way.{way}
 use Rattle.node_hops.proofs.back.way.Given as goal

@@ -1,4 +1,4 @@
--- So far the places from this index on were added, the last one first.
+-- So far the wanted places from the index on were added, the last one first.
 use Rattle.std.proofs.Common.{◌≡◌, ◌++◌, ◌≤◌, length}
 use Rattle.node_hops.proofs.Trees.{behind}
 use Rattle.node_hops.proofs.forth.add_row.Given as goal

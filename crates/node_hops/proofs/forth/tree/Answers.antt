@@ -1,4 +1,4 @@
--- Each turn takes off the next node, and its children wait in its place.
+-- Each turn takes off the next node, and puts its children there.
 use Rattle.std.proofs.Common.{◌++◌, ◌∙◌, ap, reverse}
 use Rattle.std.specs.List.{flat_map}
 use Rattle.node_hops.specs.Tree.{tree}

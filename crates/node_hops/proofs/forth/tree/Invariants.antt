@@ -1,4 +1,4 @@
--- The places found and those that wait come to the whole tree.
+-- The nodes found, and the trees of those that wait, are the whole tree.
 use Rattle.std.proofs.Common.{◌≡◌, ◌++◌, length, reverse}
 use Rattle.std.specs.List.{flat_map}
 use Rattle.node_hops.specs.Tree.{tree}

@@ -1,4 +1,4 @@
--- Each stream adds its own after those of the streams before it.
+-- Each stream adds its partners after those of the streams before it.
 use Rattle.std.proofs.Common.{◌∙◌, ap}
 use Rattle.node_streams.specs.Messages.{partners}
 use Rattle.st_pair.proofs.ForCallers.{process_passed}

@@ -1,4 +1,4 @@
--- So far these are the partners of the streams that were taken.
+-- The partners so far are those of the streams so far.
 use Rattle.std.proofs.Common.{◌≡◌, map, take}
 use Rattle.node_streams.specs.Messages.{partners}
 use Rattle.node_hops.proofs.hops.all_partners.Given as goal

@@ -1,4 +1,4 @@
--- Each stream adds its own after those of the streams before it.
+-- Each stream adds its starts after those of the streams before it.
 use Rattle.std.proofs.Common.{◌∙◌}
 use Rattle.node_hops.specs.Kept.{row_firsts}
 use Rattle.st_pair.proofs.ForCallers.{process_passed}

@@ -1,4 +1,4 @@
--- So far these are the starts of the streams that were taken.
+-- The starts so far are those of the streams so far.
 use Rattle.std.proofs.Common.{◌≡◌, take}
 use Rattle.node_hops.specs.Kept.{all_row_firsts}
 use Rattle.node_hops.proofs.hops.all_row_firsts.Given as goal

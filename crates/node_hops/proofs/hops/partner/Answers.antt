@@ -1,4 +1,4 @@
--- The partners of a process are kept at its place, and a process that isn't listed has no event.
+-- A process's partners are at its place, and a process that isn't listed has no event.
 use Rattle.std.proofs.Common.{option_and_then, ◌∙◌, ap}
 use Rattle.std.specs.List.{slice_get}
 use Rattle.st_core.specs.Streams.{events_of}

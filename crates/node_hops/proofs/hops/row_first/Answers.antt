@@ -1,5 +1,4 @@
--- The starts of a process's rows are kept at its place, and a process that isn't listed has
--- no event.
+-- A process's starts are at its place, and a process that isn't listed has no event.
 use Rattle.std.proofs.Common.{◌∙◌}
 use Rattle.st_core.specs.Streams.{events_of}
 use Rattle.node_hops.specs.Kept.{row_firsts}

@@ -1,4 +1,4 @@
--- By its kind.
+-- The claim holds for each kind of event.
 use Rattle.node_hops.proofs.Claims.{hop_true}
 use Rattle.node_hops.proofs.laws.hops_are_true.Goals as goal
 

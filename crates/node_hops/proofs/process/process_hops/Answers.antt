@@ -1,4 +1,4 @@
--- Each event adds its hop, whose claim is true, since it is that of the definition.
+-- Each event adds its hop, which is that of the definition, and whose claim is true.
 use Rattle.std.proofs.Common.{◌≡◌, ◌≤◌, ◌+◌, ◌-◌, ◌++◌, ◌∙◌, ap, sym, subst, arith, get_or, length}
 use Rattle.std.proofs.Common.{List, take, append-nil}
 use Rattle.std.specs.List.{slice_get}

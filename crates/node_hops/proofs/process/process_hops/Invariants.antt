@@ -1,5 +1,4 @@
--- The hops so far and those that are left come to all, and the last start is that of the event
--- before.
+-- The hops so far and those that are left are all, and `start` is that of the event before.
 use Rattle.std.proofs.Common.{◌≡◌, ◌++◌, ◌-◌, ◌<◌, Some, drop, length, slice_get, take}
 use Rattle.st_core.specs.declared.types.Event.{Event}
 use Rattle.node_streams.specs.Messages.{each_from}

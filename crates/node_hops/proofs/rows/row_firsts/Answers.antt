@@ -1,4 +1,4 @@
--- Each event adds where the row before it begins.
+-- Each event adds where its row begins.
 use Rattle.std.proofs.Common.{◌≡◌, ◌+◌, ◌-◌, ◌++◌, ◌∙◌, ap, sym, arith, drop, get_or, slice_get}
 use Rattle.st_pair.proofs.ForCallers.{at_get_or, blank}
 use Rattle.node_hops.specs.Events.{row_first}

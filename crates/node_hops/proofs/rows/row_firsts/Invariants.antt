@@ -1,5 +1,4 @@
--- The rows found so far and those that are left come to all, and the last start is that of the
--- event before.
+-- The starts so far and those that are left are all, and `start` is that of the event before.
 use Rattle.std.proofs.Common.{◌≡◌, ◌++◌, ◌-◌, ◌<◌, Some, drop, slice_get}
 use Rattle.st_core.specs.declared.types.Event.{Event}
 use Rattle.node_hops.specs.Events.{row_first}

@@ -1,4 +1,4 @@
--- Its claim is true, since it is the hop of the definition.
+-- The hop is that of the definition, whose claim is true.
 use Rattle.std.proofs.Common.{sym, subst}
 use Rattle.st_core.specs.Streams.{IsStreams}
 use Rattle.node_hops.specs.Claims.{IsTrueOnNode}
