@@ -1,5 +1,5 @@
--- A table keeps its other rows over a write at one place; and a row that isn't stale is seen as it
--- is written.
+-- A write at one place keeps a table's other rows, and a row that isn't stale is seen as it is
+-- written.
 use Rattle.std.proofs.Common.{◌≡◌, ℕ, ◌<◌, ◌≤◌, ◌+◌, false, List, [], length, get_or, set, inl, inr}
 use Rattle.std.proofs.Common.{slice_get, Option, Some, refl, sym, ◌∙◌, ap, subst, arith}
 use Rattle.std.proofs.lemmas.Bool.{cases_eq}
@@ -37,7 +37,7 @@ written_set rows place row n within here each i = elim (cases_eq i place) [
       (sym (get_or-set_other rows place i row zero_row other)) (each i)
 ]
 
--- a row was written at a place, and nothing was lost
+-- writing a row keeps the tables
 pub kept_after : {pids : List Pid} {number : ℕ} {old : Processes} (m : ℕ) (new : Processes)
     (place : ℕ) (row : Row)
     → IsKeptAt pids number old → number ≤ m → place < length pids → row.written ≤ m
@@ -163,7 +163,7 @@ module _ {pids : List Pid} {number : ℕ} {old : Processes} (new : Processes) (p
       others = still;
     }
 
--- by the row and the mark that the code read
+-- as above, by the row and the mark that the code read
 module _ {pids : List Pid} {number : ℕ} {old : Processes} (new : Processes) (place : ℕ) (p : Pid)
     (kept : IsKeptAt pids number old) (at : slice_get pids place ≡ Some p) (m : NodeMark) (r : Row)
     (m_is : m ≡ node_mark_of old.nodes.items p) (r_is : r ≡ get_or old.rows.items place zero_row)
@@ -217,7 +217,7 @@ module _ {pids : List Pid} {number : ℕ} {old x : Processes} (new : Processes) 
       subst IsRising (sym (rows_pids x.nodes.items pids x.rows.items x.queues.boxes
       ready.kept.rows_len ready.kept.queues_len)) rising
 
-  -- the actor's part was written at its place
+  -- writing the actor's part at its place does the act
   pub done_alone : (l : LocalState) (b : List Message) → IsAlone (machine_act a)
       → IsNodePart ready_process a l b told
       → new.rows.items ≡ set x.rows.items place (record row { local = l })
@@ -249,7 +249,7 @@ module _ {pids : List Pid} {number : ℕ} {old x : Processes} (new : Processes) 
             (ap length queues ∙ length-set x.queues.boxes place b) nodes;
       }
 
-  -- by the row that the code read
+  -- as above, by the row that the code read
   pub done_by : (w : Row) → w ≡ get_or x.rows.items place w → (l : LocalState) (b : List Message)
       → IsAlone (machine_act a) → IsNodePart (process_of p w.local queue) a l b told
       → new.rows.items ≡ set x.rows.items place (record w { local = l })

@@ -1,4 +1,4 @@
--- A step asks for its processes alone, and no step takes one away, so acts of listed processes have
+-- A step asks only for its processes, and no step takes one away: so acts of listed processes have
 -- a run.
 use Rattle.std.proofs.Common.{◌≡◌, ◌||◌, true, false, cond, List, [], ◌∷◌, map, Option, Some, None}
 use Rattle.std.proofs.Common.{IsSome, is_some, option_map, option_and_then, refl, sym, ◌∙◌, ap}
@@ -32,7 +32,7 @@ pids_kept f keeps [] = refl
 pids_kept f keeps (r ∷ s) =
     ap (λ p. p ∷ pids_in (map f s)) (keeps r) ∙ ap (λ ps. r.pid ∷ ps) (pids_kept f keeps s)
 
--- the step of an act whose processes are there
+-- an act has a step if its processes are there
 record HasStep (s : State) (a : NodeAct) : Type 0 where
   outcome : Outcome
   steps : node_step s a ≡ Some outcome

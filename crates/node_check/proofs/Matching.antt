@@ -1,5 +1,5 @@
--- The run so far tells how many events of each stream are counted, and one more act changes that at
--- its own process alone.
+-- The counts say how many events of each stream the run so far reported, and one more act changes
+-- that of its own process alone.
 use Rattle.std.proofs.Common.{◌≡◌, ◌≢◌, ℕ, ◌+◌, ◌<◌, ◌≤◌, zero, suc, true, false, cond, List, []}
 use Rattle.std.proofs.Common.{◌∷◌, ◌++◌, length, take, get_or, set, slice_get, Option, Some, None}
 use Rattle.std.proofs.Common.{refl, sym, ◌∙◌, ap, subst, arith, inl, inr, append_assoc}
@@ -57,7 +57,7 @@ above p [] k d all within = absurd (omega arith)
 above p (x ∷ streams) zero d all within = all.0
 above p (x ∷ streams) (suc k) d all within = above p streams k d all.1 (omega arith)
 
--- the events of each pid that is among streams are its stream's
+-- a listed pid has its stream's events
 pub events_there : (streams : List Stream) (k : ℕ) (d : Stream) → IsRising (pids_of streams)
     → k < length streams
     → events_of streams (get_or streams k d).pid ≡ (get_or streams k d).events
@@ -85,7 +85,7 @@ behind : {A : Type 0} (xs zs : List A) → slice_get (xs ++ zs) (length xs) ≡ 
 behind [] zs = refl
 behind (x ∷ xs) zs = behind xs zs
 
--- an event that follows a front of as many
+-- an event that follows the first n events is the next one
 next_in : (es : List Event) (n : ℕ) (e : Event) → n ≤ length es → IsPrefix (take n es ++ e ∷ []) es
     → slice_get es n ≡ Some e
 next_in es n e within front =
@@ -162,7 +162,7 @@ module _ (streams : List Stream) (acts : List NodeAct) (a : NodeAct) (os : List 
             (other_matched k p p_at (stream_other acts a os o even p apart))
       ]
 
-  -- the event is the next of its process
+  -- if the event is the actor's next, the counts match with it
   pub matched_more : IsNextEvent (events_of streams me) (get_or counts place 0) o.report
       → (k : ℕ) (p : Pid) → slice_get (pids_of streams) k ≡ Some p
       → IsMatchedOnNode streams acts2 os2 p (get_or (counts_after counts place o.report) k 0)
@@ -176,7 +176,7 @@ module _ (streams : List Stream) (acts : List NodeAct) (a : NodeAct) (os : List 
       next_in (events_of streams me) (get_or counts place 0) e (matched place me at).within
       (subst (λ es. IsPrefix es (events_of streams me)) (grown e is) front)
 
-  -- and only then is what the actor reported at the front of its stream
+  -- only if it is the next, what the actor reported is at the front of its stream
   pub next_since_front : IsPrefix (node_stream acts2 os2 me) (events_of streams me)
       → IsNextEvent (events_of streams me) (get_or counts place 0) o.report
   next_since_front front = next_of_front o.report refl front

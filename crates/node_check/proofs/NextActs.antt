@@ -1,4 +1,4 @@
--- The next act has no step, or what is kept moves with it, or it reports another event.
+-- The next act has no step, reports another event, or passes and moves the tables with it.
 use Rattle.std.proofs.Common.{◌≡◌, ℕ, zero, suc, ◌+◌, ◌<◌, ◌≤◌, false, List, [], ◌∷◌, ◌++◌, length}
 use Rattle.std.proofs.Common.{map, take, get_or, IsSome, replicate, slice_get, Option, Some, None}
 use Rattle.std.proofs.Common.{option_map, option_and_then, refl, sym, ◌∙◌, ap, subst, arith}
@@ -55,7 +55,6 @@ unlisted {pids} x p kept apart =
 
 -- THE ACT OF A NUMBER
 
--- among the acts that values stand for
 pub act_within : {X : Type 0} (f : X → NodeAct) (xs : List X) (n : ℕ) → n < length xs
     → n < length (map f xs)
 act_within f xs n within = let size = length-map xs f in omega arith
@@ -76,7 +75,7 @@ module _ (streams : List Stream) (acts : List NodeAct) (n : ℕ) (a : NodeAct) (
   more : take n acts ++ a ∷ [] ≡ take (n + 1) acts
   more = ap (λ x. take n acts ++ x ∷ []) is ∙ sym (take_more acts n a within)
 
-  -- what is kept is of as many acts as the number
+  -- the tables are of as many acts as the number
   pub kept_at : IsKeptAt (pids_of streams) n kept.processes
   kept_at =
       subst (λ k. IsKeptAt (pids_of streams) k kept.processes) (many acts n within) p.processes
@@ -161,7 +160,7 @@ passed_start streams pids kept rising are zero_kept at_zero counts = record {
 
 -- THE VERDICT
 
--- acts pass up to the one that stops
+-- the acts before one that stops pass
 module _ (streams : List Stream) (acts : List NodeAct) (n : ℕ) (kept : Progress)
     (within : n < length acts) (p : HasPassedOnNode streams (take n acts) kept) where
   passes : PassesOnNode streams (take n acts)
@@ -179,7 +178,7 @@ module _ (streams : List Stream) (acts : List NodeAct) (n : ℕ) (kept : Progres
       → IsNodeVerdict streams acts (verdict.Differs n)
   differs_verdict differs = (within, passes, differs.0, differs.1)
 
--- once the loop is through
+-- after the loop all acts passed
 module _ (streams : List Stream) (acts : List NodeAct) (kept : Progress) where
   pub all_passed : (n : ℕ) → length acts ≤ n → HasPassedOnNode streams (take n acts) kept
       → HasPassedOnNode streams acts kept

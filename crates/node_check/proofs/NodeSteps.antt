@@ -1,4 +1,4 @@
--- A step of the node changes its actor at the actor's place, and then what it reaches.
+-- A step changes the actor at the actor's place, and then the processes that it reaches.
 use Rattle.std.proofs.Common.{◌≡◌, ℕ, true, List, map, set, slice_get, Option, Some, refl, sym, ◌∙◌}
 use Rattle.std.proofs.Common.{ap, subst, if◌then◌else◌}
 use Rattle.std.proofs.lemmas.Simd.{map-map}
@@ -16,7 +16,7 @@ use Rattle.node_machine.specs.Node.{machine_act, node_acted, node_actor, NodeAct
 use Rattle.node_check.specs.Steps.{IsNodePart, IsStepOnNode}
 use Rattle.node_check.proofs.States.{found, map_one, map_same, pids_in}
 
--- an act touches its actor alone
+-- the act touches its actor alone
 pub record IsAlone (a : Act) : Type 0 where
   pub receiver : receiver a ≡ actor a
   pub reached : (t : Option Token) (x : Process) → reached a t x ≡ x
@@ -33,11 +33,11 @@ module _ (s : State) (i : ℕ) (r : Process) (a : NodeAct) (rising : IsRising (p
   abbrev pub done : Acted
   done = node_acted r a
 
-  -- the act at a process that it reaches
+  -- the change of the act to a process that it reaches
   abbrev pub reach : Process → Process
   reach = reached (machine_act a) done.local.token
 
-  -- the actor's process afterwards, before the act reaches others
+  -- the actor's process after the act, before the act reaches others
   abbrev pub acted_process : Process
   acted_process = record r { local = done.local; queue = done.queue }
 
@@ -57,7 +57,7 @@ module _ (s : State) (i : ℕ) (r : Process) (a : NodeAct) (rising : IsRising (p
   after_is : map (changed (machine_act a) done) s ≡ map reach (set s i acted_process)
   after_is = sym (map-map reach mine s) ∙ ap (map reach) mine_is
 
-  -- the step, if the receiver is there
+  -- the act has its step if its receiver is there
   pub step_is : (q : Process) → process s (receiver (machine_act a)) ≡ Some q
       → (new : State) → map reach (set s i acted_process) ≡ new
       → IsStepOnNode s a done.report new
@@ -74,7 +74,7 @@ module _ (s : State) (i : ℕ) (r : Process) (a : NodeAct) (rising : IsRising (p
       step_is r (ap (process s) alone.receiver ∙ here) (set s i acted_process)
       (map_same reach (set s i acted_process) (alone.reached done.local.token))
 
-  -- by the parts
+  -- an act that touches its actor alone writes its part
   pub step_by_part : (l : LocalState) (b : List Message) (told : Option Event)
       → IsAlone (machine_act a) → IsNodePart r a l b told
       → IsStepOnNode s a told (set s i (process_of r.pid l b))

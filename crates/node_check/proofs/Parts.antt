@@ -26,7 +26,7 @@ print_at_part r p n v t l b e is same part =
       is_report = ap (λ (x : Acted). x.report) acts ∙ part.is_report;
     }
 
--- whose act it is, its part doesn't say
+-- the part of a print doesn't depend on the actor that it names
 pub print_of : (r : Process) (p q : Pid) (v : ℕ) (l : LocalState) (b : List Message)
     (e : Option Event) → IsNodePart r (Common (act.Print p v)) l b e
     → IsNodePart r (Common (act.Print q v)) l b e

@@ -1,5 +1,5 @@
--- The rows, queues and pids are of one length, so what stands at a place of each is at that place
--- of the state, and what is written there is written there.
+-- The rows, queues and pids are of one length, so reading or writing a place of them reads or
+-- writes that place of the state.
 use Rattle.std.proofs.Common.{◌≡◌, ℕ, ◌≤◌, zero, suc, false, List, [], ◌∷◌, length, get_or, set}
 use Rattle.std.proofs.Common.{slice_get, replicate, Some, refl, sym, ◌∙◌, ap, arith}
 use Rattle.std.proofs.lemmas.Bool.{le-ltb}
@@ -15,7 +15,7 @@ use Rattle.node_check.specs.Kept.{is_stale, local_by, node_mark_of, no_mark, pro
 use Rattle.node_check.specs.Kept.{zero_row}
 use Rattle.node_check.proofs.States.{pids_in}
 
--- a process by its row and its queue
+-- the process of a row and a queue
 abbrev pub process_by : List NodeMark → Pid → Row → List Message → Process
 process_by marks p row queue =
     process_of p (local_by (node_mark_of marks p) row) (queue_by (node_mark_of marks p) row queue)
@@ -42,7 +42,7 @@ module _ (marks : List NodeMark) where
   rows_at (q ∷ ps) (row ∷ rows) (b ∷ bs) (suc i) p e f at =
       rows_at ps rows bs i p (omega arith) (omega arith) at
 
-  -- a write at one place of both
+  -- a write at one place of rows and queues
   pub rows_set : (ps : List Pid) (rows : List Row) (bs : List (List Message)) (i : ℕ) (p : Pid)
       (row : Row) (b : List Message)
       → length rows ≡ length ps → length bs ≡ length ps → slice_get ps i ≡ Some p
@@ -57,7 +57,7 @@ module _ (marks : List NodeMark) where
       ap (λ s. process_by marks q x y ∷ s)
       (rows_set ps rows bs i p row b (omega arith) (omega arith) at)
 
-  -- of the rows alone
+  -- a write at one place of the rows alone
   pub rows_set_row : (ps : List Pid) (rows : List Row) (bs : List (List Message)) (i : ℕ) (p : Pid)
       (row : Row)
       → length rows ≡ length ps → length bs ≡ length ps → slice_get ps i ≡ Some p
@@ -67,7 +67,7 @@ module _ (marks : List NodeMark) where
       ap (processes_of marks ps (set rows i row)) (sym (set-get_or bs i []))
       ∙ rows_set ps rows bs i p row (get_or bs i []) e f at
 
-  -- of the queues alone
+  -- a write at one place of the queues alone
   pub rows_set_queue : (ps : List Pid) (rows : List Row) (bs : List (List Message)) (i : ℕ)
       (p : Pid) (b : List Message)
       → length rows ≡ length ps → length bs ≡ length ps → slice_get ps i ≡ Some p
@@ -79,7 +79,7 @@ module _ (marks : List NodeMark) where
 
 -- A ROW THAT ISN'T STALE
 
--- it is shown as it stands, if it has its node's mark
+-- a row that isn't stale is seen as it is, if it has its node's tracer
 pub fresh_local : (mark : NodeMark) (row : Row) → is_stale mark row ≡ false
     → row.local.traced ≡ mark.traced → local_by mark row ≡ row.local
 fresh_local mark row fresh traced = rw (fresh, sym traced) refl
@@ -88,7 +88,7 @@ pub fresh_queue : (mark : NodeMark) (row : Row) (b : List Message) → is_stale 
     → queue_by mark row b ≡ b
 fresh_queue mark row b fresh = rw fresh refl
 
--- as one is that was written after each reset
+-- a row that was written after each reset isn't stale
 pub written_fresh : (mark : NodeMark) (l : LocalState) (number : ℕ) → mark.reset ≤ number
     → is_stale mark (record { local = l; written = number }) ≡ false
 written_fresh mark l number before = le-ltb number mark.reset before

@@ -1,5 +1,5 @@
--- One more act at the end of a run adds one outcome, and leaves all that came of the acts before as
--- it was; and what came of the first acts is the first of what came of all.
+-- One more act at the end of a run adds one outcome, and leaves those before it. So the first acts
+-- of a run have the first outcomes.
 use Rattle.std.proofs.Common.{◌≡◌, ℕ, zero, suc, Bool, true, false, List, [], ◌∷◌, ◌++◌, length}
 use Rattle.std.proofs.Common.{take, Option, Some, None, option_map, option_and_then, option_to_list}
 use Rattle.std.proofs.Common.{refl, sym, ◌∙◌, ap, arith, append-nil, append_assoc, if◌then◌else◌}
@@ -70,7 +70,7 @@ stream_append (b ∷ acts) a (x ∷ os) o p even =
 
 module _ (acts : List NodeAct) (a : NodeAct) (os : List Outcome) (o : Outcome)
     (even : length os ≡ length acts) where
-  -- the streams of the others stay
+  -- the streams of other processes stay
   pub stream_other : (p : Pid) → pid_eq (node_actor a) p ≡ false
       → node_stream (acts ++ a ∷ []) (os ++ o ∷ []) p ≡ node_stream acts os p
   stream_other p apart =
@@ -91,7 +91,7 @@ module _ (acts : List NodeAct) (a : NodeAct) (os : List Outcome) (o : Outcome)
       ∙ ap (λ es. node_stream acts os p ++ es) (no_event (pid_eq (node_actor a) p))
       ∙ append-nil (node_stream acts os p)
 
-  -- the actor's grows by what it reports
+  -- the actor's stream grows by its report
   pub stream_own : (p : Pid) (e : Event) → pid_eq (node_actor a) p ≡ true → o.report ≡ Some e
       → node_stream (acts ++ a ∷ []) (os ++ o ∷ []) p ≡ node_stream acts os p ++ e ∷ []
   stream_own p e same is =

@@ -1,5 +1,5 @@
--- A send writes its actor's row, and then its message, with the stamped token, at the end of the
--- receiver's queue, which may be the actor's own.
+-- A send writes its actor's row, and then puts its message, with the stamped token, at the end of
+-- the receiver's queue, which may be the actor's own.
 use Rattle.std.proofs.Common.{◌≡◌, ℕ, ◌+◌, false, List, [], ◌∷◌, ◌++◌, length, get_or, map, set}
 use Rattle.std.proofs.Common.{slice_get, Option, Some, refl, sym, ◌∙◌, ap, subst, arith, inl, inr}
 use Rattle.std.proofs.lemmas.Bool.{cases_eq}
@@ -69,7 +69,7 @@ module _ {pids : List Pid} {number : ℕ} {old x : Processes} (new : Processes) 
   abbrev pub told : Option Event
   told = report row.local.traced kind.Send stamped.token (Some to) value
 
-  -- the actor's row was written
+  -- the state once the actor's row is written
   abbrev pub between : State
   between = processes_of marks pids rows2 x.queues.boxes
 
@@ -151,7 +151,7 @@ module _ {pids : List Pid} {number : ℕ} {old x : Processes} (new : Processes) 
         ∙ ap (λ b. set between other (process_of to (local_by (node_mark_of marks to) to_row) b))
         (fresh_queue (node_mark_of marks to) to_row more to_row_fresh)
 
-    -- the receiver is there before the act
+    -- the receiver before the act
     abbrev pub to_first : Process
     to_first = process_by marks to (get_or x.rows.items other zero_row) box
 
@@ -172,7 +172,7 @@ module _ {pids : List Pid} {number : ℕ} {old x : Processes} (new : Processes) 
               (ap length queues ∙ length-set x.queues.boxes other more) nodes;
         }
 
-    -- by the row that the code read, and what it made of it
+    -- as above, by what the code read and made of it
     pub done_send_by : (e : Option Event) → e ≡ told → IsDone pids number a e old new
     done_send_by e is =
         subst (λ (y : Option Event). IsDone pids number a y old new) (sym is) done_send
@@ -185,7 +185,7 @@ module _ {pids : List Pid} {number : ℕ} {old x : Processes} (new : Processes) 
       l_is ∙ ap (λ (y : Row). after_stamp me y.local)
       (is ∙ get_or_default x.rows.items place w zero_row (omega arith))
 
-  -- what the code read and wrote
+  -- the send is done by what the code read and wrote
   pub sent : (w : Row) (l : LocalState) (t : Option Token) (e : Option Event)
       → w ≡ get_or x.rows.items place w → l ≡ after_stamp me w.local → t ≡ l.token
       → e ≡ report l.traced kind.Send t (Some to) value

@@ -1,4 +1,4 @@
--- A state's pids rise, so each stands once: a pid is found at its place, and a change of one
+-- A state's pids rise, so each comes once: a pid is found at its place, and a change of one
 -- process alone is a write at its place.
 use Rattle.std.proofs.Common.{◌≡◌, ℕ, zero, suc, false, cond, List, [], ◌∷◌, map, set, Some, None}
 use Rattle.std.proofs.Common.{slice_get, refl, sym, ◌∙◌, ap, subst}
@@ -12,11 +12,11 @@ use Rattle.st_core.proofs.ForCallers.{all_apart, IsBelow-apart, pid_eq-same}
 abbrev pub pids_in : State → List Pid
 pids_in s = map (λ (r : Process). r.pid) s
 
--- no process of these has this pid
+-- no process of the state has the pid
 abbrev pub AreOthers : State → Pid → Type 0
 AreOthers s p = AllByRecursion (λ q. pid_eq q p ≡ false) (pids_in s)
 
--- a function leaves each process but those of p
+-- f leaves each process but those with the pid
 abbrev pub LeavesOthersOf : Pid → (Process → Process) → Type 0
 LeavesOthersOf p f = (x : Process) → pid_eq x.pid p ≡ false → f x ≡ x
 
@@ -25,7 +25,7 @@ missing [] p others = refl
 missing (r ∷ s) p others =
     ap (λ b. cond b (Some r) (process s p)) others.0 ∙ missing s p others.1
 
--- what stands at a place behind the first has another pid than the first
+-- a later process has a greater pid than the first
 below_at : (p : Pid) (s : State) (i : ℕ) (r : Process) → AllByRecursion (IsBelow p) (pids_in s)
     → slice_get s i ≡ Some r → IsBelow p r.pid
 below_at p [] i r all at = absurd (cc)
@@ -71,7 +71,7 @@ set_back [] i x at = refl
 set_back (y ∷ xs) zero x at = ap (λ z. z ∷ xs) (sym (same_Some y x at))
 set_back (y ∷ xs) (suc i) x at = ap (λ ys. y ∷ ys) (set_back xs i x at)
 
--- a write of a process of the same pid leaves the pids
+-- writing a process with the same pid leaves the pids
 pub set_pids : (s : State) (i : ℕ) (r x : Process) → slice_get s i ≡ Some r → x.pid ≡ r.pid
     → pids_in (set s i x) ≡ pids_in s
 set_pids [] i r x at same = refl

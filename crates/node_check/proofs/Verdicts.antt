@@ -1,6 +1,5 @@
--- While acts pass, the counts say which events are left, so they give the verdict; and after a no
--- the acts don't show the streams, since what comes of the first acts is the first of what comes of
--- all.
+-- While acts pass, the counts say which events are left, so they give the verdict. After a no the
+-- acts don't show the streams, since the first acts of a run have the first outcomes.
 use Rattle.std.proofs.Common.{◌≡◌, ℕ, ◌+◌, ◌<◌, ◌≤◌, zero, suc, Bool, true, false, cond, List, []}
 use Rattle.std.proofs.Common.{◌∷◌, ◌++◌, length, take, drop, get_or, slice_get, Option, Some, None}
 use Rattle.std.proofs.Common.{IsSome, is_some, option_map, find, nat_lt, refl, sym, ◌∙◌, ap, subst}
@@ -46,7 +45,7 @@ module _ (streams : List Stream) (rising : IsRising (pids_of streams)) (acts : L
   in_pids : (k : ℕ) → k < length streams → k < length (pids_of streams)
   in_pids k within = let size = length-map streams (λ (x : Stream). x.pid) in omega arith
 
-  -- what a process reported, by its stream
+  -- a process reported the front of its stream
   front_at : (k : ℕ) (d : Stream) → k < length streams
       → node_stream acts p.outcomes (get_or streams k d).pid
       ≡ take (get_or counts k 0) (get_or streams k d).events
@@ -148,7 +147,7 @@ module _ (streams : List Stream) (rising : IsRising (pids_of streams)) (acts : L
         ∙ ap (option_map (λ x. p.outcomes ++ x ∷ []))
         (ap (λ x. node_step x a) (sym p.is_state) ∙ step.steps)
 
-    -- it passes if its report is the next event of its actor
+    -- the act passes if its report is its actor's next event
     pub passed_more : IsNextEvent (events_of streams me) (get_or counts place 0) told
         → IsPassedOnNode streams (acts ++ a ∷ []) new (counts_after counts place told)
     passed_more next = record {
@@ -167,7 +166,7 @@ module _ (streams : List Stream) (rising : IsRising (pids_of streams)) (acts : L
           next));
     }
 
-    -- and else it differs
+    -- else it differs
     pub differs_more : (IsNextEvent (events_of streams me) (get_or counts place 0) told → ⊥)
         → IsSome (node_run (pids_of streams) (acts ++ a ∷ []))
         × ¬ PassesOnNode streams (acts ++ a ∷ [])

@@ -1,5 +1,5 @@
 -- A reset makes each row of its node stale, and a stale row shows what a reset leaves; a tracer
--- change is seen through the mark of the node.
+-- change is seen through the node's mark.
 use Rattle.std.proofs.Common.{◌≡◌, ◌≢◌, ◌⊎◌, ℕ, ◌<◌, ◌≤◌, ◌+◌, ◌^◌, suc, true, false, Bool, cond}
 use Rattle.std.proofs.Common.{List, [], ◌∷◌, length, get_or, map, set, slice_get, Option, Some}
 use Rattle.std.proofs.Common.{None, refl, sym, ◌∙◌, ap, subst, arith, inl, inr}
@@ -27,7 +27,7 @@ use Rattle.node_check.proofs.States.{found, pids_in, set_back}
 
 -- MARKS
 
--- another mark was set for the node of me
+-- `later` has the mark for the node of me, and the old marks for other nodes
 pub record AreMarked (marks later : List NodeMark) (me : Pid) (mark : NodeMark) : Type 0 where
   pub here : (p : Pid) → node_eq p me ≡ true → node_mark_of later p ≡ mark
   pub there : (p : Pid) → node_eq p me ≡ false → node_mark_of later p ≡ node_mark_of marks p
@@ -64,7 +64,7 @@ module _ (me : Pid) (number : ℕ) (old : NodeMark) where
   abbrev pub reset_mark : NodeMark
   reset_mark = record old { reset = number + 1 }
 
-  -- a process of the node
+  -- a process of the node, after the reset
   reset_process : (p : Pid) (row : Row) (b : List Message) → row.written ≤ number
       → process_of p (local_by reset_mark row) (queue_by reset_mark row b)
       ≡ record (process_of p (local_by old row) (queue_by old row b)) {
@@ -245,7 +245,7 @@ module _ {pids : List Pid} {number : ℕ} {old : Processes} (new : Processes) (p
         kept = marks_kept mark node (let early = kept.reset me.node in omega arith) nodes;
       }
 
-  -- by the mark that the code read
+  -- the mark that the code read is that of the node of me
   read_mark : (k : ℕ) (m : NodeMark) → k ≡ me.node → k < length old.nodes.items
       → m ≡ get_or old.nodes.items k m → m ≡ node_mark_of old.nodes.items me
   read_mark k m k_is within is =

@@ -1,6 +1,6 @@
--- The processes of nodes as they are kept: a row and a queue for each, and a mark for each number
--- that a node can have. A reset writes its node's mark alone: a row that was written before, and
--- its queue, are stale, and count as wiped.
+-- The processes as tables keep them: a row and a queue for each, and a mark for each number that a
+-- node can have. A reset writes its node's mark alone: a row that was written before it is stale,
+-- and counts as wiped with its queue.
 use Rattle.std.specs.Prelude.{◌≡◌, ℕ, ◌+◌, ◌≤◌, ◌^◌, nat_lt, Bool, false, List, [], ◌∷◌, length}
 use Rattle.std.specs.Prelude.{map, if◌then◌else◌, slice_index_or, Option, None}
 use Rattle.st_core.specs.declared.types.Event.{Event}
@@ -28,20 +28,20 @@ no_mark = record { traced = false; reset = 0 }
 abbrev pub node_mark_of : List NodeMark → Pid → NodeMark
 node_mark_of marks p = slice_index_or marks p.node no_mark
 
--- the row was written before the last reset of its node
+-- whether the row was written before the last reset of its node
 abbrev pub is_stale : NodeMark → Row → Bool
 is_stale mark row = nat_lt row.written mark.reset
 
--- what a process keeps on a node with this mark
+-- the local state of a process, by its row and its node's mark
 abbrev pub local_by : NodeMark → Row → LocalState
 local_by mark row =
     record (if is_stale mark row then wiped row.local else row.local) { traced = mark.traced }
 
--- and its queue
+-- the queue of a process, by its row and its node's mark
 abbrev pub queue_by : NodeMark → Row → List Message → List Message
 queue_by mark row queue = if is_stale mark row then map untraced queue else queue
 
--- the processes of these rows and queues
+-- the state of the pids, by their rows and queues
 abbrev pub processes_of : List NodeMark → List Pid → List Row → List (List Message) → State
 processes_of marks (p ∷ ps) (row ∷ rows) (queue ∷ queues) =
     process_of p (local_by (node_mark_of marks p) row) (queue_by (node_mark_of marks p) row queue)
@@ -51,8 +51,8 @@ processes_of marks ps rows queues = []
 abbrev pub kept_state : List Pid → Processes → State
 kept_state pids x = processes_of x.nodes.items pids x.rows.items x.queues.boxes
 
--- there is a row and a queue for each pid, and a mark for each node; and no row or mark is of more
--- acts than this number
+-- the tables have a row and a queue for each pid, and a mark for each node; and no row or mark is
+-- of more acts than the number
 pub record IsKeptAt (pids : List Pid) (number : ℕ) (x : Processes) : Type 0 where
   pub rows_len : length x.rows.items ≡ length pids
   pub queues_len : length x.queues.boxes ≡ length pids
@@ -60,12 +60,12 @@ pub record IsKeptAt (pids : List Pid) (number : ℕ) (x : Processes) : Type 0 wh
   pub written : (i : ℕ) → (slice_index_or x.rows.items i zero_row).written ≤ number
   pub reset : (i : ℕ) → (slice_index_or x.nodes.items i no_mark).reset ≤ number
 
--- the row of p, at this place, isn't stale
+-- the row of p, at the place, isn't stale
 abbrev pub IsFresh : Processes → ℕ → Pid → Type 0
 IsFresh x place p =
     is_stale (node_mark_of x.nodes.items p) (slice_index_or x.rows.items place zero_row) ≡ false
 
--- the row of p at this place was refreshed: the state is the same, and it shows what p keeps
+-- the row of p at the place was refreshed: the state stays, and the row shows it
 pub record IsRefreshed (pids : List Pid) (number place : ℕ) (p : Pid)
     (old new : Processes) : Type 0 where
   pub kept : IsKeptAt pids number new
@@ -75,13 +75,13 @@ pub record IsRefreshed (pids : List Pid) (number place : ℕ) (p : Pid)
       ≡ (node_mark_of new.nodes.items p).traced
   pub others : (j : ℕ) (q : Pid) → IsFresh old j q → IsFresh new j q
 
--- the act of this number was done: it has a step from the one state to the other
+-- the act after `number` others was done: it has a step from the old state to the new
 pub record IsDone (pids : List Pid) (number : ℕ) (a : NodeAct) (report : Option Event)
     (old new : Processes) : Type 0 where
   pub step : IsStepOnNode (kept_state pids old) a report (kept_state pids new)
   pub kept : IsKeptAt pids (number + 1) new
 
--- why an act wasn't done: memory ran out, or it has no step
+-- the reason why an act wasn't done: memory ran out, or it has no step
 abbrev pub IsUndone : State → NodeAct → StepFault → Type 0
 IsUndone s a fault.Memory = Unit {0}
 IsUndone s a fault.Unknown = node_step s a ≡ None

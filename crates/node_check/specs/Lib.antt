@@ -2,8 +2,7 @@
 pub mod Acts
 pub mod Verdict
 pub mod Laws
--- For the parts alone: what a step is, the processes as they are kept, and what is kept while acts
--- pass.
+-- For the parts alone: steps, the tables of processes, and the tables while acts pass.
 pub mod Steps
 pub mod Kept
 pub mod Progress

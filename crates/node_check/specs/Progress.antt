@@ -1,4 +1,4 @@
--- The tables that are kept while acts pass, and why the next one doesn't.
+-- The tables while acts pass, and the reasons why the next act doesn't.
 use Rattle.std.specs.Prelude.{◌≡◌, ℕ, ◌+◌, ◌<◌, ◌≤◌, IsSome, slice_get, List, [], ◌∷◌, length}
 use Rattle.std.specs.Prelude.{slice_set, slice_index, take, Option, Some, None}
 use Rattle.st_core.specs.declared.types.Event.{Event}
@@ -18,18 +18,18 @@ use Rattle.node_check.specs.declared.progress.Stop.TheVariants as stop
 use Rattle.node_check.specs.Kept.{kept_state, IsKeptAt}
 use Rattle.node_check.specs.Verdict.{PassesOnNode}
 
--- the state after these outcomes in a row, from s on
+-- the state after outcomes in a row from s
 abbrev pub state_behind : State → List Outcome → State
 state_behind s [] = s
 state_behind s (o ∷ os) = state_behind o.after os
 
--- the events that p reported are the first of its stream, as many as were counted
+-- p reported the first events of its stream, as many as the count
 pub record IsMatchedOnNode (streams : List Stream) (acts : List NodeAct) (os : List Outcome)
     (p : Pid) (count : ℕ) : Type 0 where
   pub first : node_stream acts os p ≡ take count (events_of streams p)
   pub within : count ≤ length (events_of streams p)
 
--- acts that pass, the state that they lead to, and how many events each process reported
+-- the acts pass and lead to the state s, and each process reported as many events as its count
 pub record IsPassedOnNode (streams : List Stream) (acts : List NodeAct) (s : State)
     (counts : List ℕ) : Type 0 where
   pub outcomes : List Outcome
@@ -39,7 +39,7 @@ pub record IsPassedOnNode (streams : List Stream) (acts : List NodeAct) (s : Sta
   pub matched : (k : ℕ) (p : Pid) → slice_get (pids_of streams) k ≡ Some p
       → IsMatchedOnNode streams acts outcomes p (slice_index counts k)
 
--- these acts passed, by what is kept of them
+-- the acts passed, and the tables are theirs
 pub record HasPassedOnNode (streams : List Stream) (acts : List NodeAct)
     (kept : Progress) : Type 0 where
   pub rising : IsRising (pids_of streams)
@@ -47,22 +47,22 @@ pub record HasPassedOnNode (streams : List Stream) (acts : List NodeAct)
       kept.counts.items
   pub processes : IsKeptAt (pids_of streams) (length acts) kept.processes
 
--- the report, if there is one, is the event at this index
+-- the report, if there is one, is the event at the index
 abbrev pub IsNextEvent : List Event → ℕ → Option Event → Type 0
 IsNextEvent events index None = Unit {0}
 IsNextEvent events index (Some e) = slice_get events index ≡ Some e
 
--- the counts after an act of the process at this place: one more for it if it reported an event
+-- the counts after an act of the process at the place: one more for it if it reported an event
 abbrev pub counts_after : List ℕ → ℕ → Option Event → List ℕ
 counts_after counts place None = counts
 counts_after counts place (Some e) = slice_set counts place (slice_index counts place + 1)
 
--- an act stops because memory ran out, or has no step
+-- the reason of a stop: memory ran out, or the act has no step
 abbrev pub stop_by : StepFault → Stop
 stop_by fault.Memory = stop.Memory
 stop_by fault.Unknown = stop.Stuck
 
--- why acts whose last one doesn't pass stop there, as far as it shows
+-- the acts stop at the last one for the reason
 abbrev pub IsStopOnNode : List Stream → List NodeAct → Stop → Type 0
 IsStopOnNode streams acts stop.Memory = Unit {0}
 IsStopOnNode streams acts stop.Stuck = node_run (pids_of streams) acts ≡ None

@@ -9,7 +9,7 @@ use st_core::{Act, Pid};
 /// An act of a standard node.
 #[derive(Clone, Copy, Debug, PartialEq, Eq)]
 pub enum NodeAct {
-    /// An act that it has in common with the machine of the manual.
+    /// An act of the machine of the manual.
     Common(Act),
     /// The end of a `spawn`: the process takes the answer from this place of its queue, and keeps
     /// its token.
@@ -17,7 +17,7 @@ pub enum NodeAct {
 }
 
 impl NodeAct {
-    /// The process that acts.
+    /// Returns the process that acts.
     pub fn actor(&self) -> Pid
         ensures { result ≡ node_actor (node_act self.now) }
     {
@@ -30,10 +30,10 @@ impl NodeAct {
 
 /// A value that stands for an act of a standard node.
 pub trait ToNodeAct {
-    // The act that it stands for.
+    // The act that the value stands for.
     ghost on_node: { Self → NodeActValue };
 
-    /// Returns that act.
+    /// Returns the act that the value stands for.
     fn to_node_act(&self) -> NodeAct
         ensures { node_act result ≡ on_node self.now };
 }

@@ -1,4 +1,4 @@
-//! The checker.
+//! The checker of acts against streams.
 
 ghost use Rattle.std.specs.Prelude.{map, IfOk};
 ghost use Rattle.node_check.specs.Verdict.{IsNodeVerdict, RefutesOnNo};
@@ -9,13 +9,13 @@ use crate::verdict::{NodeCheckFault, NodeVerdict};
 use st_core::Streams;
 use std::alloc::Global;
 
-/// Whether the acts are a run of a standard node from zero clocks in which each process reports
+/// Checks whether acts are a run of a standard node from zero clocks in which each process reports
 /// exactly its stream.
 ///
-/// Its time grows with the acts, the events and the walks in the queues, whatever resets and tracer
-/// changes there are. It fails only if there is no memory for its tables, some rows a process and
-/// 1 MB for the nodes, or for the message of a send. An index of a long queue takes memory too, and
-/// is done without if there is none.
+/// Its time grows with the acts, the events and the walks in the queues, whatever resets and
+/// tracer changes there are. It fails only if there is no memory for its tables, some rows a
+/// process and 1 MB for the nodes, or for the message of a send. An index of a long queue takes
+/// memory too, and is done without if there is none.
 pub fn check_node<A: ToNodeAct>(
     alloc: Global,
     streams: &Streams,

@@ -9,7 +9,7 @@ use st_core::{Serial, Token};
 /// The least number that a serial can't show.
 const SERIAL_END: u64 = 1 << 60;
 
-/// The part of a number that a serial shows.
+/// Returns the part of a number that a serial shows.
 pub(crate) fn shown(number: u64) -> u64
     ensures value { result ≡ serial_count number }
     ensures below { result < 2 ^ 60 }
@@ -23,14 +23,13 @@ pub(crate) fn clock_after(clock: u64) -> u64
     clock.wrapping_add(1)
 }
 
-/// The count that a stamp shows.
 pub(crate) fn count_after(clock: u64) -> u64
     ensures { result ≡ stamp_count clock }
 {
     clock.wrapping_add(1) % SERIAL_END
 }
 
-/// The count that the answer to a spawn leaves, if its serial shows this one.
+/// Returns the count that the answer to a spawn leaves, if its serial shows `this`.
 pub(crate) fn answer_count(this: u64) -> u64
     requires { this < 2 ^ 60 }
     ensures { result ≡ answer_count this }
@@ -38,7 +37,7 @@ pub(crate) fn answer_count(this: u64) -> u64
     16 * this + 15
 }
 
-/// The token as a node holds it.
+/// Returns a token as a node holds it.
 pub(crate) fn held(token: Token) -> Token
     ensures { result ≡ node_token token }
 {
@@ -51,7 +50,6 @@ pub(crate) fn held(token: Token) -> Token
     }
 }
 
-/// The token as a node holds it, if there is one.
 pub(crate) fn held_if_any(token: Option<Token>) -> Option<Token>
     ensures { result ≡ option_map node_token token }
 {

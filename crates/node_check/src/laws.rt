@@ -1,9 +1,8 @@
-//! The law of runs that callers of the checker need. The function does nothing: its contract is the
-//! law.
+//! The law of runs for callers of the checker, as the contract of a function that does nothing.
 
 ghost use Rattle.node_check.specs.Laws.{ListedActsRun};
 
-/// Acts of listed processes, if a send's receiver is listed too, have a run, so none of them is
+/// Acts of listed processes have a run, if a send's receiver is listed too, so none of them is
 /// stuck.
 pub fn listed_acts_run()
     ensures { ListedActsRun }

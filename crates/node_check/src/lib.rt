@@ -1,7 +1,7 @@
 //! The exact checker of certificates for a standard node.
 //!
-//! `check_node` returns the definition's verdict of streams and acts. It steps the processes of a
-//! node, and compares what each reports with its stream.
+//! `check_node` returns the verdict that is defined for streams and acts. It steps the processes
+//! of a node, and compares their reports with the streams.
 #![tactic(auto)]
 
 mod acts;

@@ -1,5 +1,5 @@
-//! The tracing state of one process of a standard node, without its queue, and what an act of its
-//! own does to it.
+//! The tracing state of one process of a standard node, without its queue, and how its own acts
+//! change it.
 
 ghost use Rattle.std.specs.Prelude.{◌≡◌, ℕ, true, option_map, List};
 ghost use Rattle.node_check.specs.Steps.{IsNodePart};
@@ -52,7 +52,7 @@ impl Model for Local {
 }
 
 impl Local {
-    /// No token, both counts at 0, and not traced.
+    /// Returns the state at the start: no token, both counts at 0, and not traced.
     pub(crate) const fn new() -> Local
         ensures { result ≡ zero_local }
     {
@@ -94,7 +94,7 @@ impl Local {
         self.clock = clock_after(self.clock);
     }
 
-    /// Takes over the token of a message that was received, or that it has none.
+    /// Takes over the token of a received message, or takes the token away if it has none.
     fn meet(&mut self, token: Option<Token>)
         ensures { self.new ≡ received self.old token }
     {
@@ -105,7 +105,7 @@ impl Local {
         self.token = token;
     }
 
-    /// Takes over the counts of the answer to a spawn, if its message had a token. The token stays.
+    /// Takes over the counts of a spawn's answer, if its message has a token, and keeps the token.
     fn meet_answer(&mut self, token: Option<Token>)
         ensures { self.new ≡ after_answer self.old (option_map node_token token) }
     {
@@ -115,7 +115,7 @@ impl Local {
         }
     }
 
-    /// Sets a component of the token, and makes a token first if there is none.
+    /// Sets a component of the token, which it makes first if there is none.
     fn set(&mut self, me: Pid, component: Component)
         ensures { self.new ≡ after_set me component self.old }
     {
@@ -132,7 +132,7 @@ impl Local {
         self.token = Some(token.with(component));
     }
 
-    /// Puts a token back, which brings its counts with it.
+    /// Puts a token back, with its counts.
     fn put_back(&mut self, token: Token)
         ensures { self.new ≡ after_put_back token self.old }
     {
@@ -162,7 +162,7 @@ impl Local {
         self.traced = on;
     }
 
-    /// A print: the stamp, with the flag or without, and its event.
+    /// Prints: stamps, with the flag or without, and returns the report.
     fn print(&mut self, me: Pid, value: u64) -> Option<Event>
         ensures { (queue : List MessageValue) → IsNodePart (process_of me self.old queue)
             (Common (Act.Print me value)) self.new queue result }
@@ -171,7 +171,7 @@ impl Local {
         event(self.traced, Kind::Print, self.token, None, value)
     }
 
-    /// A print if the token has this label, and else nothing.
+    /// Prints if the token has the label, and else does nothing.
     fn print_at(&mut self, me: Pid, label: Label, value: u64) -> Option<Event>
         ensures { (queue : List MessageValue) → IsNodePart (process_of me self.old queue)
             (Common (Act.PrintAt me label value)) self.new queue result }
@@ -183,7 +183,7 @@ impl Local {
         }
     }
 
-    /// A receive, for the message that it took with its place. Returns its report.
+    /// Receives the message that was taken from a place, and returns the report.
     pub(crate) fn take(&mut self, me: Pid, taken: Option<(u64, Message)>) -> Option<Event>
         ensures { (queue : List MessageValue) (want : WantValue) → taken ≡ pick want queue
             → IsNodePart (process_of me self.old queue) (Common (Act.Receive me want)) self.new
@@ -195,7 +195,7 @@ impl Local {
         event(self.traced, Kind::Receive, token, Some(me), message.value)
     }
 
-    /// The end of a spawn, for the message that it took with its place. Returns its report.
+    /// Ends a spawn with the message that was taken from a place, and returns the report.
     pub(crate) fn take_answer(&mut self, me: Pid, taken: Option<(u64, Message)>) -> Option<Event>
         ensures { (queue : List MessageValue) (at : ℕ) → taken ≡ pick (Place at) queue
             → IsNodePart (process_of me self.old queue) (Answer me at) self.new
@@ -212,7 +212,8 @@ impl Local {
         )
     }
 
-    /// An act that leaves all queues: no send, receive, reset or tracer change. Returns its report.
+    /// Does an act that leaves all queues: no send, receive, reset or tracer change. Returns its
+    /// report.
     pub(crate) fn act(&mut self, me: Pid, act: &Act) -> Option<Event>
         requires inner { is_inner act.now ≡ true }
         requires me { actor act.now ≡ me }

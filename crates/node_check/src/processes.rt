@@ -1,7 +1,7 @@
 //! The processes of nodes, and one step of them.
 //!
-//! A reset touches nothing but a mark of its node: what was kept of a process before counts as
-//! wiped, and is wiped when an act next touches the process.
+//! A reset writes only a mark of its node: what was kept of a process before counts as wiped, and
+//! is wiped when an act next touches the process.
 
 ghost use Rattle.std.specs.Prelude.{◌≡◌, ℕ, ◌<◌, ◌+◌, ◌^◌, true, map, length, set, slice_get};
 ghost use Rattle.std.specs.Prelude.{if◌then◌else◌, replicate, IfErr, IfOk, List, Some};
@@ -31,16 +31,16 @@ const NODES: usize = 1 << 16;
 #[derive(Clone, Copy)]
 pub(crate) struct Row {
     local: Local,
-    /// The number of acts before the last one that wrote it.
+    /// The number of acts before the last one that wrote the row.
     written: u64,
 }
 
 /// A node's mark.
 #[derive(Clone, Copy)]
 pub(crate) struct NodeMark {
-    /// Whether it is traced.
+    /// Whether the node is traced.
     traced: bool,
-    /// The number of acts up to its last reset, 0 if there was none.
+    /// The number of acts up to the node's last reset, 0 if there was none.
     reset: u64,
 }
 
@@ -49,20 +49,19 @@ pub(crate) struct NodeMark {
 pub(crate) struct Processes {
     rows: Vec<Row>,
     queues: Mailboxes,
-    /// For each number that a node can have.
+    /// The mark of each number that a node can have.
     nodes: Vec<NodeMark>,
 }
 
-/// Why an act has no step, or couldn't be taken.
+/// Why an act wasn't done.
 #[derive(Clone, Copy)]
 pub(crate) enum StepFault {
     /// Memory ran out for the message of a send.
     Memory,
-    /// A send's receiver isn't there.
+    /// A send's receiver isn't listed, so the act has no step.
     Unknown,
 }
 
-/// The rows of this many processes at the start.
 fn zero_rows(alloc: Global, count: usize) -> Result<Vec<Row>, AllocError>
     ensures { IfOk result (λ rows. rows.items ≡ replicate count zero_row) }
 {
@@ -76,7 +75,6 @@ fn zero_rows(alloc: Global, count: usize) -> Result<Vec<Row>, AllocError>
     Ok(rows)
 }
 
-/// The marks of this many nodes at the start.
 fn zero_marks(alloc: Global, count: usize) -> Result<Vec<NodeMark>, AllocError>
     ensures { IfOk result (λ marks. marks.items ≡ replicate count no_mark) }
 {
@@ -91,7 +89,7 @@ fn zero_marks(alloc: Global, count: usize) -> Result<Vec<NodeMark>, AllocError>
 }
 
 impl Row {
-    /// Returns the state of the process, on a node with this mark.
+    /// Returns the state of the process, on a node with the mark.
     fn local_by(&self, mark: NodeMark) -> Local
         ensures { result ≡ local_by mark self.now }
     {
@@ -104,7 +102,7 @@ impl Row {
     }
 }
 
-/// Takes the tokens of the messages in this queue away, if it is stale.
+/// Takes the tokens of a queue's messages away, if the queue is stale.
 fn wipe_stale(queues: &mut Mailboxes, place: usize, stale: bool)
     requires { place < length queues.old.boxes }
     ensures { queues.new.boxes ≡ set queues.old.boxes place
@@ -117,7 +115,6 @@ fn wipe_stale(queues: &mut Mailboxes, place: usize, stale: bool)
 }
 
 impl Processes {
-    /// These processes in their zero state.
     pub(crate) fn new(alloc: Global, pids: &[Pid]) -> Result<Processes, AllocError>
         ensures kept { IfOk result (IsKeptAt pids.now 0) }
         ensures zero { IfOk result (λ x. kept_state pids.now x ≡ zero_state pids.now) }
@@ -132,7 +129,8 @@ impl Processes {
         })
     }
 
-    /// Does to the process at this place what resets and tracer changes of its node did.
+    /// Writes the row and the queue of a process as resets and tracer changes of its node left
+    /// them.
     fn refresh(&mut self, place: usize, pid: Pid, number: u64)
         requires rows { place < length self.old.rows.items }
         requires queues { place < length self.old.queues.boxes }
@@ -153,7 +151,7 @@ impl Processes {
         };
     }
 
-    /// An act that touches its actor alone and leaves its queue. Returns its report.
+    /// Does an act that touches its actor alone and leaves its queue. Returns its report.
     fn inner(&mut self, place: usize, me: Pid, number: u64, act: &Act) -> Option<Event>
         requires rows { place < length self.old.rows.items }
         requires queues { place < length self.old.queues.boxes }
@@ -168,7 +166,6 @@ impl Processes {
         self.rows[place].local.act(me, act)
     }
 
-    /// A receive. Returns its report.
     fn receive(&mut self, place: usize, me: Pid, number: u64, want: &Want) -> Option<Event>
         requires rows { place < length self.old.rows.items }
         requires queues { place < length self.old.queues.boxes }
@@ -182,7 +179,7 @@ impl Processes {
         self.rows[place].local.take(me, taken)
     }
 
-    /// The end of a spawn, which takes the answer from this place of the queue. Returns its report.
+    /// Ends a spawn, which takes the answer from a place of the queue, and returns the report.
     fn answer(&mut self, place: usize, me: Pid, number: u64, at: u64) -> Option<Event>
         requires rows { place < length self.old.rows.items }
         requires queues { place < length self.old.queues.boxes }
@@ -196,7 +193,7 @@ impl Processes {
         self.rows[place].local.take_answer(me, taken)
     }
 
-    /// A send. Returns its report. The message carries the stamped token.
+    /// Sends a message with the stamped token, and returns the report.
     fn send(
         &mut self,
         place: usize,
@@ -234,7 +231,6 @@ impl Processes {
         Ok(event(local.traced(), Kind::Send, token, Some(to), value))
     }
 
-    /// A reset of the node of `me`.
     fn reset(&mut self, me: Pid, number: u64)
         requires nodes { length self.old.nodes.items ≡ 2 ^ 16 }
         requires few { number + 1 < 2 ^ 64 }
@@ -245,7 +241,6 @@ impl Processes {
         self.nodes[usize::from(me.node())].reset = number + 1;
     }
 
-    /// A tracer change on the node of `me`.
     fn trace(&mut self, me: Pid, number: u64, on: bool)
         requires nodes { length self.old.nodes.items ≡ 2 ^ 16 }
         ensures { (pids : List PidValue) (place : ℕ) → IsRising pids → IsKeptAt pids number self.old
@@ -255,8 +250,8 @@ impl Processes {
         self.nodes[usize::from(me.node())].traced = on;
     }
 
-    /// Does the act of this number, one in common with the machine of the manual, whose actor is at
-    /// this place of the pids. Returns its report.
+    /// Does the act after `number` others, one of the machine of the manual, whose actor is at a
+    /// place of the pids. Returns its report.
     #[inline]
     fn common_step(
         &mut self,
@@ -302,7 +297,8 @@ impl Processes {
         }
     }
 
-    /// Does the act of this number, whose actor is at this place of the pids. Returns its report.
+    /// Does the act after `number` others, whose actor is at a place of the pids. Returns its
+    /// report.
     #[inline]
     pub(crate) fn step(
         &mut self,

@@ -1,4 +1,5 @@
-//! Acts that pass one by one: the state that they lead to, and how far each stream was matched.
+//! Acts that pass one by one: the state that they lead to, and the number of events that match
+//! each stream.
 
 ghost use Rattle.std.specs.Prelude.{◌≡◌, ◌<◌, ◌+◌, ◌^◌, ◌↔◌, [], length, map, slice_get};
 ghost use Rattle.std.specs.Prelude.{slice_index, take};
@@ -28,13 +29,12 @@ pub(crate) struct Progress {
 pub(crate) enum Stop {
     /// Memory ran out.
     Memory,
-    /// It has no step.
+    /// The act has no step.
     Stuck,
-    /// It reports another event than its actor's next.
+    /// The act reports another event than its actor's next.
     Differs,
 }
 
-/// Why an act that wasn't done doesn't pass.
 fn stop_by(fault: StepFault) -> Stop
     ensures { result ≡ stop_by fault }
 {
@@ -44,14 +44,12 @@ fn stop_by(fault: StepFault) -> Stop
     }
 }
 
-/// Whether two events are the same.
 fn is_same(one: &Event, other: &Event) -> bool
     ensures { IsTrue result ↔ (one.now ≡ other.now) }
 {
     *one == *other
 }
 
-/// Whether this is the event at an index.
 fn is_at(events: &[Event], index: u64, event: &Event) -> bool
     ensures { IsTrue result ↔ (slice_get events.now index ≡ Some event.now) }
 {
@@ -62,7 +60,6 @@ fn is_at(events: &[Event], index: u64, event: &Event) -> bool
 }
 
 impl Progress {
-    /// No acts yet.
     pub(crate) fn new(alloc: Global, streams: &Streams) -> Result<Progress, AllocError>
         ensures { IfOk result (λ p. HasPassedOnNode streams.now [] p) }
     {
@@ -72,8 +69,8 @@ impl Progress {
         Ok(Progress { processes, counts })
     }
 
-    /// Counts the event that the process at this place reported, if it did. False if it isn't the
-    /// next of its events.
+    /// Counts the report of the process at a place, if there is one. Returns false if it isn't the
+    /// process's next event.
     fn count(&mut self, place: usize, events: &[Event], report: Option<Event>) -> bool
         requires { place < length self.old.counts.items }
         ensures next { IsTrue result
@@ -93,7 +90,7 @@ impl Progress {
         true
     }
 
-    /// Takes the act of this number if it passes.
+    /// Takes act `number` if it passes.
     #[inline]
     pub(crate) fn advance<A: ToNodeAct>(
         &mut self,
@@ -125,7 +122,7 @@ impl Progress {
         Ok(())
     }
 
-    /// The first process with events left.
+    /// Returns the first process with events left.
     fn first_left(&self, streams: &Streams) -> Option<Pid>
         requires { length self.now.counts.items ≡ length (pids_of streams.now) }
         ensures found { IfSome result (IsLeftAt streams.now self.now.counts.items) }
@@ -142,7 +139,7 @@ impl Progress {
         None
     }
 
-    /// The verdict of the acts so far.
+    /// Returns the verdict of the acts so far, all of which passed.
     pub(crate) fn verdict(&self, streams: &Streams) -> NodeVerdict
         requires { length self.now.counts.items ≡ length (pids_of streams.now) }
         ensures { (acts : List NodeActValue) → HasPassedOnNode streams.now acts self.now

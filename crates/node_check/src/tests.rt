@@ -1,4 +1,4 @@
-//! Tests that `check_node` returns, which no contract says.
+//! Tests that `check_node` succeeds, which no contract says.
 
 ghost use Rattle.std.specs.Prelude.{◌≡◌, None, Some};
 
@@ -69,7 +69,7 @@ fn a_token_brings_its_count_back(rt: HostRuntime) {
     assert!(rt; verdict == NodeVerdict::Yes);
 }
 
-/// The child's answer has count 2. Its process keeps its token, and goes on from 16 * 2 + 15.
+/// The child's answer has count 2: its process keeps its token, and goes on from 16 * 2 + 15.
 #[test]
 fn an_answer_brings_both_counts_and_leaves_the_token(rt: HostRuntime) {
     let (parent, child) = (Pid::new(30), Pid::new(31));
@@ -100,7 +100,7 @@ fn an_answer_brings_both_counts_and_leaves_the_token(rt: HostRuntime) {
     assert!(rt; verdict == NodeVerdict::Yes);
 }
 
-/// Nobody of this pid is listed, so no text has the act.
+/// The receiver isn't listed, so the send has no step.
 #[test]
 fn a_stranger_is_stuck(rt: HostRuntime) {
     let pid = Pid::new(30);

@@ -1,9 +1,9 @@
-//! The results of the checker.
+//! The verdicts and faults of the checker.
 
 use st_core::Pid;
 use thiserror::Error;
 
-/// Whether acts are a run of a standard node that shows streams. Acts are numbered from 0.
+/// The verdict about acts and streams. Acts are numbered from 0.
 #[derive(Clone, Copy, Debug, PartialEq, Eq)]
 pub enum NodeVerdict {
     /// The act with this number has no step: its process or its receiver isn't there. All acts

@@ -1,4 +1,4 @@
--- After the loop all acts passed, so the verdict is that of what is kept; and a no refutes.
+-- After the loop all acts passed, so the tables give the verdict; and a no refutes.
 use Rattle.std.proofs.Common.{◌+◌, ◌≤◌, length, map, subst, take, arith}
 use Rattle.std.proofs.lemmas.List.{length-map}
 use Rattle.node_check.specs.declared.verdict.NodeVerdict.TheVariants as verdict

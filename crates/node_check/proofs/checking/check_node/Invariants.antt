@@ -1,4 +1,4 @@
--- The acts so far pass, and what is kept is theirs.
+-- The acts so far pass, and the tables are theirs.
 use Rattle.std.proofs.Common.{map, take}
 use Rattle.node_check.specs.Progress.{HasPassedOnNode}
 use Rattle.node_check.proofs.checking.check_node.Given as goal

@@ -1,4 +1,4 @@
--- A serial shows the rest, which is below the divisor.
+-- A serial shows a number modulo its size, which is below it.
 use Rattle.std.proofs.Common.{refl}
 use Rattle.node_machine.specs.Counts.{serial_count}
 use Rattle.node_check.proofs.counts.shown.Goals as goal

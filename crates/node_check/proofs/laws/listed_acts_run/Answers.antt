@@ -1,4 +1,4 @@
--- Each act has a step, and leaves the pids.
+-- Each act has a step, which leaves the pids.
 use Rattle.node_check.proofs.ListedActs as listed
 use Rattle.node_check.proofs.laws.listed_acts_run.Goals as goal
 

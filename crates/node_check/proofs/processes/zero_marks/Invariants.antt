@@ -1,4 +1,4 @@
--- Each of the marks so far is that of a node at the start.
+-- Each mark so far is that of a node at the start.
 use Rattle.std.proofs.Common.{◌≡◌, replicate}
 use Rattle.node_check.specs.Kept.{no_mark}
 use Rattle.node_check.proofs.processes.zero_marks.Given as goal

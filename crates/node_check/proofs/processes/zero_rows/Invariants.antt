@@ -1,4 +1,4 @@
--- Each of the rows so far is that of a process at the start.
+-- Each row so far is that of a process at the start.
 use Rattle.std.proofs.Common.{◌≡◌, replicate}
 use Rattle.node_check.specs.Kept.{zero_row}
 use Rattle.node_check.proofs.processes.zero_rows.Given as goal

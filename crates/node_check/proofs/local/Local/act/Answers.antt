@@ -1,4 +1,4 @@
--- Each act is one of those above, whoever is named as its actor.
+-- Each act is done by its own function, which doesn't depend on the actor that it names.
 use Rattle.std.proofs.Common.{sym, subst}
 use Rattle.st_mail.specs.Actor.{process_of}
 use Rattle.node_machine.specs.Node.{Common}

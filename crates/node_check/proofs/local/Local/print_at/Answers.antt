@@ -1,4 +1,4 @@
--- The token has the label, so it is a print.
+-- If the token has the label, the act is a print.
 use Rattle.std.proofs.Common.{ap, sym, ◌∙◌}
 use Rattle.st_core.specs.State.{LocalState}
 use Rattle.st_mail.specs.Actor.{process_of}

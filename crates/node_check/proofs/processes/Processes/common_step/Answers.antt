@@ -1,4 +1,5 @@
--- The act's process is at its place of each row, and so is a send's receiver, if it is listed.
+-- The place of the act's process is that of its row and queue, and so is the place of a send's
+-- receiver, if it is listed.
 use Rattle.std.proofs.Common.{ap, ◌∙◌}
 use Rattle.st_core.specs.Run.{pids_of}
 use Rattle.st_core.specs.State.{process}

@@ -1,4 +1,4 @@
--- The row is refreshed, and then the act is done in it.
+-- The row is refreshed, and then the act is done on it.
 use Rattle.std.proofs.Common.{[], get_or, refl, sym}
 use Rattle.std.proofs.lemmas.List.{set-get_or}
 use Rattle.node_machine.specs.Node.{Common}

@@ -1,4 +1,4 @@
--- The row that is written shows what was shown before.
+-- The row that is written shows the same state as before.
 use Rattle.std.proofs.Common.{◌<◌, length, get_or, ap, ◌∙◌, refl, rules}
 use Rattle.std.proofs.lemmas.List.{get_or_default}
 use Rattle.node_check.specs.Kept.{no_mark, zero_row}

@@ -1,4 +1,4 @@
--- A mark is written, which makes each row of the node stale.
+-- The node's mark is written, which makes each row of the node stale.
 use Rattle.std.proofs.Common.{◌<◌, length, refl, ◌∙◌, rules}
 use Rattle.node_check.proofs.Wide.{done_reset_by}
 use Rattle.node_check.proofs.processes.Processes.reset.Goals as goal

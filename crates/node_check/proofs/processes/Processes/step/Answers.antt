@@ -1,4 +1,4 @@
--- The row and the queue of the act's process are at its place.
+-- The place of the act's process is that of its row and queue.
 use Rattle.node_check.proofs.Keeping.{queue_within, row_within}
 use Rattle.node_check.proofs.processes.Processes.step.Goals as goal
 

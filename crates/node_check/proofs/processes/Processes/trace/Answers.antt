@@ -1,4 +1,4 @@
--- A mark is written, by which each row of the node is seen.
+-- The node's mark is written, through which each row of the node is seen.
 use Rattle.std.proofs.Common.{◌<◌, length, refl, ◌∙◌, rules}
 use Rattle.node_check.proofs.Wide.{done_trace_by}
 use Rattle.node_check.proofs.processes.Processes.trace.Goals as goal

@@ -1,5 +1,5 @@
--- An act stops if its process isn't listed, if it has no step, or if it reports another event; else
--- what is kept moves with it.
+-- An act stops if its process isn't listed, if it has no step, or if it reports another event;
+-- else the tables move with it.
 use Rattle.std.proofs.Common.{sym, ◌∙◌, arith, subst, get_or, map, false, ◌≡◌}
 use Rattle.std.specs.List.{AllByRecursion}
 use Rattle.std.proofs.lemmas.Bool.{false≢true}
