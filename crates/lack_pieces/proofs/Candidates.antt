@@ -1,4 +1,5 @@
--- Why the first of candidates is the first of all: each that is so has a candidate at its place.
+-- The first of the candidates is the first of all reasons, since each reason has a candidate at
+-- its place.
 use Rattle.std.proofs.Common.{◌≡◌, ◌⊎◌, ℕ, ◌+◌, ◌<◌, ◌≤◌, zero, suc, List, [], ◌∷◌, ◌++◌, Option}
 use Rattle.std.proofs.Common.{Some, None, inl, inr, length, slice_get, sym, ◌∙◌, subst, arith}
 use Rattle.std.proofs.lemmas.Bool.{cases_lt}
@@ -12,7 +13,6 @@ use Rattle.lack_pieces.specs.Verdicts.{ComesBefore, IsVerdictAmong, IsFirstAmong
 use Rattle.lack_pieces.proofs.Order.{not_before, not_both, not_earlier, not_earlier_back}
 use Rattle.lack_laws.proofs.ForCallers.{at_front, at_seam}
 
--- two reasons at one place
 pub record IsBeside (a b : PlacedReason) : Type 0 where
   pub pid : a.pid ≡ b.pid
   pub index : a.index ≡ b.index
@@ -27,14 +27,13 @@ pub not_before_itself : (a : PlacedReason) → ¬ IsEarlier a.pid a.index a.pid 
 not_before_itself a earlier = not_earlier_back a a earlier earlier
 
 module _ (Is More : PlacedReason → Type 0) where
-  -- no candidate more
   pub first_still : (least : Option PlacedReason) → ((r : PlacedReason) → Is r → More r)
       → ((r : PlacedReason) → More r → Is r) → IsEarliest Is least → IsEarliest More least
   first_still None more less none = λ other is. none other (less other is)
   first_still (Some found) more less first =
       (more found first.0, λ other is. first.1 other (less other is))
 
-  -- candidates for all that is so
+  -- if each reason has a candidate at its place, the first candidate is the first reason
   pub first_of_all : (least : Option PlacedReason) → ((r : PlacedReason) → Is r → More r)
       → ((r : PlacedReason) → More r → (c : PlacedReason) × Is c × IsBeside r c)
       → IsEarliest Is least → IsEarliest More least
@@ -45,7 +44,7 @@ module _ (Is More : PlacedReason → Type 0) where
         beside_not_earlier other c.0 found c.2 (first.1 c.0 c.1),
   )
 
-  -- one candidate more
+  -- if one candidate comes, the first one is the earlier of it and the first so far
   module _ (rank : ℕ) (next : PlacedReason)
       (ranked : (r : PlacedReason) → Is r → reason_rank r.never ≡ rank)
       (same : reason_rank next.never ≡ rank) (here : More next)
@@ -89,7 +88,7 @@ module _ (Is More : PlacedReason → Type 0) where
 
 -- ONE PLACE MORE
 
--- a candidate that is so by what is at a place before n
+-- the candidate holds by an item at a place before n
 pub record IsFoundBelow (Is : PlacedReason → Type 0) (place : (r : PlacedReason) → Is r → ℕ)
     (n : ℕ) (r : PlacedReason) : Type 0 where
   pub is : Is r

@@ -45,8 +45,7 @@ repeated = (
   refl,
 )
 
--- b received a message with prev 0 that nobody reported to have sent, and a printed with a prev
--- before it
+-- b received an unreported message with prev 0, and a had printed with another prev before it
 hidden_zero : Piece
 hidden_zero = record {
   pid = a;

@@ -1,5 +1,5 @@
--- Why the lowest counts tell what is unfounded: a lower one is there exactly if the lowest is
--- lower, and the first one that a walk meets is the lowest, since counts rise.
+-- A count is above some count with another prev than 0 exactly if it is above the lowest, and the
+-- first that a walk meets is the lowest, since counts rise.
 use Rattle.std.proofs.Common.{◌≡◌, ◌⊎◌, ℕ, ◌<◌, ◌≤◌, ◌+◌, zero, Bool, true, false, List, Option}
 use Rattle.std.proofs.Common.{Some, None, inl, inr, slice_get, refl, sym, ◌∙◌, ap, subst, arith}
 use Rattle.std.proofs.lemmas.Bool.{cases_lt, cases_order, false≢true}
@@ -166,7 +166,7 @@ module _ (top : ℕ) (piece : Piece) where
     | inr both ↦ both.1
   ]
 
-  -- the first of both sorts: there is no receipt
+  -- if no receipt is unfounded, the first unfounded stamp is the first
   pub first_stamp : (stamp : Option PlacedReason) → IsEarliest (IsUnfoundedStamp piece) stamp
       → IsEarliest (IsUnfoundedReceipt piece) None → IsFirstOfRank top piece 5 stamp
   first_stamp stamp first none =
@@ -181,7 +181,7 @@ module _ (top : ℕ) (piece : Piece) where
         c.2,
       )) first
 
-  -- or the first of the two: what comes before neither first comes before none
+  -- else it is the first of stamp and receipt
   pub first_both : (stamp : Option PlacedReason) (receipt result : PlacedReason)
       → IsEarliest (IsUnfoundedStamp piece) stamp
       → IsEarliest (IsUnfoundedReceipt piece) (Some receipt) → IsFirstWith stamp receipt result
@@ -238,7 +238,7 @@ IsFoundedBelow piece i = (other : PlacedReason) → IsUnfoundedStamp piece other
 abbrev pub receipt_place : (piece : Piece) (r : PlacedReason) → IsUnfoundedReceipt piece r → ℕ
 receipt_place piece r t = t.hidden.0.place
 
--- the receipt of an unfounded send that nobody reported is before place n
+-- the unfounded receipt is before place n
 abbrev pub IsUnfoundedBelow : Piece → ℕ → PlacedReason → Type 0
 IsUnfoundedBelow piece n r = IsFoundBelow (IsUnfoundedReceipt piece) (receipt_place piece) n r
 
@@ -290,7 +290,8 @@ module _ (piece : Piece) (i : ℕ) (e : Event) (at : slice_get piece.events i �
 
 -- THE LOWEST COUNT IS THE FIRST
 
--- an item with another prev counts no lower, if those before have prev 0 and those behind climb
+-- no item with another prev has a lower count, if those before it have prev 0 and counts rise
+-- after it
 no_lower : {A : Type 0} (Counts : A → Type 0) (count prev : A → ℕ) (xs : List A) (i : ℕ) (x : A)
     → slice_get xs i ≡ Some x
     → ((k : ℕ) (y : A) → k < i → slice_get xs k ≡ Some y → Counts y → prev y ≡ 0)

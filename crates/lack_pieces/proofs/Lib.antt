@@ -1,5 +1,5 @@
--- The lemmas: reasons have one order, a reason of the streams is one of a piece, and what a walk
--- over a piece finds first; and the verdict is the one of `complete`.
+-- The lemmas: reasons have one order, a reason of the streams is one of a piece, a walk over a
+-- piece finds the first, and the verdict is the one of `complete`.
 pub mod Order
 pub mod Readings
 pub mod Verdicts

@@ -1,5 +1,5 @@
--- Why there is one verdict on streams: two first reasons are of one kind and at one place, and
--- there each kind names one other place.
+-- Two first reasons are of one kind and at one place, where each kind names one other place: so
+-- there is one verdict on streams.
 use Rattle.std.proofs.Common.{◌≡◌, ℕ, List, Option, Some, None}
 use Rattle.std.proofs.Common.{inl, inr, refl, sym, ◌∙◌, ap, subst, arith}
 use Rattle.std.proofs.lemmas.Bool.{cases_order}
@@ -56,13 +56,13 @@ placed p i reason = Some (record { pid = p; index = i; never = reason })
 
 module _ (top : ℕ) (streams : List Stream) where
   module _ (p : Pid) (i : ℕ) (e : Event) where
-    -- no reason of this kind is against an earlier event
+    -- no reason of the kind is against an earlier event
     abbrev IsLeastHere : Never → Type 0
     IsLeastHere a = (other : Never) (q : Pid) (j : ℕ) (f : Event) → event_at streams q j ≡ Some f
         → IsAgainst top streams q j f other → reason_rank a ≡ reason_rank other
         → ¬ IsEarlier q j p i
 
-    -- of two receives with the count of a third that are before it, one repeats the other
+    -- if two earlier receives have the count of a third, one repeats the other
     not_two : (q r : Pid) (j k : ℕ) → IsLeastHere (never.Repeated q j)
         → IsAgainst top streams p i e (never.Repeated q j)
         → IsAgainst top streams p i e (never.Repeated r k) → ¬ IsEarlier q j r k

@@ -1,5 +1,5 @@
--- Reasons are ordered by four numbers, one after the other, so that of two that don't come before a
--- third in turn the first doesn't either.
+-- Reasons are ordered by four numbers, one after the other: so if a doesn't come before b, nor b
+-- before c, a doesn't come before c.
 use Rattle.std.specs.Cmp.{IsTotalOrder}
 use Rattle.std.specs.declared.cmp.Ordering.{Ordering}
 use Rattle.std.specs.declared.cmp.Ordering.TheVariants.{Less, Equal, Greater}

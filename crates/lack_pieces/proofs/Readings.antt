@@ -1,5 +1,5 @@
 -- A reason speaks of one process's events and of the receives of its messages, and a piece has
--- both: so it says the same of an event there as in the streams.
+-- both: so it says the same in the piece as in the streams.
 use Rattle.std.proofs.Common.{◌≡◌, ◌⊎◌, ℕ, ◌≤◌, ◌||◌, Bool, true, false, cond, List, Option, Some}
 use Rattle.std.proofs.Common.{None, inl, inr, slice_get, refl, sym, ◌∙◌, ap, subst}
 use Rattle.std.specs.Prelude.{is_none}
@@ -42,7 +42,7 @@ module _ (here there : List Stream) (p : Pid) (same : events_of here p ≡ event
   pub stamp_moved : (this : ℕ) → stamp_of here p this ≡ stamp_of there p this
   stamp_moved this = ap (λ es. first_from (own_rule this) p 0 es) same
 
--- the reasons that a process's own events show alone
+-- the kind of reason shows in a process's own events alone
 abbrev pub IsOfOwn : Never → Type 0
 IsOfOwn (never.Repeated q j) = ⊥
 IsOfOwn (never.Mismatch q j) = ⊥
@@ -85,7 +85,7 @@ module _ (top : ℕ) (streams : List Stream) (piece : Piece) (is : IsPieceOf str
 
   module _ (from_own : (p : Pid) (i : ℕ) (e : Event) → event_at streams p i ≡ Some e
       → is_stamp e ≡ true → e.from ≡ p) where
-    -- a send or print of the process, or the receive of its message, is from it
+    -- a send or print of the process, or the receive of its message, is from the process
     told_at : (p : Pid) (i : ℕ) (e : Event) → IsOwnStamp piece p i e ⊎ IsReceipt piece p i e
         → (event_at streams p i ≡ Some e) × (e.from ≡ piece.pid)
     told_at p i e (inl stamp) =
@@ -166,7 +166,7 @@ module _ (top : ℕ) (streams : List Stream) (piece : Piece) (is : IsPieceOf str
 
   -- FROM THE STREAMS TO THE PIECE
 
-  -- what an event's own process shows of it
+  -- the facts about an event that its own process shows
   module _ (p : Pid) (i : ℕ) (e : Event) (at : event_at streams p i ≡ Some e) (own : p ≡ piece.pid)
     where
       here : IsOwnEvent piece p i e
@@ -204,7 +204,7 @@ module _ (top : ℕ) (streams : List Stream) (piece : Piece) (is : IsPieceOf str
       after_own zero after =
           (zero, inl (here, after_moved streams (own_streams piece) p kept i e after))
 
-  -- what the receives from a process show of it
+  -- the facts about a receive that the receives from its sender show
   module _ (p : Pid) (i : ℕ) (e : Event) (at : event_at streams p i ≡ Some e)
       (from : e.from ≡ piece.pid) where
     receipt : (q : Pid) (j : ℕ) (f : Event) → event_at streams q j ≡ Some f → is_stamp f ≡ false
@@ -232,7 +232,7 @@ module _ (top : ℕ) (streams : List Stream) (piece : Piece) (is : IsPieceOf str
 
     module _ (from_own : (q : Pid) (j : ℕ) (f : Event) → event_at streams q j ≡ Some f
         → is_stamp f ≡ true → f.from ≡ q) where
-      -- it is a send or print of the process, or the receive of its message
+      -- an event from the process is its send or print, or the receive of its message
       told_in : (q : Pid) (j : ℕ) (f : Event) → event_at streams q j ≡ Some f → f.from ≡ e.from
           → IsOwnStamp piece q j f ⊎ IsReceipt piece q j f
       told_in q j f there same = elim (is_stamp f) as (λ b. is_stamp f ≡ b

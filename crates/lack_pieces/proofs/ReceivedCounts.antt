@@ -1,6 +1,5 @@
--- Why one walk over the receipts finds what repeats, and what isn't the send of a receipt: receipts
--- of one count are next to each other, and the sends and prints come in the order of the counts
--- too.
+-- Receipts with one count are next to each other, and the sends and prints come in the order of
+-- counts too: so one walk over both finds repeated receipts and mismatches.
 use Rattle.std.proofs.Common.{◌≡◌, ℕ, ◌<◌, ◌≤◌, ◌+◌, ◌-◌, ◌==◌, ◌&&◌, zero, suc, true, false}
 use Rattle.std.proofs.Common.{cond, List, [], ◌∷◌, Option, Some, None, inl, inr, length, slice_get}
 use Rattle.std.proofs.Common.{refl, sym, ◌∙◌, ap, subst, arith}
@@ -48,7 +47,7 @@ counts_climb receipts order j k a b less at there = elim (order j k a b less at 
 abbrev pub reason_at : Receipt → Never → PlacedReason
 reason_at r reason = record { pid = r.pid; index = r.index; never = reason }
 
--- what a walk names past the end
+-- stands for a receipt past the end
 abbrev pub blank_receipt : Receipt
 blank_receipt = record { pid = record { node = 0; number = 0 }; index = 0; event = blank }
 
@@ -63,7 +62,7 @@ beside_at a b r s x y first second same = record {
 
 -- WHAT REPEATS
 
--- a receipt and the one before it have one count
+-- a receipt has the count of the one before it
 pub record IsRepeat (receipts : List Receipt) (found : PlacedReason) : Type 0 where
   pub first : ℕ
   pub place : ℕ
@@ -78,7 +77,7 @@ pub record IsRepeat (receipts : List Receipt) (found : PlacedReason) : Type 0 wh
 abbrev pub repeat_place : (receipts : List Receipt) (r : PlacedReason) → IsRepeat receipts r → ℕ
 repeat_place receipts r c = c.place
 
--- and the receipt is before place n
+-- the repeated receipt is before place n
 abbrev pub IsRepeatBelow : List Receipt → ℕ → PlacedReason → Type 0
 IsRepeatBelow receipts n r = IsFoundBelow (IsRepeat receipts) (repeat_place receipts) n r
 
@@ -107,7 +106,7 @@ module _ (top : ℕ) (piece : Piece) (order : AreInOrder piece.receipts) where
         of_rank = refl;
       })
 
-  -- a receipt with the count of one at an earlier place comes behind it
+  -- of two receipts with one count, the one at the later place comes later in the list
   behind : (j k : ℕ) (a b : Receipt) → slice_get piece.receipts j ≡ Some a
       → slice_get piece.receipts k ≡ Some b → a.event.serial.this ≡ b.event.serial.this
       → IsEarlier a.pid a.index b.pid b.index → j < k
@@ -124,7 +123,7 @@ module _ (top : ℕ) (piece : Piece) (order : AreInOrder piece.receipts) where
     ])
   ]
 
-  -- the one before a receipt has its count, if an earlier one has
+  -- if an earlier receipt has a receipt's count, so has the one right before it
   count_before : (j k : ℕ) (a b c : Receipt) → j < suc k → slice_get piece.receipts j ≡ Some a
       → slice_get piece.receipts k ≡ Some b → slice_get piece.receipts (suc k) ≡ Some c
       → a.event.serial.this ≡ c.event.serial.this → b.event.serial.this ≡ c.event.serial.this
@@ -174,7 +173,6 @@ module _ (top : ℕ) (piece : Piece) (order : AreInOrder piece.receipts) where
       repeat_at r here first x.2.0.place x.2.3.place x.2.0.at x.2.3.at x.2.4 refl refl
       (behind x.2.3.place x.2.0.place first here x.2.3.at x.2.0.at x.2.4 x.2.1)
 
--- one receipt more
 module _ (receipts : List Receipt) (i : ℕ) (before receipt : Receipt) (positive : 1 ≤ i)
     (at_first : slice_get receipts (i - 1) ≡ Some before)
     (at : slice_get receipts i ≡ Some receipt) (least : Option PlacedReason)
@@ -252,7 +250,7 @@ some_first q this i (suc n) (d ∷ es) e at stamps count none =
     ] refl
 
 module _ (piece : Piece) where
-  -- the process has no send or print of this count
+  -- the process has no send or print with the count
   abbrev pub HasNone : ℕ → Type 0
   HasNone count = (k : ℕ) (f : Event) → slice_get piece.events k ≡ Some f → is_stamp f ≡ true
       → f.serial.this ≡ count → ⊥
@@ -301,7 +299,7 @@ one_stamp es rise j k f e at there first second same = elim (cases_order j k) [
 
 -- THE NEXT SEND OR PRINT
 
--- each send or print before this index counts below each receipt from place n on
+-- each send or print before index `next` has a lower count than each receipt from place n on
 abbrev pub IsPassed : List Event → List Receipt → ℕ → ℕ → Type 0
 IsPassed events receipts next n = (k : ℕ) (f : Event) (m : ℕ) (r : Receipt) → k < next
     → slice_get events k ≡ Some f → is_stamp f ≡ true → n ≤ m → slice_get receipts m ≡ Some r
@@ -311,7 +309,7 @@ module _ (events : List Event) (receipts : List Receipt) (order : AreInOrder rec
     (receipt : Receipt) (at : slice_get receipts n ≡ Some receipt) (start next : ℕ)
     (passed : IsPassed events receipts start n)
     (is : IsNextStamp events start receipt.event.serial.this next) where
-  -- those before the next one count below the receipt
+  -- the sends and prints before the next one have lower counts than the receipt
   pub below_next : (k : ℕ) (f : Event) → k < next → slice_get events k ≡ Some f → is_stamp f ≡ true
       → f.serial.this < receipt.event.serial.this
   below_next k f less there stamps = elim (cases_lt k start) [
@@ -324,7 +322,7 @@ module _ (events : List Event) (receipts : List Receipt) (order : AreInOrder rec
       let low = below_next k f less there stamps in
       omega (arith, low, counts_climb receipts order n m receipt r (omega (arith, after)) at here)
 
-  -- if the next one has another count, none has the receipt's
+  -- if the next one doesn't have the receipt's count, none does
   pub none_has : StampsRise events → ((f : Event) → slice_get events next ≡ Some f
       → f.serial.this ≡ receipt.event.serial.this → ⊥)
       → (k : ℕ) (f : Event) → slice_get events k ≡ Some f → is_stamp f ≡ true
@@ -340,7 +338,7 @@ module _ (events : List Event) (receipts : List Receipt) (order : AreInOrder rec
 
 -- WHAT ISN'T THE SEND OF A RECEIPT
 
--- the process has a send or print of the count of a receipt, which isn't its send
+-- the process's send or print with a receipt's count isn't the receipt's send
 pub record IsMismatch (piece : Piece) (found : PlacedReason) : Type 0 where
   pub place : ℕ
   pub receipt : Receipt
@@ -356,7 +354,7 @@ pub record IsMismatch (piece : Piece) (found : PlacedReason) : Type 0 where
 abbrev pub mismatch_place : (piece : Piece) (r : PlacedReason) → IsMismatch piece r → ℕ
 mismatch_place piece r c = c.place
 
--- and the receipt is before place n
+-- the mismatched receipt is before place n
 abbrev pub IsMismatchBelow : Piece → ℕ → PlacedReason → Type 0
 IsMismatchBelow piece n r = IsFoundBelow (IsMismatch piece) (mismatch_place piece) n r
 
@@ -404,7 +402,6 @@ module _ (top : ℕ) (piece : Piece) where
         record { pid = refl; index = refl },
       )
 
--- one receipt more
 module _ (piece : Piece) (n : ℕ) (receipt : Receipt)
     (at : slice_get piece.receipts n ≡ Some receipt) (least : Option PlacedReason)
     (first : IsEarliest (IsMismatchBelow piece n) least) where
@@ -412,7 +409,6 @@ module _ (piece : Piece) (n : ℕ) (receipt : Receipt)
   at_it r c one =
       same_Some c.receipt receipt (sym c.at ∙ ap (slice_get piece.receipts) one ∙ at)
 
-  -- the process has no send or print of its count but its send
   pub mismatch_still : ((k : ℕ) (f : Event) → slice_get piece.events k ≡ Some f
       → is_stamp f ≡ true → f.serial.this ≡ receipt.event.serial.this
       → ¬ ¬ IsSendOf f receipt.event) → IsEarliest (IsMismatchBelow piece (n + 1)) least

@@ -1,5 +1,5 @@
--- Why the first of all pieces' reasons is that of the streams: each reason of the streams is in a
--- piece, whose verdict is that reason or one that comes before it.
+-- Each reason of the streams is in a piece, whose verdict is that reason or an earlier one: so the
+-- first of all pieces' reasons is the first of the streams.
 use Rattle.std.proofs.Common.{◌≡◌, ◌↔◌, ℕ, zero, suc, true, List, [], ◌∷◌, Option}
 use Rattle.std.proofs.Common.{Some, None, length, inl, inr, slice_get, refl, sym, ◌∙◌, arith}
 use Rattle.std.specs.Option.{option_map_or}
@@ -109,7 +109,7 @@ module _ (top : ℕ) (streams : List Stream) (pieces : List Piece) (sound : IsSt
   -- THE FIRST OF ALL
 
   module _ (verdicts : List (Option PlacedReason)) (judged : AreVerdicts top pieces verdicts) where
-    -- the verdict on the piece that a reason is in names it, or one that it doesn't come before
+    -- the verdict on a reason's piece names the reason, or one that it doesn't come before
     record IsNamed (other : PlacedReason) : Type 0 where
       found : PlacedReason
       among : IsVerdictAmong verdicts found

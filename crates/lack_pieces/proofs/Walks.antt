@@ -1,5 +1,5 @@
--- Reasons of each rank as facts on the events of a piece: a walk that has passed no event with such
--- a fact finds the first one.
+-- The reasons of a rank are facts about single events of a piece, so a walk that has passed no
+-- event with the fact finds the first one.
 use Rattle.std.proofs.Common.{◌≡◌, ℕ, ◌<◌, ◌≤◌, ◌+◌, zero, suc, Bool, true, false, List, Option}
 use Rattle.std.proofs.Common.{Some, None, inl, inr, slice_get, refl, sym, ◌∙◌, ap, subst, arith}
 use Rattle.std.proofs.lemmas.Bool.{cases_lt, cases_order}
@@ -91,7 +91,7 @@ module _ (top : ℕ) (piece : Piece) where
 
   -- THE FIRST OF ALL KINDS
 
-  -- no reason of a rank below this holds
+  -- no reason of a lower rank holds
   abbrev pub HasNoneBelow : ℕ → Type 0
   HasNoneBelow rank = (other : PlacedReason) (e : Event)
       → IsAgainstIn top piece other.pid other.index e other.never
@@ -127,7 +127,7 @@ module _ (top : ℕ) (piece : Piece) where
     ];
   }
 
-  -- and after the last rank there is none
+  -- the first reason of the last rank is the verdict, if no lower rank has one
   pub verdict_in : (found : Option PlacedReason) → HasNoneBelow 6 → IsFirstOfRank top piece 6 found
       → IsVerdictIn top piece found
   verdict_in None below none = λ other e against. none_more 6 below none other e against
@@ -136,7 +136,7 @@ module _ (top : ℕ) (piece : Piece) where
 
 -- THE FIRST OF A WALK OVER OWN EVENTS
 
--- at its index, since all are of one process
+-- the reason with the lowest index is the first, since all are of one process
 pub first_own : (Is : PlacedReason → Type 0) (pid : Pid) (found : PlacedReason) → Is found
     → ((other : PlacedReason) → Is other → other.pid ≡ pid) → found.pid ≡ pid
     → ((other : PlacedReason) → Is other → other.index < found.index → ⊥)
@@ -156,14 +156,14 @@ at_same es k f e at there = same_Some f e (sym at ∙ there)
 
 -- SENDS AND PRINTS THAT RISE ABOVE EARLIER ONES, OR ABOVE RECEIVES
 
--- each send or print before index n counts above each event before it that is a send or print, or
--- above each that is a receive
+-- each send or print before index n has a greater count than each send or print before it (stamp)
+-- or than each receive before it
 abbrev pub RiseBelow : Bool → List Event → ℕ → Type 0
 RiseBelow stamp es n = (j k : ℕ) (f e : Event) → j < k → k < n → slice_get es j ≡ Some f
     → slice_get es k ≡ Some e → is_stamp f ≡ stamp → is_stamp e ≡ true
     → f.serial.this < e.serial.this
 
--- one more event: it is a receive, or counts above each of those
+-- one event more keeps that, if it is a receive, or has a greater count than those
 pub rise_more : (stamp : Bool) (es : List Event) (n : ℕ) (e : Event) → slice_get es n ≡ Some e
     → RiseBelow stamp es n
     → (is_stamp e ≡ true → (j : ℕ) (f : Event) → j < n → slice_get es j ≡ Some f
@@ -223,7 +223,7 @@ abbrev pub IsLastStamp : List Event → ℕ → Option (ℕ × ℕ) → Type 0
 IsLastStamp es i None = (k : ℕ) (f : Event) → k < i → slice_get es k ≡ Some f → is_stamp f ≡ false
 IsLastStamp es i (Some last) = IsLastStampAt es i last
 
--- a send or print that counts no higher than the last one before it
+-- a send or print whose count isn't above that of the last one before it is not rising
 pub falls_at : (top : ℕ) (piece : Piece) (i : ℕ) (e : Event) (found : ℕ × ℕ)
     → slice_get piece.events i ≡ Some e → is_stamp e ≡ true
     → IsLastStampAt piece.events i found → e.serial.this ≤ found.1
@@ -246,7 +246,7 @@ falls_at top piece i e found at stamps l low = (
   ),
 )
 
--- a send or print that counts no higher than a receive before it
+-- a send or print whose count isn't above that of a receive before it is late
 pub late_at : (top : ℕ) (piece : Piece) (i : ℕ) (e : Event) (j : ℕ)
     → slice_get piece.events i ≡ Some e → is_stamp e ≡ true
     → IsLastReceiveAt piece.events i e.serial.this j

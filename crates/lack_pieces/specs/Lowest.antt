@@ -1,4 +1,5 @@
--- For the parts alone: the lowest counts with another prev than 0, and what is unfounded by them.
+-- For the parts alone: the lowest counts with another prev than 0, and the events that are
+-- unfounded by them.
 use Rattle.std.specs.Prelude.{◌≡◌, ◌⊎◌, ℕ, ◌<◌, ◌≤◌, true, List, Option, Some, None, slice_get}
 use Rattle.st_core.specs.declared.types.Event.{Event}
 use Rattle.st_pair.specs.Places.{is_stamp}
@@ -10,7 +11,7 @@ use Rattle.lack_pieces.specs.declared.unfounded_events.Lowest.{Lowest}
 use Rattle.lack_pieces.specs.Pieces.{Piece}
 use Rattle.lack_pieces.specs.Reasons.{own_streams, HasStampBelow, IsHiddenReceipt, IsOwnStamp}
 
--- event i is a send or print with another prev than 0, and has this count
+-- a send or print with another prev than 0 has the count
 pub record IsStampCounted (es : List Event) (count : ℕ) : Type 0 where
   pub place : ℕ
   pub event : Event
@@ -19,7 +20,7 @@ pub record IsStampCounted (es : List Event) (count : ℕ) : Type 0 where
   pub above : 0 < event.serial.prev
   pub is : event.serial.this ≡ count
 
--- a receipt with another prev than 0 has this count
+-- a receipt with another prev than 0 has the count
 pub record IsReceiptCounted (receipts : List Receipt) (count : ℕ) : Type 0 where
   pub place : ℕ
   pub receipt : Receipt
@@ -27,22 +28,23 @@ pub record IsReceiptCounted (receipts : List Receipt) (count : ℕ) : Type 0 whe
   pub above : 0 < receipt.event.serial.prev
   pub is : receipt.event.serial.this ≡ count
 
--- the lowest count that is so, if there is one
+-- the lowest count for which `Is` holds, if there is one
 abbrev pub IsLowest : (ℕ → Type 0) → Option ℕ → Type 0
 IsLowest Is None = (count : ℕ) → ¬ Is count
 IsLowest Is (Some low) = Is low × ((count : ℕ) → Is count → low ≤ count)
 
--- the lowest counts of both
+-- the lowest counts of a piece's events and of its receipts
 pub record IsLowestIn (piece : Piece) (lowest : Lowest) : Type 0 where
   pub stamps : IsLowest (IsStampCounted piece.events) lowest.stamps
   pub receipts : IsLowest (IsReceiptCounted piece.receipts) lowest.receipts
 
--- a count is known, and below this one
+-- a count is known, and is below the given one
 abbrev pub IsKnownBelow : Option ℕ → ℕ → Type 0
 IsKnownBelow None count = ⊥
 IsKnownBelow (Some known) count = known < count
 
--- a send or print with prev 0 is after a receive, or after another one with a prev
+-- a send or print with prev 0 comes after a receive, or has a greater count than a send or print
+-- with another prev
 pub record IsUnfoundedStamp (piece : Piece) (found : PlacedReason) : Type 0 where
   pub event : Event
   pub own : IsOwnStamp piece found.pid found.index event
@@ -51,7 +53,8 @@ pub record IsUnfoundedStamp (piece : Piece) (found : PlacedReason) : Type 0 wher
       ⊎ HasStampBelow piece event
   pub is : found.never ≡ never.Unfounded
 
--- a send with prev 0 that nobody reported is after a send or print with a prev
+-- an unreported send with prev 0, whose receipt is there, has a greater count than a send or print
+-- with another prev
 pub record IsUnfoundedReceipt (piece : Piece) (found : PlacedReason) : Type 0 where
   pub event : Event
   pub hidden : IsHiddenReceipt piece found.pid found.index event

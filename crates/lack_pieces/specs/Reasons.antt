@@ -1,4 +1,4 @@
--- The reasons of `complete`, read in a piece alone: what each says of an event of the piece.
+-- The reasons of `complete`, read in a piece alone.
 use Rattle.std.specs.Prelude.{◌≡◌, ◌⊎◌, ℕ, ◌<◌, true, List, [], ◌∷◌, Some, None, slice_get}
 use Rattle.st_core.specs.declared.types.Pid.{Pid}
 use Rattle.st_core.specs.declared.types.Event.{Event}
@@ -15,17 +15,17 @@ use Rattle.lack_pieces.specs.Pieces.{IsOwnEvent, IsReceipt, Piece}
 abbrev pub own_streams : Piece → List Stream
 own_streams piece = record { pid = piece.pid; events = piece.events } ∷ []
 
--- event i of p is a send or print of the process
+-- event i of p is a send or print of the piece's process
 abbrev pub IsOwnStamp : Piece → Pid → ℕ → Event → Type 0
 IsOwnStamp piece p i e = IsOwnEvent piece p i e × (is_stamp e ≡ true)
 
--- event i of p is the receive of a message that the process didn't report to have sent
+-- event i of p is the receive of a message that the piece's process didn't report to have sent
 abbrev pub IsHiddenReceipt : Piece → Pid → ℕ → Event → Type 0
 IsHiddenReceipt piece p i e = IsReceipt piece p i e
     × (stamp_of (own_streams piece) piece.pid e.serial.this ≡ None)
 
--- some event tells of a send or print of the process with a lower count than e and another prev
--- than 0: that event itself, or the receive of its message
+-- an event shows that the process made a send or print with a lower count than e's and another
+-- prev than 0: it is that send or print, or the receive of its message
 pub record HasStampBelow (piece : Piece) (e : Event) : Type 0 where
   pub pid : Pid
   pub index : ℕ
@@ -34,7 +34,7 @@ pub record HasStampBelow (piece : Piece) (e : Event) : Type 0 where
   pub lower : first.serial.this < e.serial.this
   pub above : 0 < first.serial.prev
 
--- what a reason says of event i of p in the piece
+-- the reason holds against event i of p in the piece
 abbrev pub IsAgainstIn : ℕ → Piece → Pid → ℕ → Event → Never → Type 0
 IsAgainstIn top piece p i e (never.Repeated q j) = IsReceipt piece p i e × IsEarlier q j p i
     × (f : Event) × IsReceipt piece q j f × (f.serial.this ≡ e.serial.this)
@@ -46,7 +46,7 @@ IsAgainstIn top piece p i e never.Unfounded = (e.serial.prev ≡ 0)
 IsAgainstIn top piece p i e reason = IsOwnEvent piece p i e
     × IsAgainst top (own_streams piece) p i e reason
 
--- it says so in one of these pieces
+-- the reason holds in one of the pieces
 pub record IsAgainstInSome (top : ℕ) (pieces : List Piece) (p : Pid) (i : ℕ) (e : Event)
     (reason : Never) : Type 0 where
   pub place : ℕ

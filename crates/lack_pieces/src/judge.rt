@@ -1,4 +1,4 @@
-//! `judge_piece`: the verdict on a piece, one kind of reason after the other.
+//! `judge_piece` finds the verdict on a piece, one kind of reason after the other.
 
 ghost use Rattle.lack_pieces.specs.Verdicts.{AreInOrder, IsVerdictIn};
 
@@ -8,9 +8,9 @@ use crate::receipts::{find_mismatch, find_repeated};
 use crate::unfounded_events::find_unfounded;
 use st_core::{Event, Pid};
 
-/// The first reason that holds in a piece, if one does: the events of this process, and the
-/// receives of its messages, by rising count, and those of one count by rising place. The time is
-/// linear in both, and it takes no memory.
+/// Returns the first reason that holds in the piece of a process, or none: the piece is its
+/// events, and the receives of its messages by rising count and then by rising place. Takes time
+/// in proportion to both, and no memory.
 pub fn judge_piece<const TOP: u64>(
     pid: Pid,
     events: &[Event],

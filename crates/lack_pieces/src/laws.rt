@@ -1,5 +1,5 @@
-//! The laws of pieces, as contracts of functions that do nothing: what is a reason in a piece is
-//! one in the streams, and the first of all pieces' is the first in the streams.
+//! The laws of pieces, as contracts of functions that do nothing: a proof that calls a function
+//! may use its clause.
 
 ghost use Rattle.std.specs.Prelude.{◌≡◌, ◌↔◌, ℕ, List, Option, Some};
 ghost use Rattle.st_core.specs.declared.types.Event.{Event};
@@ -15,7 +15,7 @@ ghost use Rattle.lack_pieces.specs.Pieces.{ArePieces, Piece};
 ghost use Rattle.lack_pieces.specs.Reasons.{IsAgainstInSome};
 ghost use Rattle.lack_pieces.specs.Verdicts.{AreVerdicts, IsFirstAmong, IsNamed, IsVerdictOn};
 
-/// A reason is against an event of streams exactly if it is in one of their pieces.
+/// A reason is against an event of streams exactly if it is against it in one of their pieces.
 pub fn reasons_are_those_of_pieces()
     ensures { (top : ℕ) (streams : List Stream) (pieces : List Piece) → IsStreams streams
         → ArePieces streams pieces → (p : Pid) (i : ℕ) (e : Event) (reason : Never)

@@ -1,4 +1,4 @@
-//! The reasons that a process's own events alone show.
+//! Finds the reasons that a process's own events alone show.
 
 ghost use Rattle.std.specs.Prelude.{◌≤◌, ℕ, length, IfNone, List};
 ghost use Rattle.lack_pieces.specs.Firsts.{IsFirstOfRank, IsLastReceive, StampsRise};
@@ -9,7 +9,7 @@ use lack_decide::Never;
 use lack_needs::is_stamp;
 use st_core::{Event, Pid};
 
-/// The first event whose serial doesn't rise.
+/// Returns the first event whose count isn't above its prev.
 pub(crate) fn find_prev_not_before(pid: Pid, events: &[Event]) -> Option<PlacedReason>
     ensures { (top : ℕ) (receipts : List ReceiptValue) → IsFirstOfRank top
         (record { pid = pid; events = events.now; receipts = receipts }) 0 result }
@@ -24,7 +24,7 @@ pub(crate) fn find_prev_not_before(pid: Pid, events: &[Event]) -> Option<PlacedR
     None
 }
 
-/// The first send or print that counts no higher than the one before it.
+/// Returns the first send or print whose count isn't above that of the one before it.
 pub(crate) fn find_not_rising(pid: Pid, events: &[Event]) -> Option<PlacedReason>
     ensures first { (top : ℕ) (receipts : List ReceiptValue) → IsFirstOfRank top
         (record { pid = pid; events = events.now; receipts = receipts }) 1 result }
@@ -46,7 +46,7 @@ pub(crate) fn find_not_rising(pid: Pid, events: &[Event]) -> Option<PlacedReason
     None
 }
 
-/// The index of the last receive before this index that counts no lower than this count.
+/// Returns the index of the last receive before `index` whose count is at least `count`.
 fn last_receive(events: &[Event], index: usize, count: u64) -> Option<usize>
     requires { index ≤ length events.now }
     ensures { IsLastReceive events.now index count result }
@@ -60,7 +60,7 @@ fn last_receive(events: &[Event], index: usize, count: u64) -> Option<usize>
     last
 }
 
-/// The first send or print that counts no higher than a receive before it.
+/// Returns the first send or print whose count isn't above that of a receive before it.
 pub(crate) fn find_late(pid: Pid, events: &[Event]) -> Option<PlacedReason>
     ensures { (top : ℕ) (receipts : List ReceiptValue) → IsFirstOfRank top
         (record { pid = pid; events = events.now; receipts = receipts }) 4 result }
@@ -81,7 +81,7 @@ pub(crate) fn find_late(pid: Pid, events: &[Event]) -> Option<PlacedReason>
     None
 }
 
-/// The first event whose count no clock has.
+/// Returns the first event with a count that no clock has.
 pub(crate) fn find_too_high<const TOP: u64>(pid: Pid, events: &[Event]) -> Option<PlacedReason>
     ensures { (receipts : List ReceiptValue) → IsFirstOfRank TOP
         (record { pid = pid; events = events.now; receipts = receipts }) 6 result }

@@ -1,4 +1,4 @@
-//! The receives of a process's messages, and reasons with their places, of which one comes first.
+//! The receives of a process's messages, and the order of reasons with their places.
 
 ghost use Rattle.std.specs.Prelude.{◌≡◌, ◌↔◌, ◌⊎◌, ◌++◌, ◌∷◌, [], IsTrue, List, Option};
 ghost use Rattle.st_pair.specs.Laws.{IsEarlier};
@@ -12,26 +12,26 @@ use st_core::{Event, Pid};
 /// The receive of a message, and its place.
 #[derive(Clone, Copy, Debug, PartialEq, Eq)]
 pub struct Receipt {
-    /// The process that received it.
+    /// The process that received the message.
     pub pid: Pid,
     /// The index of the receive among the events of that process.
     pub index: u64,
-    /// The receive.
+    /// The receive itself.
     pub event: Event,
 }
 
 /// A reason, and the place of the event that it is against.
 #[derive(Clone, Copy, Debug, PartialEq, Eq)]
 pub struct PlacedReason {
-    /// The process.
+    /// The process of the event.
     pub pid: Pid,
-    /// The index of its event.
+    /// The index of the event in its process's stream.
     pub index: u64,
     /// The reason.
     pub never: Never,
 }
 
-/// The place of the reason among the reasons, in the order in which `complete` tries them.
+/// Returns the rank of a reason, in the order in which `complete` tries them.
 fn reason_rank(never: Never) -> u8
     ensures { result ≡ reason_rank never }
 {
@@ -46,7 +46,6 @@ fn reason_rank(never: Never) -> u8
     }
 }
 
-/// Whether the first place comes before the second.
 pub(crate) fn is_earlier(first: (Pid, u64), second: (Pid, u64)) -> bool
     ensures { IsTrue result ↔ IsEarlier first.0 first.1 second.0 second.1 }
 {
@@ -57,8 +56,8 @@ pub(crate) fn is_earlier(first: (Pid, u64), second: (Pid, u64)) -> bool
     }
 }
 
-/// Whether the first comes before the second: its reason does, or it is of the same kind and at an
-/// earlier place.
+/// Returns whether the first reason is of an earlier kind than the second, or of the same kind and
+/// at an earlier place.
 fn comes_before(first: PlacedReason, second: PlacedReason) -> bool
     ensures { IsTrue result ↔ ComesBefore first second }
 {
@@ -72,7 +71,6 @@ fn comes_before(first: PlacedReason, second: PlacedReason) -> bool
 }
 
 impl Receipt {
-    /// The reason at the place of the receive.
     pub(crate) fn reason(self, never: Never) -> PlacedReason
         ensures { result ≡ record { pid = self.pid; index = self.index; never = never } }
     {
@@ -81,7 +79,7 @@ impl Receipt {
     }
 }
 
-/// The one of these that comes first.
+/// Returns the reason that comes first.
 pub(crate) fn earlier_of(first: PlacedReason, second: PlacedReason) -> PlacedReason
     ensures { ((result ≡ first) × ¬ ComesBefore second first)
         ⊎ ((result ≡ second) × ComesBefore second first) }
@@ -93,8 +91,8 @@ pub(crate) fn earlier_of(first: PlacedReason, second: PlacedReason) -> PlacedRea
     }
 }
 
-/// The verdict on streams so far: that on the pieces before, with that on one piece more. The order
-/// of the pieces doesn't matter.
+/// Returns the verdict on the pieces so far and one more, from the verdict on those before and the
+/// verdict on that one. The order of the pieces doesn't matter.
 pub fn first_of(before: Option<PlacedReason>, next: Option<PlacedReason>) -> Option<PlacedReason>
     ensures { (verdicts : List (Option Reason)) → IsFirstAmong verdicts before
         → IsFirstAmong (verdicts ++ next ∷ []) result }

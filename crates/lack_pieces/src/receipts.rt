@@ -1,4 +1,4 @@
-//! The reasons that the receives of a process's messages show, with its own events.
+//! Finds the reasons that the receives of a process's messages show, with its own events.
 
 ghost use Rattle.std.specs.Prelude.{◌↔◌, ◌≤◌, ℕ, length, IsTrue, List};
 ghost use Rattle.st_core.specs.declared.types.Event.{Event as EventValue};
@@ -13,7 +13,7 @@ use lack_decide::Never;
 use lack_needs::is_stamp;
 use st_core::{Event, Kind, Pid};
 
-/// The one that comes first: the reason so far, if there is one, or the next.
+/// Returns the reason that comes first: the one so far, if there is one, or the next.
 pub(crate) fn least_with(least: Option<PlacedReason>, next: PlacedReason) -> PlacedReason
     ensures { IsFirstWith least next result }
 {
@@ -23,7 +23,7 @@ pub(crate) fn least_with(least: Option<PlacedReason>, next: PlacedReason) -> Pla
     }
 }
 
-/// The first receipt of a message that was received before.
+/// Returns the first receipt of a message that was received before.
 pub(crate) fn find_repeated(receipts: &[Receipt]) -> Option<PlacedReason>
     requires { AreInOrder receipts.now }
     ensures { (top : ℕ) (pid : PidValue) (events : List EventValue) → IsFirstOfRank top
@@ -41,7 +41,7 @@ pub(crate) fn find_repeated(receipts: &[Receipt]) -> Option<PlacedReason>
     least
 }
 
-/// Whether the event is the send of the receive, but for their counts and senders.
+/// Returns whether an event is the send of a receive, apart from their counts and senders.
 fn is_send_of(sent: &Event, received: &Event) -> bool
     ensures { IsTrue result ↔ IsSendOf sent.now received.now }
 {
@@ -56,8 +56,8 @@ fn is_send_of(sent: &Event, received: &Event) -> bool
         && sent.value == received.value
 }
 
-/// The index of the next send or print, from this index on, that counts no lower than this; the
-/// number of events if there is none.
+/// Returns the index of the next send or print from `from` on whose count is at least `count`, or
+/// the number of events if there is none.
 pub(crate) fn next_stamp(events: &[Event], from: usize, count: u64) -> usize
     requires { from ≤ length events.now }
     ensures { IsNextStamp events.now from count result }
@@ -70,14 +70,13 @@ pub(crate) fn next_stamp(events: &[Event], from: usize, count: u64) -> usize
     events.len()
 }
 
-/// Whether there is an event at this index, and this is its count.
 pub(crate) fn has_count(events: &[Event], index: usize, count: u64) -> bool
     ensures { HasCount events.now index count result }
 {
     index < events.len() && events[index].serial.this == count
 }
 
-/// The first receipt whose count is that of a send or print which isn't its send.
+/// Returns the first receipt whose count is that of a send or print which isn't its send.
 pub(crate) fn find_mismatch(
     pid: Pid,
     events: &[Event],

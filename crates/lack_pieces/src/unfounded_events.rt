@@ -1,5 +1,5 @@
-//! The stamps with prev 0 that no trace founds, by the process's own events and by the receives of
-//! its messages.
+//! Finds the unfounded events: their stamps have prev 0, though the process received before, or
+//! stamped a lower count with another prev.
 
 ghost use Rattle.std.specs.Prelude.{◌↔◌, ℕ, IsTrue, List};
 ghost use Rattle.st_core.specs.declared.types.Pid.{Pid as PidValue};
@@ -25,7 +25,6 @@ struct Lowest {
     receipts: Option<u64>,
 }
 
-/// The lowest count of a send or print with another prev than 0.
 fn lowest_of_stamps(events: &[Event]) -> Option<u64>
     requires { StampsRise events.now }
     ensures { IsLowest (IsStampCounted events.now) result }
@@ -38,7 +37,6 @@ fn lowest_of_stamps(events: &[Event]) -> Option<u64>
     None
 }
 
-/// The lowest count of a receipt with another prev than 0.
 fn lowest_of_receipts(receipts: &[Receipt]) -> Option<u64>
     requires { AreInOrder receipts.now }
     ensures { IsLowest (IsReceiptCounted receipts.now) result }
@@ -51,7 +49,6 @@ fn lowest_of_receipts(receipts: &[Receipt]) -> Option<u64>
     None
 }
 
-/// Whether the count is known, and below this one.
 fn is_below(known: Option<u64>, count: u64) -> bool
     ensures { IsTrue result ↔ IsKnownBelow known count }
 {
@@ -61,8 +58,8 @@ fn is_below(known: Option<u64>, count: u64) -> bool
     }
 }
 
-/// Whether some event tells of a send or print of the process with a lower count than this event,
-/// and another prev than 0.
+/// Returns whether an event shows that the process made a send or print with a lower count than
+/// the given event's, and another prev than 0.
 fn is_behind_stamp(lowest: Lowest, event: &Event) -> bool
     ensures { (piece : Piece) → IsLowestIn piece lowest
         → (IsTrue result ↔ HasStampBelow piece event.now) }
@@ -70,7 +67,6 @@ fn is_behind_stamp(lowest: Lowest, event: &Event) -> bool
     is_below(lowest.stamps, event.serial.this) || is_below(lowest.receipts, event.serial.this)
 }
 
-/// The first send or print that is unfounded.
 fn find_unfounded_stamp(pid: Pid, events: &[Event], lowest: Lowest) -> Option<PlacedReason>
     ensures { (receipts : List ReceiptValue)
         → (let piece : Piece = record { pid = pid; events = events.now; receipts = receipts } in
@@ -89,7 +85,7 @@ fn find_unfounded_stamp(pid: Pid, events: &[Event], lowest: Lowest) -> Option<Pl
     None
 }
 
-/// The first receipt of a message whose send nobody reported and is unfounded.
+/// Returns the first receipt of an unreported send that is unfounded.
 fn find_unfounded_receipt(
     events: &[Event],
     receipts: &[Receipt],
@@ -116,8 +112,7 @@ fn find_unfounded_receipt(
     least
 }
 
-/// The first event that is unfounded: a send or print, or the receive of a message whose send
-/// nobody reported.
+/// Returns the first unfounded event: a send or print, or the receive of an unreported send.
 pub(crate) fn find_unfounded(
     pid: Pid,
     events: &[Event],

@@ -1,4 +1,4 @@
--- The first reason of a kind is the first in the piece if the kinds before have none.
+-- The first reason of a kind is the verdict if the kinds before have none.
 use Rattle.std.proofs.Common.{List}
 use Rattle.st_core.specs.declared.types.Event.{Event}
 use Rattle.st_core.specs.declared.types.Pid.{Pid}

@@ -1,4 +1,5 @@
--- A send or print counts no higher than a receive before it, or those so far and it don't.
+-- Either the next send or print has no greater count than a receive before it, or none so far is
+-- late.
 use Rattle.std.proofs.Common.{◌≡◌, ◌≤◌, ◌<◌, ◌+◌, ℕ, true, false, get_or, slice_get, Some, refl}
 use Rattle.std.proofs.Common.{sym, ◌∙◌, subst, arith}
 use Rattle.std.proofs.lemmas.Bool.{false≢true}

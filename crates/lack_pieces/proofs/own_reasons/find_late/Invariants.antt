@@ -1,4 +1,4 @@
--- No send or print so far is late, and no receive counts above the highest.
+-- No send or print so far is late, and no receive has a count above the highest.
 use Rattle.std.proofs.Common.{◌≡◌, ℕ, ◌<◌, ◌≤◌, false, Some, slice_get}
 use Rattle.st_core.specs.declared.types.Event.{Event}
 use Rattle.st_pair.specs.Places.{is_stamp}

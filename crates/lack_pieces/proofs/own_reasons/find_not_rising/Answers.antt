@@ -1,4 +1,4 @@
--- A send or print counts no higher than the last one before it, or those so far and it rise.
+-- Either the next send or print has no greater count than the last one, or those so far rise.
 use Rattle.std.proofs.Common.{◌+◌, ℕ, true, get_or, refl, sym, ◌∙◌, ap, subst, arith}
 use Rattle.std.proofs.lemmas.Bool.{false≢true}
 use Rattle.std.proofs.lemmas.Option.{none-some, same_Some, slice_get_within}

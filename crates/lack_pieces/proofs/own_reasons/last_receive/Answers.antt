@@ -1,4 +1,4 @@
--- An event is such a receive, or the last one stays.
+-- An event is a receive with at least the count, or the last one so far stays.
 use Rattle.std.proofs.Common.{◌+◌, get_or, sym, ◌∙◌, subst, arith}
 use Rattle.std.proofs.lemmas.Bool.{false≢true}
 use Rattle.st_pair.proofs.ForCallers.{at_get_or, blank}

@@ -1,4 +1,4 @@
--- The last such receive so far is known.
+-- The last receive so far with at least the count is known.
 use Rattle.lack_pieces.specs.Firsts.{IsLastReceive}
 use Rattle.lack_pieces.proofs.own_reasons.last_receive.Given as goal
 

@@ -1,4 +1,4 @@
--- The reason that comes first among the verdicts before is known, and one verdict comes.
+-- The first reason of the verdicts so far is known, and one more verdict comes.
 use Rattle.std.proofs.Common.{◌∷◌, ◌++◌, [], Some, sym, subst}
 use Rattle.lack_pieces.specs.Verdicts.{IsFirstAmong}
 use Rattle.lack_pieces.proofs.Candidates.{first_and_next, first_and_none, first_from_none}

@@ -1,4 +1,4 @@
--- A receipt is a mismatch, or it has its send or none.
+-- A receipt is a mismatch, or has its send, or no send or print has its count.
 use Rattle.std.proofs.Common.{◌+◌, true, false, get_or, length, sym, ◌∙◌, subst}
 use Rattle.std.proofs.lemmas.Bool.{false≢true}
 use Rattle.std.proofs.lemmas.Option.{slice_get_within}

@@ -1,5 +1,5 @@
--- The sends and prints that were passed count below the receipts to come, and the first mismatch of
--- those so far is known.
+-- The sends and prints passed so far have lower counts than the receipts to come, and the first
+-- mismatch so far is known.
 use Rattle.std.proofs.Common.{◌≤◌, length}
 use Rattle.lack_pieces.specs.Firsts.{IsEarliest}
 use Rattle.lack_pieces.specs.Pieces.{Piece}

@@ -1,4 +1,4 @@
--- The receipts so far that repeat one are known, and so is whether the next one does.
+-- The first repeated receipt so far is known, and the next receipt is repeated or not.
 use Rattle.std.proofs.Common.{◌+◌, ◌-◌, get_or, length, sym, subst, arith}
 use Rattle.st_pair.proofs.ForCallers.{at_get_or}
 use Rattle.lack_pieces.specs.Firsts.{HoldsOfRank, IsEarliest}

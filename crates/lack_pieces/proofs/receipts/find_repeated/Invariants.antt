@@ -1,4 +1,4 @@
--- The first of the receipts so far that repeat one is known.
+-- The first repeated receipt so far is known.
 use Rattle.lack_pieces.specs.Firsts.{IsEarliest}
 use Rattle.lack_pieces.proofs.ReceivedCounts.{IsRepeatBelow}
 use Rattle.lack_pieces.proofs.receipts.find_repeated.Given as goal

@@ -1,4 +1,4 @@
--- An event is such a send or print, or it is passed.
+-- An event is a send or print with at least the count, or is passed.
 use Rattle.std.proofs.Common.{◌≡◌, ◌≤◌, ◌<◌, true, length, get_or}
 use Rattle.std.proofs.Common.{sym, ◌∙◌, subst, arith}
 use Rattle.std.proofs.lemmas.Bool.{false≢true}

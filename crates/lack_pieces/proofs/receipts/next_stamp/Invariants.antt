@@ -1,4 +1,4 @@
--- No send or print that was passed counts as high.
+-- The sends and prints passed so far have lower counts.
 use Rattle.std.proofs.Common.{◌≡◌, ℕ, ◌<◌, ◌≤◌, true, Some, slice_get}
 use Rattle.st_core.specs.declared.types.Event.{Event}
 use Rattle.st_pair.specs.Places.{is_stamp}

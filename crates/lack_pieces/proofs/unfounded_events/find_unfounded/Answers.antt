@@ -1,4 +1,4 @@
--- The first of each sort is known, and so the first of both.
+-- The first unfounded stamp and the first unfounded receipt are known, and so the first of both.
 use Rattle.lack_pieces.specs.declared.unfounded_events.Lowest.{Lowest}
 use Rattle.lack_pieces.specs.Lowest.{IsLowestIn}
 use Rattle.lack_pieces.specs.Pieces.{Piece}

@@ -1,4 +1,4 @@
--- A receipt is unfounded, or those so far and it are not.
+-- A receipt is unfounded, or the first so far stays.
 use Rattle.std.proofs.Common.{◌+◌, true, false, get_or, refl, sym, ◌∙◌, subst, arith}
 use Rattle.std.proofs.lemmas.Bool.{false≢true}
 use Rattle.std.proofs.lemmas.Option.{none-some, slice_get_within}

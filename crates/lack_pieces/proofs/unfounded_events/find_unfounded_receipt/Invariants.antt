@@ -1,5 +1,5 @@
--- The sends and prints that were passed count below the receipts to come, and the first unfounded
--- of those so far is known.
+-- The sends and prints passed so far have lower counts than the receipts to come, and the first
+-- unfounded receipt so far is known.
 use Rattle.std.proofs.Common.{◌≤◌, length}
 use Rattle.st_core.specs.declared.types.Pid.{Pid}
 use Rattle.lack_pieces.specs.Firsts.{IsEarliest}

@@ -1,4 +1,4 @@
--- A send or print is unfounded, or those so far and it are not.
+-- A send or print is unfounded, or none so far is.
 use Rattle.std.proofs.Common.{◌+◌, true, false, [], get_or, inl, inr, refl, sym, ◌∙◌, subst, arith}
 use Rattle.std.proofs.lemmas.Bool.{false≢true}
 use Rattle.std.proofs.lemmas.Option.{slice_get_within}

@@ -1,5 +1,4 @@
--- No send or print so far is unfounded, and it is known whether one of the events so far is a
--- receive.
+-- No send or print so far is unfounded, and it is known whether an event so far is a receive.
 use Rattle.std.proofs.Common.{List}
 use Rattle.lack_pieces.specs.declared.placed_reason.Receipt.{Receipt}
 use Rattle.lack_pieces.specs.Lowest.{IsLowestIn}

@@ -1,4 +1,4 @@
--- A lower count is there exactly if one of the lowest is lower.
+-- A lower count with another prev is there exactly if one of the lowest is lower.
 use Rattle.std.proofs.Common.{inl, inr, sym, ◌∙◌}
 use Rattle.std.proofs.lemmas.Bool.{false≢true}
 use Rattle.lack_pieces.proofs.Founding.{behind_known, known_behind}

@@ -1,4 +1,4 @@
--- The first with another prev is the lowest, since counts rise.
+-- The first receipt with another prev has the lowest count, since counts rise.
 use Rattle.std.proofs.Common.{◌≡◌, get_or, arith}
 use Rattle.std.proofs.lemmas.Option.{slice_get_within}
 use Rattle.st_pair.proofs.ForCallers.{at_get_or}

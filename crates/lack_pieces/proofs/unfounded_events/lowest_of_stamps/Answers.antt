@@ -1,4 +1,4 @@
--- The first with another prev is the lowest, since counts rise.
+-- The first send or print with another prev has the lowest count, since counts rise.
 use Rattle.std.proofs.Common.{◌≡◌, true, get_or, sym, ◌∙◌, arith}
 use Rattle.std.proofs.lemmas.Bool.{false≢true}
 use Rattle.std.proofs.lemmas.Option.{slice_get_within}
