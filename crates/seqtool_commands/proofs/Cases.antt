@@ -1,5 +1,5 @@
--- The definitions of the command line say what is meant: here they are computed on worked lines,
--- each with the task and the file that it asks for, whatever the program's name.
+-- The definitions of the command line, computed on worked lines: each line asks for its task and
+-- its file, whatever the program's name.
 use Rattle.std.proofs.Common.{◌≡◌, List, [], ◌∷◌, codes, map, refl}
 use Rattle.std.specs.Prelude.{Option, Some, None}
 use Rattle.std.specs.Fmt.{digits}
@@ -51,7 +51,7 @@ module _ (name : Word) where
   plain_words : map (λ line. request_asked line.0) plain_lines ≡ map (λ line. line.1) plain_lines
   plain_words = refl
 
-  -- event 2 of <0.31.0>
+  -- the task of `why` about event 2 of <0.31.0>
   abbrev asked_about : Direction → Option Word → Option (ToolTask × Option Word)
   asked_about way path = Some
       (task.Why (record { place = (pid_on 0 31, 2); direction = way; reach = label_reach }), path)
@@ -74,7 +74,7 @@ module _ (name : Word) where
       ∷ (name ∷ codes "why" ∷ codes "0.31.0" ∷ [], None)
       ∷ []
 
-  -- A pid may be in angle brackets, both or none, and each number has its one spelling.
+  -- A pid may be in angle brackets, both or none, and each number has one spelling.
   why_words : map (λ line. request_asked line.0) why_lines ≡ map (λ line. line.1) why_lines
   unfolding number number_in parse_bare_pid parse_pid pid_in digits
   why_words = refl

@@ -1,5 +1,5 @@
--- A text is its parts, one after the other. Each text begins with a line, so none is empty; and
--- what was told has no line.
+-- A text is its parts, one after the other. Each text begins with a line, so none is empty; and an
+-- event that was told has no line.
 use Rattle.std.proofs.Common.{◌≡◌, ℕ, zero, suc, ◌+◌, ◌<◌, Bool, true, false, List, [], ◌∷◌, ◌++◌}
 use Rattle.std.proofs.Common.{length, map, Some, refl, sym, ◌∙◌, ap, arith, append_assoc, codes}
 use Rattle.std.proofs.Common.{decimal, if◌then◌else◌, subst, Result, Ok, Err}
@@ -41,7 +41,7 @@ module _ {S T E : Type 0} (puts : S → List ℕ → S → Type 0) (failed : S �
       subst (λ (t : List ℕ). WritesText puts failed t a c r) same
       (finishes puts failed parts c y r some went flushed over)
 
-  -- the device failed after some of them
+  -- the device failed after some parts
   pub fails_as : {a b : S} (r : Result T E) → IsErr r → WritesPart puts failed parts a b
       → WritesText puts failed text a b r
   fails_as (Ok v) is part = absurd cc
@@ -49,14 +49,14 @@ module _ {S T E : Type 0} (puts : S → List ℕ → S → Type 0) (failed : S �
 
 -- THE ADDED EVENTS
 
--- the first text, and then the others
+-- the first text comes before the others
 front_first : (f : ℕ → List ℕ) (n : ℕ) → up_to f (suc n) ≡ f 0 ++ up_to (λ i. f (suc i)) n
 front_first f zero = sym (append-nil (f 0))
 front_first f (suc n) =
     ap (λ t. t ++ f (suc n)) (front_first f n)
     ∙ append_assoc (f 0) (up_to (λ i. f (suc i)) n) (f (suc n))
 
--- the line of event i of these, which are from index k of p on
+-- the line of event i of the marked events, which are from index k of p on
 abbrev line_at : Pid → ℕ → List Marked → ℕ → List ℕ
 line_at p k ms i =
     if_untold (option_map (λ (m : Marked). m.told) (slice_get ms i))
@@ -133,7 +133,7 @@ never_some streams p i r =
     (front_some (never_line p i r) (event_line streams p i)
     (line_some (codes "never " ++ place_words p i ++ codes " " ++ never_words p r)))
 
--- the line of an event that is there, by its mark
+-- the line of an event follows from its mark
 pub line_by : (p : Pid) (es : List Event) (marks : List Bool) (i : ℕ) (e : Event) (b : Bool)
     → slice_get es i ≡ Some e → get_or marks i false ≡ b
     → added_line p es marks i ≡ if_untold (Some b) (place_line (codes "added ") p i (Some e))
@@ -143,7 +143,7 @@ line_by p es marks i e b at is =
     ap (λ o. if_untold o (place_line (codes "added ") p i (slice_get es i))) told
     ∙ ap (λ o. if_untold (Some b) (place_line (codes "added ") p i o)) at
 
--- and so of a completion, if these are all events of p and their marks
+-- the line of an event of a completion follows from its mark, if es and marks are those of p
 pub line_in : (wholes : List Whole) (p : Pid) (es : List Event) (marks : List Bool) (i : ℕ)
     → es ≡ events_of (all_streams wholes) p
     → marked_with (events_of (all_streams wholes) p) marks ≡ marked_of wholes p
@@ -153,7 +153,7 @@ line_in wholes p es marks i are is =
     ∙ ap (λ (ms : List Marked). if_untold (option_map (λ (m : Marked). m.told) (slice_get ms i))
     (place_line (codes "added ") p i (event_at (all_streams wholes) p i))) is
 
--- with no process that isn't listed, the streams stay as they are
+-- with no unlisted process, the streams stay as they are
 pub as_they_are : (streams : List Stream) (qs : List Pid) → length qs ≡ 0
     → streams ≡ with_silent streams qs
 as_they_are streams [] e = refl

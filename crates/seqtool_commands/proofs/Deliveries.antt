@@ -1,5 +1,4 @@
--- The parts of a command together do what the command owes: the bytes that were read go with each
--- answer.
+-- Each part of a command writes an output that the command owes for the bytes that were read.
 use Rattle.st_text.specs.Limits.{greater}
 use Rattle.st_text.specs.Text.{Contents}
 use Rattle.lack_laws.specs.Renumbering.{renumbered_streams}

@@ -1,5 +1,5 @@
--- The line of an event is that of its process's first event and its index more, and what is kept at
--- a process's place is the line of its first event.
+-- The line of an event is that of its process's first event plus its index, and the table has the
+-- line of each process's first event.
 use Rattle.std.proofs.Common.{◌≡◌, ◌≢◌, ℕ, ◌+◌, ◌-◌, ◌<◌, ◌≤◌, ◌^◌, zero, suc, nat_lt, true, false}
 use Rattle.std.proofs.Common.{cond, List, [], ◌∷◌, ◌++◌, length, drop, get_or, Option, Some, None}
 use Rattle.std.proofs.Common.{option_and_then, slice_get, refl, sym, ◌∙◌, ap, subst, arith}
@@ -52,7 +52,7 @@ line_some streams p i f is less =
     sym (line_by streams p i (Some f) (sym is))
     ∙ ap (λ b. cond b (Some (f + i)) None) (lt-ltb i (length (events_of streams p)) less)
 
--- an event on a line
+-- an event's line is its process's first line plus its index
 pub line_says : (streams : List Stream) (p : Pid) (i f n : ℕ) → first_line 3 streams p ≡ Some f
     → line_number_of streams p i ≡ Some n → (i < length (events_of streams p)) × (f + i ≡ n)
 line_says streams p i f n is at =
@@ -124,7 +124,7 @@ pub kept_long : (streams : List Stream) (firsts : List ℕ) (k : ℕ) (p : Pid)
 kept_long streams firsts k p are at =
     subst (λ l. k < length l) (sym are) (firsts_long 3 streams k p at)
 
--- what is kept at a place
+-- the table has a process's first line at its place
 pub first_kept : (streams : List Stream) (firsts : List ℕ) (k : ℕ) (p : Pid) (d : ℕ)
     → IsRising (pids_of streams)
     → firsts ≡ firsts_from 3 streams → slice_get (pids_of streams) k ≡ Some p
@@ -157,7 +157,7 @@ pub first_fits : (streams : List Stream) (p : Pid) (f : ℕ) → line_behind 3 s
     → first_line 3 streams p ≡ Some f → f + length (events_of streams p) < 2 ^ 64
 first_fits streams p f fits is = let within = first_within 3 streams p f is in omega arith
 
--- a process with a line is listed
+-- a process with a first line is listed
 listed_at : (first : ℕ) (streams : List Stream) (p : Pid) (f : ℕ)
     → first_line first streams p ≡ Some f
     → (k : ℕ) × (k < length (pids_of streams)) × (slice_get (pids_of streams) k ≡ Some p)
@@ -174,13 +174,13 @@ listed_at first (s ∷ streams) p f is =
           (suc rest.0, omega arith, rest.2)
     ] refl is
 
--- no process up to a place has an event on the line
+-- no process before place k has an event on the line
 abbrev pub NoneBefore : List Stream → ℕ → ℕ → Type 0
 NoneBefore streams n k =
     (j : ℕ) (q : Pid) → j < k → slice_get (pids_of streams) j ≡ Some q → (i : ℕ)
     → line_number_of streams q i ≢ Some n
 
--- if no process has one, nobody does
+-- if no listed process has an event on the line, no process has
 pub none_at_all : (streams : List Stream) (pids : List Pid) (n k : ℕ) → pids ≡ pids_of streams
     → length pids ≤ k
     → NoneBefore streams n k → (p : Pid) (i : ℕ) → line_number_of streams p i ≢ Some n
@@ -201,7 +201,7 @@ pids_long : (streams : List Stream) → length (pids_of streams) ≡ length stre
 pids_long [] = refl
 pids_long (s ∷ streams) = ap suc (pids_long streams)
 
--- the firsts so far with those that are left come to all, and so does the last line
+-- the first lines so far and those that are left are all
 pub record AreSoFar (streams : List Stream) (firsts : List ℕ) (first k : ℕ) : Type 0 where
   pub kept : firsts ++ firsts_from first (drop k streams) ≡ firsts_from 3 streams
   pub behind : line_behind first (drop k streams) ≡ line_behind 3 streams

@@ -1,5 +1,5 @@
--- The lines after the header are those of each process in order, so the line of an event is found
--- by passing the processes before it. The lines of acts are no event's.
+-- The lines after the header are those of each process in order, so an event's line is found by
+-- passing the processes before it. The lines of acts are no event's.
 use Rattle.std.proofs.Common.{◌≡◌, ℕ, ◌+◌, ◌-◌, ◌<◌, ◌≤◌, zero, suc, nat_lt, true, false, cond}
 use Rattle.std.proofs.Common.{List, [], ◌∷◌, ◌++◌, length, map, Option, Some, None, slice_get, refl}
 use Rattle.std.proofs.Common.{option_map, sym, ◌∙◌, ap, arith, append_assoc, inl, inr}
@@ -29,7 +29,7 @@ event_line [] rest i e at = absurd (none-some e at)
 event_line (x ∷ es) rest zero e at = ap (λ y. Some (lines.Event y)) (same_Some x e at)
 event_line (x ∷ es) rest (suc i) e at = event_line es rest i e at
 
--- after the events of a process
+-- passing the events of a process leads to the lines after them
 passed : (es : List Event) (rest : List Line) (k : ℕ)
     → slice_get (event_lines es ++ rest) (length es + k)
     ≡ slice_get rest k
@@ -100,7 +100,7 @@ event_on_line c p i e at =
 
 -- ACTS HAVE THEIR LINES
 
--- after all processes
+-- passing all processes leads to the lines after them
 record IsBehind (first : ℕ) (streams : List Stream) (tail : List Line) : Type 0 where
   low : first ≤ line_behind first streams
   tail_at : (k : ℕ) → slice_get (flat_map process_lines streams ++ tail)
@@ -188,7 +188,7 @@ listed_event (s ∷ streams) p i e at = elim (pid_eq s.pid p) as (λ b. pid_eq s
 abbrev Placed : ℕ → List Stream → ℕ → Event → Type 0
 Placed first streams k e = (n : ℕ) × (k ≡ suc n) × HasPlace first streams n e
 
--- an event of the first process
+-- an event of the first process has its place
 placed_here : (first : ℕ) (s : Stream) (streams : List Stream) (k : ℕ) (e : Event)
     → slice_get s.events k ≡ Some e
     → Placed first (s ∷ streams) (suc k) e
@@ -209,7 +209,7 @@ placed_here first s streams k e at =
       },
     )
 
--- one of those after it
+-- an event of a later process has its place
 placed_behind : (first : ℕ) (s : Stream) (streams : List Stream) (k : ℕ) (e : Event)
     → IsRising (pids_of (s ∷ streams))
     → length s.events ≤ k → Placed (first + length s.events + 1) streams (k - length s.events) e

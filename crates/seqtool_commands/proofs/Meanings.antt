@@ -1,5 +1,5 @@
--- A status belongs to one kind of output: 0 to a completion, 1 to a reason, 5 to a completion that
--- is too long. So an output with it tells the rest.
+-- Only a completion has status 0, only a reason 1, and only a completion that is too long 5: so an
+-- output with the status is the rest of that kind.
 use Rattle.std.proofs.Common.{◌≡◌, ◌≤◌, ℕ, List, refl, sym, ap, arith}
 use Rattle.st_core.specs.Run.{Stream}
 use Rattle.st_text.specs.declared.fault.ReadFault.{ReadFault}

@@ -1,5 +1,5 @@
--- The parts of `check --node` together do what it owes: the bytes that were read go with each
--- verdict. A status belongs to one kind of output: 0 to a yes, 1 to a no.
+-- Each part of `check --node` writes an output that it owes for the bytes that were read. Only a
+-- yes has status 0, and only a no status 1.
 use Rattle.std.proofs.Common.{◌≡◌, ℕ, List, refl, subst, arith}
 use Rattle.std.specs.Prelude.{Some}
 use Rattle.st_core.specs.declared.types.Act.{Act}
@@ -61,7 +61,7 @@ node_yes_means bytes out (Lacking b n) e = absurd (omega arith)
 node_yes_means bytes out (Faulty b f is) e =
     let high = fault_status_high f in absurd (omega arith)
 
--- a verdict that isn't a yes
+-- a verdict other than yes is a no
 no_verdict : (bytes : List ℕ) (v : NodeVerdict) (j : IsNodeJudged bytes v)
     → ¬ ShowsOnNode j.streams (in_common j.acts) → MeansNodeNo bytes (node_judged v)
 no_verdict bytes v j refuted = record {

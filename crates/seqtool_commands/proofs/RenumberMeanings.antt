@@ -1,5 +1,5 @@
--- A status belongs to one kind of output: 0 to renumbered streams, 2 to a fault of the bytes. So an
--- output with it tells the rest.
+-- Only renumbered streams have status 0, and only a fault of the bytes has 2: so an output with
+-- the status is the rest of that kind.
 use Rattle.std.proofs.Common.{◌≡◌, ℕ, ◌≤◌, List, refl, arith}
 use Rattle.st_core.specs.Pid.{IsRising}
 use Rattle.st_core.specs.Run.{Stream, pids_of}
@@ -12,12 +12,12 @@ use Rattle.st_commands.proofs.ForCallers.{fault_status_high}
 use Rattle.seqtool_commands.specs.Renumber.{Faulty, IsRenumbered, MeansRefused, MeansRenumbered}
 use Rattle.seqtool_commands.specs.Renumber.{Ranked}
 
--- counts can be put back
+-- the counts can be put back
 abbrev pub ArePutBack : Type 0
 ArePutBack = (streams : List Stream) → KeepsOrder (count_of_rank (counts_of streams))
     × (with_counts (count_of_rank (counts_of streams)) (renumbered_streams streams) ≡ streams)
 
--- streams are shown if they are once they are renumbered
+-- acts show streams if acts show them renumbered
 abbrev pub AreShownIfRenumbered : Type 0
 AreShownIfRenumbered = (most_of rank_top : ℕ) (streams : List Stream) → IsRising (pids_of streams)
     → count_of_rank (counts_of streams) rank_top ≤ most_of

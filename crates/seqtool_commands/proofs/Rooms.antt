@@ -1,5 +1,5 @@
--- Texts go one after the other, since the texts of the numbers below one are those of the numbers
--- up to any of them and of the others.
+-- The texts below a number are those below any lower one, then its own, then the rest: so texts go
+-- one after the other.
 use Rattle.std.proofs.Common.{◌≡◌, ℕ, zero, suc, ◌+◌, ◌<◌, Bool, List, [], ◌++◌, sym, ap, subst}
 use Rattle.std.proofs.Common.{◌∙◌, append_assoc, inl, inr, arith, add-one}
 use Rattle.std.proofs.lemmas.Bool.{cases_lt}
@@ -12,7 +12,7 @@ module _ (f : ℕ → List ℕ) where
   pub next_text : (i : ℕ) → up_to f (i + 1) ≡ up_to f i ++ f i
   next_text i = ap (up_to f) (add-one i)
 
-  -- those up to i, and the others
+  -- the texts below n are those below i, then text i, then the rest
   split : (i n : ℕ) → i < n → (rest : List ℕ) × (up_to f n ≡ up_to f i ++ f i ++ rest)
   split i zero lt = absurd (omega (arith, lt))
   split i (suc n) lt = elim (cases_lt i n) [
@@ -38,7 +38,7 @@ module _ {S : Type 0} (puts : S → List ℕ → S → Type 0) (failed : S → B
       (part_longer puts failed (up_to f i ++ f i) all.0 x
       (part_then puts failed (up_to f i) (f i) g h))
 
-  -- and so did the next one
+  -- the texts so far went, and so did the next one
   pub goes_next : (f : ℕ → List ℕ) (i : ℕ) {a b c : S} {x y z : List ℕ}
       → Goes puts failed (up_to f i) a b x y
       → Goes puts failed (f i) b c y z → Goes puts failed (up_to f (i + 1)) a c x z

@@ -1,4 +1,4 @@
--- A node's line is that of its event, a premise on which no hop rests has none, and what is written
+-- Each node has the line of its event, a premise on which no hop rests has no line, and the output
 -- isn't empty, since the last lines aren't.
 use Rattle.std.proofs.Common.{◌≡◌, ℕ, ◌<◌, false, cond, List, [], length, Option, Some, None, ap}
 use Rattle.std.proofs.Common.{arith}
@@ -33,7 +33,7 @@ pub no_line : (streams : List Stream) (nodes : List Node) (x : Premise)
 no_line streams nodes x none =
     ap (λ b. (let line : List ℕ = cond b (ended_line (premise_text x)) [] in line)) none
 
--- what is written isn't empty
+-- the output isn't empty
 pub answer_some : (streams : List Stream) (q : Question) (nodes : List Node)
     → 0 < length (answer_lines streams q nodes)
 answer_some streams q nodes =

@@ -1,5 +1,4 @@
--- The parts of the command together do what it owes: the bytes that were read go with each
--- answer.
+-- Each part of the command writes an output that it owes for the bytes that were read.
 use Rattle.st_text.specs.Limits.{greater}
 use Rattle.st_text.specs.Text.{Contents}
 use Rattle.st_commands.specs.Output.{Output}

@@ -1,5 +1,5 @@
--- Status 0 belongs to an event that is there, and status 1 to one that isn't, or to events without
--- an order.
+-- Only an event that is there has status 0. Status 1 says that the event isn't there, or that the
+-- events have no order.
 use Rattle.std.proofs.Common.{◌≡◌, ℕ, List, Some, refl, arith}
 use Rattle.st_core.specs.declared.types.Pid.{Pid}
 use Rattle.st_core.specs.declared.types.Event.{Event}
@@ -19,12 +19,12 @@ use Rattle.seqtool_commands.specs.Why.{IsWhy}
 use Rattle.seqtool_commands.specs.Why as why
 use Rattle.seqtool_commands.specs.WhyMeaning.{MeansTold, MeansUntold, NoEvent, NoOrder}
 
--- what hops claim is true, which is a law of theirs
+-- the law that the claims of hops are true
 abbrev HopsAreTrue : Type 0
 HopsAreTrue = (streams : List Stream) (p : Pid) (i : ℕ) (e : Event) → IsStreams streams
     → event_at streams p i ≡ Some e → IsTrueOnNode streams p i e (node_hop_of streams p i e)
 
--- and so is that a run has an order
+-- the law that a run has an order
 abbrev RunsHaveOrder : Type 0
 RunsHaveOrder = (streams : List Stream) (pids : List Pid) (acts : List NodeAct) (os : List Outcome)
     → AreStreamsOf streams pids acts os → HaveOrder streams

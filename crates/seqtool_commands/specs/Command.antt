@@ -18,7 +18,7 @@ use Rattle.seqtool_commands.specs.Renumber.{IsRenumbered, MeansRefused, MeansRen
 use Rattle.seqtool_commands.specs.Why.{IsWhy}
 use Rattle.seqtool_commands.specs.WhyMeaning.{MeansTold, MeansUntold}
 
--- words that ask for nothing
+-- the output for words that ask for nothing
 abbrev pub tool_usage : Output
 tool_usage = record { text = ended_line tool_usage_words; status = 3 }
 
@@ -26,19 +26,19 @@ abbrev pub tool_version : Output
 tool_version = record { text = ended_line (tool_version_words); status = 0 }
 
 module _ {R W : Type 0} (reader : ReaderCall R) (writer : WriterCall W) where
-  -- `complete` has a third answer besides yes and no: too long, which is status 5
+  -- `complete` has a third status besides yes and no: 5, if the bundle is too long
   pub record DoesComplete (form : Form) (status : ℕ) : Type 0 where
     pub performed : Performs greater reader writer
         (IsOutputOfComplete form) (MeansCompleted form) MeansNever status
     pub long : status ≡ 5 → Says greater reader writer (MeansLong form)
 
-  -- `renumber` has no no: it refuses text alone, which is status 2
+  -- `renumber` never says no: it refuses a text, with status 2
   pub record DoesRenumber (status : ℕ) : Type 0 where
     pub told : Tells writer (Owes greater reader IsRenumbered) status
     pub renumbered : status ≡ 0 → Says greater reader writer MeansRenumbered
     pub refused : status ≡ 2 → Says greater reader writer MeansRefused
 
-  -- what each command does
+  -- each command does its task with the status
   abbrev pub Does : ToolTask → ℕ → Type 0
   Does (task.Why question) status =
       Performs greater reader writer (IsWhy question) (MeansTold question) (MeansUntold question)

@@ -38,13 +38,13 @@ use Rattle.seqtool_commands.specs.Renumber.{streams_output}
 
 -- ---- the added events
 
--- the lines of the untold ones of these events of p, which are from index i on
+-- the lines of the added events among p's marked events, which are from index i on
 abbrev pub added_from : Pid → ℕ → List Marked → List ℕ
 added_from p i [] = []
 added_from p i (m ∷ ms) = (if m.told then [] else place_line (codes "added ") p i (Some m.event))
     ++ added_from p (i + 1) ms
 
--- how many events were added; the processes that aren't listed; and each event, by pid and index
+-- the number of added events; the unlisted processes; and each added event, by pid and index
 abbrev pub added_text : Completed → List ℕ
 added_text c = ended_line (codes "added " ++ decimal (added_in c.wholes))
     ++ flat_map (λ p. ended_line (codes "unlisted " ++ spelled.pid p)) c.unlisted
@@ -62,7 +62,7 @@ reason_of p (never.Late j) = (codes "late", Some (p, j))
 reason_of p never.Unfounded = (codes "unfounded", None)
 reason_of p never.TooHigh = (codes "toohigh", None)
 
--- the place and the reason, the event at the place, and the one at the other place
+-- the place and the reason, then the event at the place and the one at the other place
 abbrev pub never_text : List Stream → Pid → ℕ → Never → List ℕ
 never_text streams p i r =
     ended_line (codes "never " ++ place_words p i ++ codes " " ++ ((reason_of p r).0
@@ -76,23 +76,22 @@ never_text streams p i r =
 abbrev pub text_of_status : List ℕ → ℕ → Output
 text_of_status text status = record { text = text; status = status }
 
--- the streams have a run, and as a bundle it has more processes than the reader takes, or no acts
--- that are few enough were found
+-- a bundle is too long: it has more processes than the reader takes, or no acts were found that
+-- are few enough
 abbrev pub long : Output
 long = text_of_status (ended_line (codes "long")) 5
 
--- they have one, and of the acts that were built none are accepted, though the reader takes the
--- number that surely suffices
+-- none of the acts that were built is accepted, though the reader takes as many as surely suffice
 abbrev pub uncertified : Output
 uncertified = text_of_status (ended_line (codes "fault certificate")) 4
 
--- no reason holds of the streams, and what was built to complete them doesn't
+-- no reason holds of the streams, and no completion was found
 abbrev pub uncompleted : Output
 uncompleted = text_of_status (ended_line (codes "fault completion")) 4
 
 -- A bundle is wanted, and the completion has more processes than the reader takes; or acts are
--- wanted, and six for each event of it, one for each count that a process passes unreported and one
--- for each process are more.
+-- wanted, and the reader takes fewer than six for each event, one for each count that a process
+-- passes unreported and one for each process.
 pub data IsTooLong (f : Form) (c : Completed) : Type 0 where
   HasProcesses : ¬ (f ≡ form.Added) → greater.processes < length (pids_of (all_streams c.wholes))
       → IsTooLong f c
@@ -102,9 +101,9 @@ pub data IsTooLong (f : Form) (c : Completed) : Type 0 where
 abbrev pub HasFewProcesses : Completed → Type 0
 HasFewProcesses c = length (pids_of (all_streams c.wholes)) ≤ greater.processes
 
--- The output of an answer in a form. Acts that are written show the streams with the processes that
--- they don't list, and none of them is a reset. A bundle has no more processes, and no more acts,
--- than the reader takes.
+-- The output of an answer in a form. Acts that are written show the streams with their unlisted
+-- processes, without a reset. A bundle has no more processes, and no more acts, than the reader
+-- takes.
 pub data Answers (f : Form) (streams : List Stream) : Answer → Output → Type 0 where
   Adds : (c : Completed) → f ≡ form.Added → Answers f streams (answer.Whole c)
       (text_of_status (added_text c) 0)
@@ -123,7 +122,7 @@ pub data Answers (f : Form) (streams : List Stream) : Answer → Output → Type
 
 -- ---- the output of bytes
 
--- the bytes spell streams, of which this is found
+-- the bytes spell the streams, and the answer is theirs
 pub record HasAnswer (bytes : List ℕ) (streams : List Stream) (found : Answer) : Type 0 where
   pub given : Option (List Act)
   pub spelled : Spells greater bytes streams given
@@ -141,7 +140,7 @@ pub data IsOutputOfComplete (f : Form) : List ℕ → Output → Type 0 where
 
 -- ---- what a completion and a reason mean, each as one record of plain facts
 
--- the text of a completion in a form, of which these acts are
+-- the text of a completion in a form
 abbrev pub completed_text : Form → List Stream → Completed → List Act → List ℕ
 completed_text form.Acts streams c acts =
     spelling (record { streams = with_silent streams c.unlisted; acts = Some acts })
@@ -159,21 +158,21 @@ pub record MeansCompleted (f : Form) (bytes : List ℕ) (out : Output) : Type 0 
   pub spelled : Spells greater bytes streams given
   -- the streams list none of the unlisted processes
   pub apart : AllByRecursion (λ q. lists streams q ≡ false) completed.unlisted
-  -- acts show the streams, with the unlisted processes, of which each reports nothing
+  -- the acts show the streams and the unlisted processes, which report nothing
   pub shows : Shows top (with_silent streams completed.unlisted) acts
-  -- and none of these acts is a reset
+  -- none of the acts is a reset
   pub one_trace : NoReset acts
   -- a bundle that is written has no more processes, and no more acts, than the reader takes
   pub few : ¬ (f ≡ form.Added) → HasFewProcesses completed
   pub short : f ≡ form.Acts → length acts ≤ greater.acts
-  -- of all events of the completion the told ones are just those of the streams
+  -- the told events of the completion are just those of the streams
   pub told : told_streams completed.wholes ≡ with_silent streams completed.unlisted
-  -- and with all its events no send and no receive is missing
+  -- with all events of the completion no send and no receive is missing
   pub lacks : LacksNothing top (all_streams completed.wholes)
-  -- each event that isn't told is needed: a send is received, a receive gives its count to the
-  -- event right after it or has only such events after it, and no print is added
+  -- each added event is needed: a send is received, a receive gives its count to the event right
+  -- after it or has only added events after it, and no print is added
   pub needed : AreAdditionsNeeded completed.wholes
-  -- the text is that of the streams with these acts, or of all events, or of those that were added
+  -- the text is that of the streams with the acts, of all events, or of the added events
   pub text : out.text ≡ completed_text f streams completed acts
 
 -- an event and a reason: status 1
@@ -193,14 +192,15 @@ pub record MeansNever (bytes : List ℕ) (out : Output) : Type 0 where
   -- the text names the event and the reason
   pub text : out.text ≡ never_text streams pid index reason
 
--- a completion of which no bundle is written, since it is too long or may be: status 5
+-- a completion that isn't written as a bundle, since it is too long or may be: status 5
 pub record MeansLong (f : Form) (bytes : List ℕ) (out : Output) : Type 0 where
   pub streams : List Stream
   pub given : Option (List Act)
   pub completed : Completed
   -- the bytes spell streams, within the reader's limits; acts among them are ignored
   pub spelled : Spells greater bytes streams given
-  -- acts without a reset show the streams, with unlisted processes, and this is a completion
+  -- the completion is one of the streams, which acts without a reset show with its unlisted
+  -- processes
   pub whole : IsWhole top streams completed
   -- it has more processes than the reader takes; or the number of acts that surely suffices is more
   -- than the reader takes (fewer may suffice)

@@ -1,4 +1,4 @@
--- The line of each process's first event and of the first act, which are kept.
+-- The tables of lines: that of each process's first event, and that of the first act.
 use Rattle.std.specs.Prelude.{◌≡◌, ℕ, ◌+◌, ◌<◌, ◌^◌, List, [], ◌∷◌, length, Option, Some, None}
 use Rattle.std.specs.Prelude.{if◌then◌else◌}
 use Rattle.st_core.specs.declared.types.Pid.{Pid}
@@ -7,18 +7,18 @@ use Rattle.st_core.specs.Run.{Stream}
 use Rattle.st_core.specs.Streams.{IsStreams}
 use Rattle.seqtool_commands.specs.LineNumbers.{line_behind}
 
--- the lines of the first events of these streams, of which that of the first stream is on this line
+-- the line of each stream's first event, if the first stream's is on line `first`
 abbrev pub firsts_from : ℕ → List Stream → List ℕ
 firsts_from first [] = []
 firsts_from first (s ∷ rest) = first ∷ firsts_from (first + length s.events + 1) rest
 
--- the line of the first event of p, if it is listed: there may be no event on it
+-- the line of p's first event, if p is listed; p may have no event there
 abbrev pub first_line : ℕ → List Stream → Pid → Option ℕ
 first_line first [] p = None
 first_line first (s ∷ rest) p =
     if pid_eq s.pid p then Some first else first_line (first + length s.events + 1) rest p
 
--- these are the lines of the first events, and this is that of the first act
+-- the tables have the line of each stream's first event, and that of the first act
 pub record AreFirsts (streams : List Stream) (firsts : List ℕ) (first_act : ℕ) : Type 0 where
   pub sound : IsStreams streams
   pub kept : firsts ≡ firsts_from 3 streams

@@ -1,4 +1,4 @@
--- The definitions of public contracts: which task the words of a command line ask for, and what
+-- The definitions of public contracts: the task that the words of a command line ask for, and what
 -- each task owes.
 pub mod Words
 pub mod Command
@@ -11,10 +11,10 @@ pub mod Complete
 pub mod WhyWords
 pub mod Why
 pub mod WhyMeaning
--- The number of the line on which an event or an act is.
+-- The line number of an event or an act.
 pub mod LineNumbers
 pub mod LineLaws
--- For the parts alone: the functions that a command is made of, and what is kept of lines.
+-- For the parts alone: the parts of commands, and the tables of lines.
 pub mod Lines
 pub mod Parts
 pub mod WhyLines

@@ -1,4 +1,4 @@
--- Laws of line numbers, each the contract of a function of `laws`.
+-- The laws of line numbers, each the contract of a function of `line_laws`.
 use Rattle.std.specs.Prelude.{◌≡◌, ℕ, ◌-◌, suc, List, Some, slice_get}
 use Rattle.st_core.specs.declared.types.Act.{Act}
 use Rattle.st_core.specs.declared.types.Pid.{Pid}
@@ -10,7 +10,7 @@ use Rattle.st_text.specs.declared.line.Line.TheVariants as lines
 use Rattle.st_text.specs.Text.{Contents, lines_of}
 use Rattle.seqtool_commands.specs.LineNumbers.{act_line_number_of, line_number_of}
 
--- event i of p has a line, and on that line of the bundle's text it is
+-- event i of p has a line number, and that line of the bundle's text is the event
 abbrev pub EventsHaveTheirLines : Type 0
 EventsHaveTheirLines = (c : Contents) (p : Pid) (i : ℕ) (e : Event)
     → slice_get (events_of c.streams p) i ≡ Some e
@@ -24,7 +24,7 @@ EventLinesHavePlaces = (c : Contents) (n : ℕ) (e : Event) → IsRising (pids_o
     → (p : Pid) × (i : ℕ) × (slice_get (events_of c.streams p) i ≡ Some e)
     × (line_number_of c.streams p i ≡ Some (suc n))
 
--- on the line of act n of the bundle's text that act is
+-- the line of the bundle's text that has the number of act n is that act
 abbrev pub ActsHaveTheirLines : Type 0
 ActsHaveTheirLines = (c : Contents) (acts : List Act) (n : ℕ) (a : Act) → c.acts ≡ Some acts
     → slice_get acts n ≡ Some a

@@ -1,5 +1,5 @@
--- The words of each line that is written alone, and the lines of `complete` in the parts that are
--- written one after the other, for the contracts of the functions that write them.
+-- The words of each line that is written alone, and the parts of the lines of `complete`, for the
+-- contracts of the functions that write them.
 use Rattle.std.specs.Prelude.{ℕ, zero, suc, ◌+◌, Bool, true, false, List, [], ◌++◌, codes, decimal}
 use Rattle.std.specs.Prelude.{length, option_map, slice_get, Option, Some, None}
 use Rattle.std.specs.List.{flat_map}
@@ -23,7 +23,7 @@ use Rattle.seqtool_commands.specs.WhyWords.{no_order_words, premise_text, runs_w
 use Rattle.seqtool_commands.specs.declared.lines.OutputLine.{OutputLine}
 use Rattle.seqtool_commands.specs.declared.lines.OutputLine.TheVariants as lines
 
--- a reason against an event of p, with the other place that it names
+-- the words of a reason against an event of p, with the other place that it names
 abbrev pub never_words : Pid → Never → List ℕ
 never_words p never.PrevNotBefore = codes "prevnotbefore"
 never_words p (never.NotRising j) = codes "notrising " ++ place_words p j
@@ -52,19 +52,19 @@ words_of (lines.Premise x) = premise_text x
 words_of lines.Usage = tool_usage_words
 words_of lines.Version = tool_version_words
 
--- how many bytes the words of a line take at most, each number given the room of the longest
+-- the most bytes that the words of a line take, if each number takes as many as the longest
 abbrev pub words_room : ℕ
 words_room = 20 + place_room + place_room
 
 -- ---- the added events
 
--- the line of an event with this mark: none if it was told
+-- the line of an event with the mark: none if it was told
 abbrev pub if_untold : Option Bool → List ℕ → List ℕ
 if_untold None line = []
 if_untold (Some true) line = []
 if_untold (Some false) line = line
 
--- the line of event i of these of p with these marks, if it was added
+-- the line of event i of p's events with the marks, if it was added
 abbrev pub added_line : Pid → List Event → List Bool → ℕ → List ℕ
 added_line p es marks i =
     if_untold (option_map (λ m. m.told) (slice_get (marked_with es marks) i))
@@ -87,7 +87,7 @@ added_of wholes p = up_to (added_at wholes p) (length (events_of (all_streams wh
 abbrev pub count_line : ℕ → List ℕ
 count_line n = ended_line (codes "added " ++ decimal n)
 
--- a process that the streams don't list
+-- the line of an unlisted process
 abbrev pub unlisted_line : Pid → List ℕ
 unlisted_line p = ended_line (codes "unlisted " ++ spelled.pid p)
 
@@ -98,7 +98,7 @@ added_parts c =
 
 -- ---- no completion
 
--- the event at the other place
+-- the line of the event at the other place
 abbrev pub other_line : List Stream → Pid → Never → List ℕ
 other_line streams p never.PrevNotBefore = []
 other_line streams p (never.NotRising j) = event_line streams p j

@@ -35,7 +35,7 @@ node_judged v = record {
   status = node_verdict_status v;
 }
 
--- the bytes spell streams and acts, of which this is the verdict
+-- the bytes spell streams and acts, and the verdict is theirs
 pub record IsNodeJudged (bytes : List ℕ) (v : NodeVerdict) : Type 0 where
   pub streams : List Stream
   pub acts : List Act
@@ -43,7 +43,7 @@ pub record IsNodeJudged (bytes : List ℕ) (v : NodeVerdict) : Type 0 where
   pub verdict : IsNodeVerdict streams (in_common acts) v
   pub refutes : RefutesOnNo streams (in_common acts) v
 
--- the output of the bytes
+-- the output for the bytes
 pub data IsNodeChecked : List ℕ → Output → Type 0 where
   Judged : (bytes : List ℕ) (v : NodeVerdict) → IsNodeJudged bytes v
       → IsNodeChecked bytes (node_judged v)
@@ -85,13 +85,13 @@ pub record MeansNodeNo (bytes : List ℕ) (out : Output) : Type 0 where
 
 -- ---- for the parts alone
 
--- what streams and acts come to
+-- the output for streams and acts
 pub data ChecksOnNode (streams : List Stream) (acts : List Act) : Output → Type 0 where
   Judges : (v : NodeVerdict) → IsNodeVerdict streams (in_common acts) v
       → RefutesOnNo streams (in_common acts) v → ChecksOnNode streams acts (node_judged v)
   NoRoom : ChecksOnNode streams acts no_memory
 
--- what a bundle comes to
+-- the output for a bundle
 pub data ChecksBundle (c : Contents) : Output → Type 0 where
   OfActs : (acts : List Act) (out : Output) → c.acts ≡ Some acts
       → ChecksOnNode c.streams acts out → ChecksBundle c out

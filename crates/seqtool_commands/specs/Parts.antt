@@ -1,5 +1,4 @@
--- The outputs of streams that were read, for the contracts of the functions that a command is made
--- of.
+-- The outputs for streams that were read, for the contracts of the parts of a command.
 use Rattle.std.specs.Prelude.{List}
 use Rattle.st_core.specs.Run.{Stream}
 use Rattle.lack_laws.specs.OpenReasons.{HasNoOpenReason}
@@ -12,14 +11,14 @@ use Rattle.lack_decide.specs.declared.answer.Answer.{Answer}
 use Rattle.lack_decide.specs.Answers.{IsAnswer}
 use Rattle.st_commands.specs.Checked.{top}
 
--- what streams lack, in a form
+-- the output of `complete` in a form
 pub data CompletesTo (f : Form) (streams : List Stream) : Output → Type 0 where
   Finds : (found : Answer) (out : Output) → IsAnswer top streams found
       → Answers f streams found out → CompletesTo f streams out
   FindsNone : HasNoOpenReason top streams → CompletesTo f streams uncompleted
   NoRoomToComplete : CompletesTo f streams no_memory
 
--- the renumbered streams
+-- the output of `renumber`
 pub data RenumbersTo (streams : List Stream) : Output → Type 0 where
   Ranks : RenumbersTo streams (streams_output (renumbered_streams streams))
   NoRoomToRenumber : RenumbersTo streams no_memory

@@ -37,22 +37,22 @@ pub record MeansRenumbered (bytes : List ℕ) (out : Output) : Type 0 where
   pub written : List Stream
   -- the bytes spell streams, within the reader's limits; acts among them are ignored
   pub spelled : Spells greater bytes streams given
-  -- in those that were written each count is its rank among 0 and all counts of the streams
+  -- in the written streams each count is its rank among 0 and all counts of the streams
   pub ranked : written ≡ renumbered_streams streams
   -- so nothing is lost: a map that keeps the order of counts, and 0, gives the streams back
   pub order : KeepsOrder (count_of_rank (counts_of streams))
   pub back : with_counts (count_of_rank (counts_of streams)) written ≡ streams
-  -- and acts without a reset show the streams, if such acts show those that were written, where
-  -- clocks go up to the rank of a count that clocks of the program can have
+  -- acts without a reset show the streams, if acts without a reset show the written ones, with
+  -- clocks up to the rank of a count that clocks of the program can have
   pub shown : (most : ℕ) → count_of_rank (counts_of streams) most ≤ top
       → IsShownInOneTrace most written → IsShownInOneTrace top streams
-  -- the text is that of the streams that were written
+  -- the text is that of the written streams
   pub text : out.text ≡ spelling (record { streams = written; acts = None })
 
 -- a fault of the bytes: status 2
 pub record MeansRefused (bytes : List ℕ) (out : Output) : Type 0 where
   pub fault : ReadFault
-  -- the bytes spell no bundle within the reader's limits, and this is what is wrong with them first
+  -- the bytes spell no bundle within the reader's limits, and the fault is the first one in them
   pub faulty : fault_within greater bytes ≡ Some fault
-  -- the text names it
+  -- the text names the fault
   pub text : out.text ≡ ended_line (fault_words fault)

@@ -1,6 +1,6 @@
 -- The result of `why` on bytes: the way back from an event of the streams that they spell, or the
--- tree of what follows it, a line for each event, with the premises of these, or why there is none.
--- The acts in the input are ignored.
+-- tree of what follows it, a line for each event, with the premises of its hops, or why there is
+-- none. The acts in the input are ignored.
 use Rattle.std.specs.Prelude.{◌≡◌, ℕ, Bool, false, List, [], ◌∷◌, ◌++◌, Option, Some, None, IsSome}
 use Rattle.std.specs.Prelude.{codes, if◌then◌else◌}
 use Rattle.std.specs.List.{flat_map, list_any}
@@ -31,7 +31,7 @@ use Rattle.seqtool_commands.specs.WhyWords.{runs_words}
 abbrev pub event_asked : List Stream → Question → Option Event
 event_asked streams q = event_at streams q.place.0 q.place.1
 
--- what is found from there
+-- the events of the way or the tree
 abbrev pub nodes_from : List Stream → Question → List Node
 nodes_from streams q = elim q.direction [
   | direction.Back ↦ way streams q.reach.across q.reach.most 0 (Some q.place)
@@ -45,7 +45,7 @@ node_line streams q x = elim (event_at streams x.place.0 x.place.1) [
   | Some e ↦ hop_line streams q.direction x.depth x.place.0 x.place.1 e
 ]
 
--- the hop of the event at a place rests on this premise
+-- whether the hop of the event at a node rests on the premise
 abbrev pub rests_on : List Stream → Premise → Node → Bool
 rests_on streams premise x = elim (event_at streams x.place.0 x.place.1) [
   | None ↦ false
@@ -53,7 +53,7 @@ rests_on streams premise x = elim (event_at streams x.place.0 x.place.1) [
       is_part_of premise (node_premises_of (node_hop_of streams x.place.0 x.place.1 e))
 ]
 
--- the line of a premise, if one of these hops rests on it
+-- the line of a premise, if a hop rests on it
 abbrev pub premise_line : List Stream → List Node → Premise → List ℕ
 premise_line streams nodes premise =
     if list_any (rests_on streams premise) nodes then ended_line (premise_text premise) else []
@@ -63,31 +63,32 @@ all_premises = premise.ReportsTakes ∷ premise.KeepsCounters ∷ premise.Begins
     ∷ premise.ReportsLike
     ∷ []
 
--- what the hops of these events rest on
+-- the lines about all runs and about the premises of the hops
 abbrev pub last_lines : List Stream → List Node → List ℕ
 last_lines streams nodes =
     ended_line runs_words ++ flat_map (premise_line streams nodes) all_premises
 
--- the lines of these events, and what they rest on
+-- the lines of the events, and then the last lines
 abbrev pub answer_lines : List Stream → Question → List Node → List ℕ
 answer_lines streams q nodes = flat_map (node_line streams q) nodes ++ last_lines streams nodes
 
--- all that is written of an event that is there
+-- the output for an event that is there
 abbrev pub found : List Stream → Question → Output
 found streams q = record { text = answer_lines streams q (nodes_from streams q); status = 0 }
 
--- there is no such event
+-- the output if there is no such event
 abbrev pub no_event : Question → Output
 no_event q = record {
   text = ended_line (codes "no event " ++ place_words q.place.0 q.place.1);
   status = 1;
 }
 
--- no order of the events has each receive after its send, so that hops can go in a circle
+-- the output if no order of the events has each receive after its send: hops can then go in a
+-- circle
 abbrev pub no_order : Output
 no_order = record { text = ended_line no_order_words; status = 1 }
 
--- the bytes spell these streams, whatever acts they have
+-- the bytes spell the streams, with acts or without
 pub record AreSpelled (bytes : List ℕ) (streams : List Stream) : Type 0 where
   pub given : Option (List Act)
   pub spelled : Spells greater bytes streams given

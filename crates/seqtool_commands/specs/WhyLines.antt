@@ -1,4 +1,4 @@
--- How many bytes the parts of a line of `why` take at most.
+-- The most bytes that the parts of a line of `why` take.
 use Rattle.std.specs.Prelude.{ℕ, ◌+◌}
 use Rattle.st_text.specs.Room.{number_room, serial_room}
 use Rattle.st_chart.specs.Room.{item_word_room, place_room}
@@ -11,7 +11,7 @@ depth_room = number_room + 17
 abbrev pub located_room : ℕ
 located_room = place_room + (7 + number_room)
 
--- what an event is, a serial and a value
+-- the kind of an event, its serial and its value
 abbrev pub what_room : ℕ
 what_room = item_word_room + 2 + serial_room + number_room
 
@@ -24,7 +24,7 @@ had_received_room = 31 + located_room + number_room
 abbrev pub since_room : ℕ
 since_room = 8 + located_room
 
--- what an event follows: the words about another label are the longest
+-- the words of a hop: those about another label are the longest
 abbrev pub claim_room : ℕ
 claim_room = begins_label_room + had_received_room
 

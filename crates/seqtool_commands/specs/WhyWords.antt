@@ -1,5 +1,5 @@
--- The words of what is found: a line for each event, and what they rest on. What a sentence claims
--- of a run, and that it is true, is in `node_hops` (`Claims`).
+-- The words of the output: a line for each event, and the premises. The claim of a sentence about
+-- a run, and that it is true, is in `node_hops` (`Claims`).
 use Rattle.std.specs.Prelude.{ℕ, ◌-◌, ◌==◌, min, Bool, true, false, List, [], ◌++◌, codes, decimal}
 use Rattle.std.specs.Prelude.{if◌then◌else◌, take}
 use Rattle.std.specs.Option.{unwrap_or}
@@ -32,43 +32,43 @@ abbrev pub located_words : List Stream → Pid → ℕ → List ℕ
 located_words streams p i = place_words p i ++ codes ", line "
     ++ decimal (line_number_at streams p i)
 
--- how far an event of a tree is from the first one: a number, and as many spaces, up to 16
+-- the depth of an event in a tree: a number, and as many spaces, up to 16
 abbrev pub depth_words : Direction → ℕ → List ℕ
 depth_words direction.Back depth = []
 depth_words direction.Forth depth =
     decimal depth ++ codes " " ++ take (min depth 16) (codes "                ")
 
--- what an event is, its serial and its value, as in a chart
+-- the kind of an event, its serial and its value, as in a chart
 abbrev pub what_words : Event → List ℕ
 what_words e = item_word (item.Reported e.from 0) e.kind ++ codes " " ++ spelled.serial e.serial
     ++ codes " "
     ++ decimal e.value
 
--- how far an event is, where it is and what it is
+-- the depth of an event, its place and its kind, serial and value
 abbrev pub head_words : List Stream → Direction → ℕ → Pid → ℕ → Event → List ℕ
 head_words streams way depth p i e = depth_words way depth ++ located_words streams p i
     ++ codes "  "
     ++ what_words e
     ++ codes " "
 
--- a process begins this label, or sets it on a token that it has
+-- the words that a process begins the label, or sets it on its token
 abbrev pub begins_label_words : Label → List ℕ
 begins_label_words label =
     codes "begins label " ++ decimal label.0 ++ codes " here, or set it on its token; "
 
--- the receive before, which has another label
+-- the words about the last receive before, which has another label
 abbrev pub had_received_words : List Stream → Pid → ℕ → Label → List ℕ
 had_received_words streams p j received = codes "it had last received "
     ++ located_words streams p j
     ++ codes " of label "
     ++ decimal received.0
 
--- since p's event that is the last one of this number
+-- the words about p's last event among its first k, if there is one
 abbrev pub since_words : List Stream → Pid → ℕ → List ℕ
 since_words streams p k =
     if k == 0 then [] else codes "since " ++ located_words streams p (k - 1) ++ codes ", "
 
--- what an event of p with this label follows: the sentence whose claim `HopClaims` has
+-- the sentence about an event of p with the label, whose claim is in `HopClaims`
 abbrev pub claim_words : List Stream → Pid → Label → NodeHop → List ℕ
 claim_words streams p label (hop.Sent q j) = codes "after " ++ located_words streams q j
 claim_words streams p label hop.Unsent = codes "its send wasn't reported"
@@ -79,7 +79,7 @@ claim_words streams p label hop.Begins = codes "begins here"
 claim_words streams p label (hop.Moved k) = since_words streams p k
     ++ codes "its process took a token whose receive wasn't reported, put one back or spawned"
 
--- the premises that a sentence rests on
+-- the numbers of the premises that a sentence rests on
 abbrev pub premise_words : NodePremises → List ℕ
 premise_words premises.Nothing = []
 premise_words premises.KeptCounters = codes " (1, 2)"
@@ -91,17 +91,17 @@ abbrev pub hop_words : List Stream → Pid → Label → NodeHop → List ℕ
 hop_words streams p label back =
     claim_words streams p label back ++ premise_words (node_premises_of back)
 
--- the line of event i of p, so far from the first one
+-- the line of event i of p at the depth
 abbrev pub hop_line : List Stream → Direction → ℕ → Pid → ℕ → Event → List ℕ
 hop_line streams way depth p i e = head_words streams way depth p i e
     ++ ended_line (hop_words streams p e.label (node_hop_of streams p i e))
 
--- what all sentences rest on
+-- the line about all runs
 abbrev pub runs_words : List ℕ
 runs_words =
     codes "this holds in each run of a standard node without a reset that reports the trace"
 
--- what a premise says
+-- the line of a premise
 abbrev pub premise_text : Premise → List ℕ
 premise_text premise.ReportsTakes =
     codes "(1) if in between, or before a beginning, its process took no token whose receive "
@@ -113,7 +113,7 @@ premise_text premise.BeginsNothing = codes
 premise_text premise.ReportsLike = codes
     "(4) if each send of such a message was reported"
 
--- whether a premise is one of these
+-- whether a premise is among those of a hop
 abbrev pub is_part_of : Premise → NodePremises → Bool
 is_part_of x premises.Nothing = false
 is_part_of x premises.KeptCounters = elim x [
@@ -135,7 +135,7 @@ is_part_of x premises.SendsReported = elim x [
   | premise.ReportsLike ↦ true
 ]
 
--- hops can go in a circle
+-- the line of events without an order
 abbrev pub no_order_words : List ℕ
 no_order_words =
     codes "no order of the events has each receive after its send"

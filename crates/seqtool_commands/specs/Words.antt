@@ -1,4 +1,4 @@
--- The command line: which task a list of words asks for, and of which file. The words of a command
+-- The command line: the task that a list of words asks for, and its file. The words of a command
 -- come in one order; the file is last.
 use Rattle.std.specs.Prelude.{ℕ, Bool, false, List, [], ◌∷◌, Option, Some, None, option_map}
 use Rattle.std.specs.Prelude.{option_and_then, ◌++◌, ◌==◌, if◌then◌else◌, codes}
@@ -17,15 +17,15 @@ use Rattle.seqtool_commands.specs.declared.words.ToolTask.TheVariants as task
 abbrev pub Word : Type 0
 Word = List ℕ
 
--- the words after this one, if they begin with it
+-- the words after the given one, if they begin with it
 abbrev pub words_behind : Word → List Word → Option (List Word)
 words_behind word [] = None
 words_behind word (w ∷ rest) = if bytes_eq w word then Some rest else None
 
 -- ---- check
 
--- the task that words begin with, and the words after it: by the machine of the manual, if they
--- don't name a node
+-- the task that words begin with, and the words after it: by the machine of the manual, unless
+-- they say `--node`
 abbrev pub check_asked : List Word → ToolTask × List Word
 check_asked words = elim (words_behind (codes "--node") words) [
   | None ↦ (task.Check, words)
@@ -40,12 +40,12 @@ form_named w =
     else (if bytes_eq w (codes "streams") then Some form.Streams
     else (if bytes_eq w (codes "acts") then Some form.Acts else None))
 
--- the form that words after `--as` begin with
+-- the form that the words after `--as` begin with, and the words after it
 abbrev pub named_form : List Word → Option (Form × List Word)
 named_form [] = None
 named_form (w ∷ rest) = option_map (λ f. (f, rest)) (form_named w)
 
--- the form that words begin with, and the words after it: the added events, if they name none
+-- the form that words begin with, and the words after it: the added events, unless they say `--as`
 abbrev pub form_asked : List Word → Option (Form × List Word)
 form_asked words = elim (words_behind (codes "--as") words) [
   | None ↦ Some (form.Added, words)
@@ -58,7 +58,7 @@ form_asked words = elim (words_behind (codes "--as") words) [
 abbrev pub label_reach : Reach
 label_reach = record { most = 18446744073709551615; across = false }
 
--- the direction that words begin with, and the words after it: back, if they name none
+-- the direction that words begin with, and the words after it: back, unless they say `--effects`
 abbrev pub direction_asked : List Word → Direction × List Word
 direction_asked words = elim (words_behind (codes "--effects") words) [
   | None ↦ (direction.Back, words)
@@ -79,7 +79,7 @@ question_asked (p ∷ i ∷ rest) =
 
 -- ---- all commands
 
--- the task of the command of this name, of whose own words these begin with, and the words after
+-- the task of the command with the name, by the words after it, and the words that are left
 abbrev pub task_named : Word → List Word → Option (ToolTask × List Word)
 task_named name words =
     if bytes_eq name (codes "check") then Some (check_asked words)
@@ -96,7 +96,7 @@ abbrev pub begins_with_minus : Word → Bool
 begins_with_minus [] = false
 begins_with_minus (b ∷ rest) = b == 45
 
--- the file that this word names; - is standard input
+-- the file that a word names; - is standard input
 abbrev pub file_named : Word → Option (Option Word)
 file_named w =
     if bytes_eq w (codes "-") then Some None
@@ -108,14 +108,14 @@ file_asked [] = Some None
 file_asked (w ∷ []) = file_named w
 file_asked (w ∷ x ∷ rest) = None
 
--- the task, and the file if it isn't of standard input; the first word is the program's name
+-- the task, and the file unless it is standard input; the first word is the program's name
 abbrev pub request_asked : List Word → Option (ToolTask × Option Word)
 request_asked [] = None
 request_asked (program ∷ []) = None
 request_asked (program ∷ name ∷ words) =
     option_and_then (λ x. option_map (λ file. (x.0, file)) (file_asked x.1)) (task_named name words)
 
--- the version alone is asked for
+-- whether the words ask for the version alone
 abbrev pub version_asked : List Word → Bool
 version_asked [] = false
 version_asked (program ∷ []) = false

@@ -1,5 +1,5 @@
-//! The outputs of this crate's own: each function writes one whole, and returns the status that
-//! goes with it, or 4 if the writer failed.
+//! Writes the outputs of this crate's own: each function writes a whole output, and returns its
+//! status, or 4 if the writer fails.
 
 ghost use Rattle.st_commands.specs.Command.{Delivers, call};
 ghost use Rattle.seqtool_commands.specs.Renumber.{streams_output};

@@ -1,5 +1,4 @@
-//! The command `check --node`: the verdict, by the rules of a standard node, of the bundle whose
-//! text the input is.
+//! The command `check --node`: writes the verdict about a bundle by the rules of a standard node.
 
 ghost use Rattle.st_commands.specs.Command.{Delivers, Tells, call};
 ghost use Rattle.st_commands.specs.Meaning.{Performs};
@@ -47,9 +46,9 @@ fn check_bundle<W: ByteSink>(alloc: Global, bundle: &Bundle, writer: &mut W) -> 
     }
 }
 
-/// Reads a bundle within the greater limits and writes its verdict by the rules of a standard node:
-/// `yes` with status 0, or a no with status 1. Faulty input is 2; if memory runs out, or a reader
-/// or a writer fails, it is 4.
+/// Reads a bundle within the greater limits and writes its verdict by the rules of a standard
+/// node: `yes` with status 0, or a no with status 1. Returns 2 for faulty input, and 4 if memory
+/// runs out, or the reader or the writer fails.
 pub fn run_check_node<R: ByteSource, W: ByteSink>(
     alloc: Global,
     reader: &mut R,

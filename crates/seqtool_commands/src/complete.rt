@@ -1,5 +1,5 @@
-//! The command `complete`: what the streams whose text the input is lack, or why no run without a
-//! reset has them, whatever processes report nothing. The acts in the input are ignored.
+//! The command `complete`: writes what the input's streams lack, or why no run without a reset has
+//! them, whatever processes report nothing. It ignores the acts in the input.
 
 ghost use Rattle.std.specs.Prelude.{◌≡◌, ◌<◌, ◌↔◌, IsTrue, length};
 ghost use Rattle.st_core.specs.Run.{pids_of};
@@ -25,7 +25,7 @@ use st_text::{Limits, ReadFault, read_within};
 use std::alloc::Global;
 use std::thread::Threads;
 
-/// The most acts and processes that the reader of the greater limits takes.
+/// The most acts and processes that the reader takes within the greater limits.
 const MOST_ACTS: u64 = Limits::GREATER.acts as u64;
 
 const MOST_PROCESSES: usize = Limits::GREATER.processes as usize;
@@ -33,7 +33,7 @@ const MOST_PROCESSES: usize = Limits::GREATER.processes as usize;
 /// How a completion is written.
 #[derive(Clone, Copy, Debug, PartialEq, Eq)]
 pub enum Form {
-    /// A bundle of the streams that were read with acts that show them.
+    /// A bundle of the streams that were read, with acts that show them.
     Acts,
     /// A bundle of the completed streams.
     Streams,
@@ -65,7 +65,7 @@ fn tell_shown<H: Threads + Sync, W: ByteSink>(
     }
 }
 
-/// Writes streams with acts that show them, which come from their completion.
+/// Writes streams with acts that show them, built from their completion.
 fn tell_acts<H: Threads + Sync, W: ByteSink>(
     rt: &H,
     alloc: Global,
@@ -159,15 +159,15 @@ fn complete_streams<H: Threads + Sync, W: ByteSink>(
     }
 }
 
-/// Reads a bundle and writes what its streams lack, in this form, with status 0. If no run without
+/// Reads a bundle and writes what its streams lack, in the form, with status 0. If no run without
 /// a reset has them, whatever processes report nothing, it writes an event and the reason, with
-/// status 1. If a bundle is asked for, and its processes are more than the reader of the greater
-/// limits takes, or the acts that were tried don't serve, and the number of acts that surely
-/// suffices (six for each event, one for each count that a process passes unreported, and one for
-/// each process) is more than it takes, it writes `long` with status 5; fewer acts may suffice.
-/// Faulty input is 2; running out of memory, and a reader or a writer that fails, are 4, and so are
-/// a completion that the judge doesn't accept, and acts that the checker doesn't accept, which no
-/// test has seen. It sorts on several threads.
+/// status 1. If a bundle is asked for, it writes `long` with status 5 if the processes are more
+/// than the reader takes, or if the acts that were tried don't serve, and the number of acts that
+/// surely suffices (six for each event, one for each count that a process passes unreported, and
+/// one for each process) is more than it takes; fewer acts may suffice. Returns 2 for faulty
+/// input, and 4 if memory runs out, the reader or the writer fails, the judge doesn't accept a
+/// completion, or the checker doesn't accept the acts; no test has seen the last two. It sorts on
+/// several threads.
 pub fn run_complete<H: Threads + Sync, R: ByteSource, W: ByteSink>(
     rt: &H,
     alloc: Global,

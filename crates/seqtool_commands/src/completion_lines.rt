@@ -1,4 +1,4 @@
-//! The lines of the command `complete`: the events that were added, or an event with the reason why
+//! Writes the lines of the command `complete`: the added events, or an event with the reason why
 //! there is no completion.
 
 ghost use Rattle.std.specs.Prelude.{◌<◌, length};
@@ -14,7 +14,7 @@ use st_chart::{write_event, write_place_line};
 use st_core::{ByteSink, Event, Pid, Streams};
 use st_text::{Buffer, Device, flush, write_line};
 
-/// Writes the line of the event at this index among these of a process, if it was added.
+/// Writes the line of a process's event, if it was added.
 fn write_if_added<W: ByteSink>(
     writer: &mut W,
     buffer: &mut Buffer,
@@ -34,7 +34,6 @@ fn write_if_added<W: ByteSink>(
     write_place_line(writer, buffer, b"added ", pid, index as u64, event)
 }
 
-/// Writes a line for each added event of a process.
 fn write_added_of<W: ByteSink>(
     writer: &mut W,
     buffer: &mut Buffer,
@@ -81,8 +80,7 @@ fn write_unlisted<W: ByteSink>(
     Ok(())
 }
 
-/// Writes how many events were added, the processes that the streams don't list, and a line for
-/// each event.
+/// Writes the number of added events, the unlisted processes, and a line for each added event.
 fn write_added<W: ByteSink>(
     writer: &mut W,
     buffer: &mut Buffer,
@@ -96,8 +94,7 @@ fn write_added<W: ByteSink>(
     write_added_by(writer, buffer, completion, completion.streams().pids())
 }
 
-/// Sends how many events were added, the processes that the streams don't list, and a line for each
-/// event.
+/// Sends the number of added events, the unlisted processes, and a line for each added event.
 pub fn send_added<W: ByteSink>(writer: &mut W, completion: &Completion) -> Result<(), Device>
     ensures { WritesText W.puts W.failed (added_text completion.now) writer.old writer.new result }
 {
@@ -106,8 +103,7 @@ pub fn send_added<W: ByteSink>(writer: &mut W, completion: &Completion) -> Resul
     flush(writer, &mut buffer)
 }
 
-/// Writes the event at the other place that a reason against an event of this process names, if it
-/// names one.
+/// Writes the event at the other place that a reason names, if it names one.
 fn write_other<W: ByteSink>(
     writer: &mut W,
     buffer: &mut Buffer,
@@ -129,7 +125,7 @@ fn write_other<W: ByteSink>(
     }
 }
 
-/// Writes a reason against the event at this place, and the events that it names.
+/// Writes a reason against the event at a place, and the events that the reason names.
 fn write_never<W: ByteSink>(
     writer: &mut W,
     buffer: &mut Buffer,
@@ -146,7 +142,7 @@ fn write_never<W: ByteSink>(
     write_other(writer, buffer, streams, pid, never)
 }
 
-/// Sends a reason against the event at this place, and the events that it names.
+/// Sends a reason against the event at a place, and the events that the reason names.
 pub fn send_never<W: ByteSink>(
     writer: &mut W,
     streams: &Streams,

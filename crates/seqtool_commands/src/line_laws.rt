@@ -1,5 +1,5 @@
-//! Laws of line numbers, as contracts of functions that do nothing: each clause is a theorem over
-//! the definitions of `specs/`, and a proof that calls the function may use it.
+//! Laws of line numbers, as contracts of functions that do nothing: a proof that calls a function
+//! may use its clause.
 
 ghost use Rattle.seqtool_commands.specs.LineLaws.{ActsHaveTheirLines, EventLinesHavePlaces};
 ghost use Rattle.seqtool_commands.specs.LineLaws.{EventsHaveTheirLines};

@@ -1,5 +1,5 @@
-//! The lines of all events and acts. The line of each process's first event, and that of the first
-//! act, are found once, in one pass over the processes.
+//! The lines of all events and acts. One pass over the processes finds the line of each process's
+//! first event, and that of the first act.
 
 ghost use Rattle.std.specs.Prelude.{◌≡◌, ◌≢◌, ◌+◌, ◌<◌, ◌≤◌, ◌^◌, ℕ, Some, IfNone, IfOk, IfSome};
 ghost use Rattle.std.specs.Prelude.{length};
@@ -15,8 +15,8 @@ use std::marker::Model;
 /// The line of the first process's first event: the header and the process are above it.
 const FIRST: u64 = 3;
 
-/// Returns the line of the next process's first event, if that of this one is here and it has this
-/// many.
+/// Returns the line of the next process's first event, from that of a process and its number of
+/// events.
 fn first_behind(first: u64, events: u64) -> Result<u64, AllocError>
     ensures value { IfOk result (λ next. next ≡ first + events + 1) }
     ensures fits { IfOk result (λ next. next < 2 ^ 64) }
@@ -28,7 +28,7 @@ fn first_behind(first: u64, events: u64) -> Result<u64, AllocError>
         .ok_or(AllocError)
 }
 
-/// The lines of the first events, and that of the first act.
+/// Returns the line of each process's first event, and that of the first act.
 fn all_firsts(alloc: Global, streams: &Streams) -> Result<(Vec<u64>, u64), AllocError>
     ensures { IfOk result (λ found. AreFirsts streams.now found.0.items found.1) }
 {
@@ -41,8 +41,8 @@ fn all_firsts(alloc: Global, streams: &Streams) -> Result<(Vec<u64>, u64), Alloc
     Ok((firsts, first))
 }
 
-/// The lines of all events of streams, and of acts below them, in the text of a bundle that has
-/// them. A contract sees it as the streams. It borrows them, and keeps 8 bytes a process.
+/// The lines of the events of streams, and of acts below them, in the text of a bundle. A contract
+/// sees it as the streams. It borrows them, and keeps 8 bytes a process.
 #[derive(Drop)]
 pub struct LineNumbers<'a> {
     streams: &'a Streams,
@@ -63,7 +63,7 @@ impl<'a> Model for LineNumbers<'a> {
 }
 
 impl<'a> LineNumbers<'a> {
-    /// The lines of the events of streams. Fails only if memory runs out.
+    /// Finds the lines of streams. Fails only if memory runs out.
     pub fn new(alloc: Global, streams: &'a Streams) -> Result<Self, AllocError>
         ensures { IfOk result (λ numbers. numbers ≡ streams.now) }
     {
@@ -75,7 +75,7 @@ impl<'a> LineNumbers<'a> {
         })
     }
 
-    /// The line of a process's first event; none if it isn't listed.
+    /// Returns the line of a process's first event, or none if the process isn't listed.
     fn first(&self, pid: Pid) -> Option<u64>
         ensures value { result ≡ first_line 3 self.now pid }
         ensures fits { IfSome result
@@ -87,7 +87,7 @@ impl<'a> LineNumbers<'a> {
         }
     }
 
-    /// The line of a process's event, counted from 1; none if there is no such event.
+    /// Returns the line of a process's event, counted from 1, or none if there is no such event.
     #[tactic(auto, using(crate::proofs::LineFirsts::line_by))]
     pub fn line(&self, pid: Pid, index: u64) -> Option<u64>
         ensures { result ≡ line_number_of self.now pid index }
@@ -104,8 +104,8 @@ impl<'a> LineNumbers<'a> {
         }
     }
 
-    /// The line of the act with this number, counted from 0, if the bundle has acts; none if no
-    /// number is so great.
+    /// Returns the line of an act, counted from 0, if the bundle has acts, or none if the number
+    /// doesn't fit.
     pub fn act_line(&self, number: u64) -> Option<u64>
         ensures value { IfSome result (λ line. line ≡ act_line_number_of self.now number) }
         ensures missing { IfNone result (2 ^ 64 ≤ act_line_number_of self.now number) }
@@ -113,7 +113,8 @@ impl<'a> LineNumbers<'a> {
         self.first_act.checked_add(number)
     }
 
-    /// The index of this process's event on a line; none if the line is none of its events'.
+    /// Returns the index of a process's event on a line, or none if the line is none of its
+    /// events'.
     fn index_on(&self, pid: Pid, line: u64) -> Option<u64>
         ensures found { IfSome result (λ i. line_number_of self.now pid i ≡ Some line) }
         ensures missing { IfNone result ((i : ℕ) → line_number_of self.now pid i ≢ Some line) }
@@ -130,8 +131,8 @@ impl<'a> LineNumbers<'a> {
         }
     }
 
-    /// The process and index of the event on a line; none if the line is no event's. Its time grows
-    /// as the number of processes does.
+    /// Returns the process and index of the event on a line, or none if the line is no event's.
+    /// Its time grows as the number of processes does.
     pub fn place(&self, line: u64) -> Option<(Pid, u64)>
         ensures found { IfSome result (λ place.
             line_number_of self.now place.0 place.1 ≡ Some line) }

@@ -22,40 +22,40 @@ const VERSION: &str = "seqtool 1.0.0";
 /// A line that is written alone.
 #[derive(Clone, Copy, Debug)]
 pub(crate) enum OutputLine {
-    /// The acts, or the processes, are more than the reader takes.
+    /// The bundle has more acts, or more processes, than the reader takes.
     Long,
     /// The checker doesn't accept the acts that were built.
     Uncertified,
     /// No reason holds of the streams, and what was built doesn't complete them.
     Uncompleted,
-    /// The certificate is one.
+    /// The acts show the streams.
     Yes,
-    /// The act without a step.
+    /// The act with this number has no step.
     Stuck(u64),
-    /// The act that reports something else.
+    /// The act with this number reports something else than the next event.
     Differs(u64),
-    /// The process with events left.
+    /// This process has events left.
     Left(Pid),
     /// The input has no acts.
     NoActs,
-    /// The number of events that were added.
+    /// This many events were added.
     Added(u64),
-    /// Why the event at this place rules out a run without a reset.
+    /// This reason against the event at this place rules out a run without a reset.
     Never(Pid, u64, Never),
-    /// A process of the completion that the streams don't list.
+    /// The streams don't list this process of the completion.
     Unlisted(Pid),
     /// There is no event at this place.
     NoEvent(Pid, u64),
     /// No order of the events has each receive after its send.
     NoOrder,
-    /// The runs in which the lines of `why` hold.
+    /// The lines of `why` hold in these runs.
     Runs,
     Premise(Premise),
     Usage,
     Version,
 }
 
-/// Appends the words of a reason against an event of this process.
+/// Appends the words of a reason against an event of a process.
 fn put_never_words(buffer: &mut Buffer, pid: Pid, never: Never)
     requires { HasRoom (13 + place_room) buffer.old }
     ensures { Puts (13 + place_room) (never_words pid never) buffer.old buffer.new }

@@ -1,5 +1,5 @@
-//! The parts of a line in the buffer: places, kinds and sentences. Each function appends its words;
-//! that there is room is its caller's to know.
+//! Appends the parts of a line to the buffer: places, kinds and sentences. Each caller makes sure
+//! that there is room.
 
 ghost use Rattle.std.specs.Prelude.{◌≡◌};
 ghost use Rattle.st_text.specs.Room.{HasRoom, Puts};
@@ -21,11 +21,11 @@ use st_chart::put_place;
 use st_core::{Event, Kind, Label, Pid};
 use st_text::{Buffer, put_bytes, put_number, put_serial};
 
-/// The hops from the first event that spaces show too: more would move the line off the
-/// screen, and a chain of a million events would take as many spaces squared.
+/// The greatest depth that spaces show: more would move the line off the screen, and a chain of a
+/// million events would take as many spaces squared.
 const INDENT: u64 = 16;
 
-/// The line of an event, 0 if there is none.
+/// Returns the line of an event, 0 if there is none.
 pub(crate) fn line_number_at(numbers: &LineNumbers, pid: Pid, index: u64) -> u64
     ensures { result ≡ line_number_at numbers.now pid index }
 {
@@ -35,7 +35,7 @@ pub(crate) fn line_number_at(numbers: &LineNumbers, pid: Pid, index: u64) -> u64
     }
 }
 
-/// Appends where an event is: its process, its index there, and its line of the text.
+/// Appends an event's process, its index there, and its line of the text.
 pub(crate) fn put_located(buffer: &mut Buffer, numbers: &LineNumbers, pid: Pid, index: u64)
     requires { HasRoom located_room buffer.old }
     ensures { Puts located_room (located_words numbers.now pid index) buffer.old buffer.new }
@@ -45,7 +45,7 @@ pub(crate) fn put_located(buffer: &mut Buffer, numbers: &LineNumbers, pid: Pid, 
     put_number(buffer, line_number_at(numbers, pid, index));
 }
 
-/// Appends how far an event of a tree is from the first one.
+/// Appends the depth of an event in a tree.
 pub(crate) fn put_depth(buffer: &mut Buffer, direction: Direction, depth: u64)
     requires { HasRoom depth_room buffer.old }
     ensures { Puts depth_room (depth_words direction depth) buffer.old buffer.new }
@@ -73,7 +73,7 @@ fn put_kind(buffer: &mut Buffer, event: &Event)
     }
 }
 
-/// Appends what an event is, its serial and its value.
+/// Appends an event's kind, its serial and its value.
 pub(crate) fn put_what(buffer: &mut Buffer, event: &Event)
     requires { HasRoom what_room buffer.old }
     ensures { Puts what_room (what_words event.now) buffer.old buffer.new }
@@ -85,7 +85,7 @@ pub(crate) fn put_what(buffer: &mut Buffer, event: &Event)
     put_number(buffer, event.value);
 }
 
-/// Appends that a process begins this label, or sets it on a token that it has.
+/// Appends that a process begins the label, or sets it on its token.
 fn put_begins_label(buffer: &mut Buffer, label: Label)
     requires { HasRoom begins_label_room buffer.old }
     ensures { Puts begins_label_room (begins_label_words label) buffer.old buffer.new }
@@ -95,7 +95,7 @@ fn put_begins_label(buffer: &mut Buffer, label: Label)
     put_bytes(buffer, b" here, or set it on its token; ");
 }
 
-/// Appends the receive before, which has another label.
+/// Appends the last receive before, which has another label.
 fn put_had_received(
     buffer: &mut Buffer,
     numbers: &LineNumbers,
@@ -113,7 +113,7 @@ fn put_had_received(
     put_number(buffer, u64::from(received.0));
 }
 
-/// Appends since which event of this process: the last one of this number of its events.
+/// Appends the last of a process's first `count` events, if there is one.
 fn put_since(buffer: &mut Buffer, numbers: &LineNumbers, pid: Pid, count: u64)
     requires { HasRoom since_room buffer.old }
     ensures { Puts since_room (since_words numbers.now pid count) buffer.old buffer.new }
@@ -126,7 +126,7 @@ fn put_since(buffer: &mut Buffer, numbers: &LineNumbers, pid: Pid, count: u64)
     put_bytes(buffer, b", ");
 }
 
-/// Appends what an event of this process with this label follows.
+/// Appends what an event with the label follows.
 pub(crate) fn put_claim(
     buffer: &mut Buffer,
     numbers: &LineNumbers,
@@ -162,7 +162,7 @@ pub(crate) fn put_claim(
     }
 }
 
-/// Appends the premises that a sentence rests on.
+/// Appends the numbers of the premises that a sentence rests on.
 pub(crate) fn put_premises(buffer: &mut Buffer, premises: NodePremises)
     requires { HasRoom premise_room buffer.old }
     ensures { Puts premise_room (premise_words premises) buffer.old buffer.new }

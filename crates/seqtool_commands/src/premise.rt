@@ -1,4 +1,4 @@
-//! The premises of the sentences of `why`, each of which has a number.
+//! The premises of the sentences of `why`, by their numbers.
 
 ghost use Rattle.std.specs.Prelude.{◌≡◌};
 ghost use Rattle.seqtool_commands.specs.WhyWords.{is_part_of};
@@ -8,18 +8,18 @@ use node_hops::NodePremises;
 /// A premise of a sentence.
 #[derive(Clone, Copy, Debug)]
 pub(crate) enum Premise {
-    /// (1): its process reported each receive of a token.
+    /// (1): the process reported each receive of a token.
     ReportsTakes,
-    /// (2): its process put no token back, and ended no spawn.
+    /// (2): the process put no token back, and ended no spawn.
     KeepsCounters,
-    /// (3): its process made no token, and set no label.
+    /// (3): the process made no token, and set no label.
     BeginsNothing,
-    /// (4): each message like it was sent with a report.
+    /// (4): each send of an alike message was reported.
     ReportsLike,
 }
 
 impl Premise {
-    /// Whether the premise is one of these.
+    /// Returns whether the premise is among those of a hop.
     pub(crate) fn is_part_of(self, premises: NodePremises) -> bool
         ensures { result ≡ is_part_of self premises }
     {

@@ -1,4 +1,4 @@
-//! The last lines of `why`: what the sentences before them rest on.
+//! Writes the last lines of `why`: the runs in which the sentences hold, and their premises.
 
 ghost use Rattle.std.specs.Prelude.{◌≡◌};
 ghost use Rattle.std.specs.List.{flat_map, list_any};
@@ -33,7 +33,7 @@ fn is_used(trace: &NumberedHops<'_>, premise: Premise, nodes: &[Node]) -> bool
     false
 }
 
-/// Writes the line of a premise, if one of these hops rests on it.
+/// Writes the line of a premise, if a hop rests on it.
 fn write_premise<W: ByteSink>(
     writer: &mut W,
     buffer: &mut Buffer,
@@ -51,7 +51,7 @@ fn write_premise<W: ByteSink>(
     }
 }
 
-/// Writes the lines of those premises on which one of these hops rests.
+/// Writes the lines of the premises on which a hop rests.
 fn write_premises<W: ByteSink>(
     writer: &mut W,
     buffer: &mut Buffer,
@@ -69,7 +69,7 @@ fn write_premises<W: ByteSink>(
     Ok(())
 }
 
-/// Writes the lines that follow those of these events.
+/// Writes the line about all runs, and those of the premises.
 pub(crate) fn write_last_lines<W: ByteSink>(
     writer: &mut W,
     buffer: &mut Buffer,

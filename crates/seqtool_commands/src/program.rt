@@ -1,4 +1,4 @@
-//! A run of the program: a command on a reader and a writer.
+//! Runs a command on a reader and a writer.
 
 ghost use Rattle.st_commands.specs.Command.{Delivers, call};
 ghost use Rattle.seqtool_commands.specs.Command.{Does, tool_usage, tool_version};
@@ -14,7 +14,7 @@ use st_core::{ByteSink, ByteSource};
 use st_text::Limits;
 use std::thread::Threads;
 
-/// Does what the task asks for within the greater limits, and returns the exit status.
+/// Does a task within the greater limits, and returns the exit status.
 pub fn run<H: AllocGlobal + Threads + Sync, R: ByteSource, W: ByteSink>(
     rt: &H,
     task: ToolTask,
@@ -34,7 +34,7 @@ pub fn run<H: AllocGlobal + Threads + Sync, R: ByteSource, W: ByteSink>(
     }
 }
 
-/// Writes how the program is called, with status 3.
+/// Writes the usage of the program, with status 3.
 pub fn tell_usage<W: ByteSink>(writer: &mut W) -> u8
     ensures { Delivers (call W.ByteSink writer.old writer.new) tool_usage result }
 {

@@ -1,24 +1,24 @@
-//! The question of `why`: about which event, which way to go from it, and how far.
+//! The question of `why`: an event, a direction from it, and a reach.
 
 use node_hops::Reach;
 use st_core::Pid;
 
-/// Which way to go from the event.
+/// The direction from the event.
 #[derive(Clone, Copy)]
 pub enum Direction {
-    /// To what it follows, and so on.
+    /// To the event that it follows, and so on.
     Back,
-    /// To all that follows it.
+    /// To all events that follow it.
     Forth,
 }
 
-/// The question to `why`.
+/// The question that `why` answers.
 #[derive(Clone, Copy)]
 pub struct Question {
     /// The process of the event, and its index there, counted from 0.
     pub place: (Pid, u64),
-    /// Which way to go from it.
+    /// The direction from the event.
     pub direction: Direction,
-    /// How far.
+    /// How far to go.
     pub reach: Reach,
 }

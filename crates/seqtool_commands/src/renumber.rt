@@ -1,5 +1,5 @@
-//! The command `renumber`: the streams whose text the input is, with each count replaced by its
-//! rank. The acts in the input are ignored.
+//! The command `renumber`: writes the input's streams with each count replaced by its rank. It
+//! ignores the acts in the input.
 
 ghost use Rattle.std.specs.Prelude.{◌≡◌};
 ghost use Rattle.st_text.specs.Limits.{greater};
@@ -16,7 +16,6 @@ use st_core::{ByteSink, ByteSource, Streams};
 use st_text::{Limits, ReadFault, read_within};
 use std::alloc::Global;
 
-/// Writes the renumbered streams.
 fn renumber_streams<W: ByteSink>(alloc: Global, streams: &Streams, writer: &mut W) -> u8
     ensures { Tells (call W.ByteSink writer.old writer.new) (RenumbersTo streams.now) result }
 {
@@ -27,9 +26,9 @@ fn renumber_streams<W: ByteSink>(alloc: Global, streams: &Streams, writer: &mut 
 }
 
 /// Reads a bundle and writes its streams with each count replaced by its rank, with status 0. If
-/// these have a run without a reset at a TOP that fits, so have the given ones
-/// (`shown_if_renumbered_is` of `lack_laws`). Faulty input is 2; running out of memory, and a
-/// reader or a writer that fails, are 4.
+/// the renumbered streams have a run without a reset at a TOP that fits, so have the given ones
+/// (`shown_if_renumbered_is` of `lack_laws`). Returns 2 for faulty input, and 4 if memory runs
+/// out, or the reader or the writer fails.
 pub fn run_renumber<R: ByteSource, W: ByteSink>(alloc: Global, reader: &mut R, writer: &mut W) -> u8
     ensures told { Tells (call W.ByteSink writer.old writer.new)
         (Owes greater (call R.ByteSource reader.old reader.new) IsRenumbered) result }

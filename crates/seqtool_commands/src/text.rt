@@ -1,4 +1,4 @@
-//! The line of an event for people: where it is, what it is and what it follows.
+//! Writes the line of an event: its place, its kind, serial and value, and what it follows.
 
 ghost use Rattle.std.specs.Prelude.{◌≡◌, ◌++◌, Some};
 ghost use Rattle.st_text.specs.Room.{line_room, HasRoom};
@@ -15,7 +15,7 @@ use node_hops::{Node, NodeHop};
 use st_core::{ByteSink, Event, Label, Pid};
 use st_text::{Buffer, Device, make_room, put_bytes};
 
-/// Appends how far an event is, where it is and what it is.
+/// Appends an event's depth, its place, and its kind, serial and value.
 fn put_head(
     buffer: &mut Buffer,
     numbers: &LineNumbers,
@@ -35,7 +35,7 @@ fn put_head(
     put_bytes(buffer, b" ");
 }
 
-/// Appends what an event of this process with this label follows, with its premises, and a newline.
+/// Appends what an event with the label follows, with its premises, and a newline.
 fn put_sentence(buffer: &mut Buffer, numbers: &LineNumbers, pid: Pid, label: Label, hop: NodeHop)
     requires { HasRoom line_room buffer.old }
     ensures { buffer.new.items ≡ buffer.old.items
@@ -46,8 +46,8 @@ fn put_sentence(buffer: &mut Buffer, numbers: &LineNumbers, pid: Pid, label: Lab
     put_bytes(buffer, b"\n");
 }
 
-/// Writes the line of the event at a node, in two parts: together they may take more than a line's
-/// room.
+/// Writes the line of the event at a node, in two parts, which together may take more than a
+/// line's room.
 pub(crate) fn write_text<W: ByteSink>(
     writer: &mut W,
     buffer: &mut Buffer,

@@ -1,4 +1,4 @@
-//! Streams with what an answer is made from: the hops between their events and the lines of these.
+//! Streams with the hops between their events and the lines of these.
 
 ghost use Rattle.std.specs.Prelude.{◌≡◌, IfOk, Some};
 ghost use Rattle.std.specs.List.{slice_get};
@@ -12,7 +12,7 @@ use st_core::{Event, Pid, Streams};
 use std::alloc::{AllocError, Global};
 use std::marker::Model;
 
-/// Streams whose hops and lines were found. A contract sees it as the streams.
+/// Streams with their hops and lines. A contract sees it as the streams.
 #[derive(Drop)]
 pub(crate) struct NumberedHops<'a> {
     hops: NodeHops<'a>,
@@ -31,7 +31,7 @@ impl<'a> Model for NumberedHops<'a> {
 }
 
 impl<'a> NumberedHops<'a> {
-    /// The hops and lines of streams. Fails only if memory runs out.
+    /// Finds the hops and lines of streams. Fails only if memory runs out.
     pub(crate) fn new(alloc: Global, streams: &'a Streams) -> Result<Self, AllocError>
         ensures { IfOk result (λ trace. trace ≡ streams.now) }
     {
@@ -58,7 +58,6 @@ impl<'a> NumberedHops<'a> {
         self.hops.event(pid, index)
     }
 
-    /// The hop back from this event, which is the one at this place.
     pub(crate) fn hop(&self, pid: Pid, index: u64, event: &Event) -> NodeHop
         requires { slice_get (events_of self.now pid) index ≡ Some event.now }
         ensures { result ≡ node_hop_of self.now pid index event.now }

@@ -1,5 +1,5 @@
-//! The command `why`: what caused an event of the streams whose text the input is, or what it
-//! caused. The acts in the input are ignored.
+//! The command `why`: writes what caused an event of the input's streams, or what it caused. It
+//! ignores the acts in the input.
 
 ghost use Rattle.std.specs.Prelude.{◌≡◌, IfOk, IsSome, false, true};
 ghost use Rattle.node_streams.specs.Order.{HaveOrder};
@@ -22,7 +22,8 @@ use st_core::{ByteSink, ByteSource, Streams};
 use st_text::{Limits, ReadFault, read_within};
 use std::alloc::{AllocError, Global};
 
-/// Whether an order of the events has each receive after its send. Fails only if memory runs out.
+/// Returns whether the events have an order in which each receive comes after its send. Fails only
+/// if memory runs out.
 fn has_order(alloc: Global, streams: &Streams) -> Result<bool, AllocError>
     ensures yes { IfOk result (λ b. b ≡ true → HaveOrder streams.now) }
     ensures no { IfOk result (λ b. b ≡ false → ¬ (HaveOrder streams.now)) }
@@ -31,7 +32,7 @@ fn has_order(alloc: Global, streams: &Streams) -> Result<bool, AllocError>
     Ok(judgement.cycle.is_empty())
 }
 
-/// Writes what is found from an event that is there.
+/// Writes the answer about an event that is there.
 fn tell_found<W: ByteSink>(
     alloc: Global,
     trace: &NumberedHops<'_>,
@@ -52,7 +53,7 @@ fn tell_found<W: ByteSink>(
     }
 }
 
-/// Finds the hops, and writes what is found from an event that is there.
+/// Finds the hops, and writes the answer about an event that is there.
 fn answer_ordered<W: ByteSink>(
     alloc: Global,
     streams: &Streams,
@@ -70,7 +71,7 @@ fn answer_ordered<W: ByteSink>(
     }
 }
 
-/// Writes what is found from an event that is there, or that hops can go in a circle.
+/// Writes the answer about an event that is there, or that the events have no order.
 fn answer_there<W: ByteSink>(
     alloc: Global,
     streams: &Streams,
@@ -88,7 +89,7 @@ fn answer_there<W: ByteSink>(
     }
 }
 
-/// Writes what is found in streams, if the event is there.
+/// Writes the answer about an event, or that it isn't there.
 fn answer_streams<W: ByteSink>(
     alloc: Global,
     streams: &Streams,

@@ -1,5 +1,5 @@
-//! The answer of `why` for an event that is there: a line for each event that is found from it, and
-//! what these rest on.
+//! Writes the answer of `why` about an event that is there: a line for each event of the way or
+//! the tree, and the last lines.
 
 ghost use Rattle.std.specs.Prelude.{◌≡◌, IfOk};
 ghost use Rattle.std.specs.List.{flat_map};
@@ -15,7 +15,7 @@ use st_core::ByteSink;
 use st_text::{Buffer, Device, flush};
 use std::alloc::{AllocError, Global};
 
-/// The events that are found from the one that is asked about. Fails only if memory runs out.
+/// Returns the events of the way or the tree. Fails only if memory runs out.
 pub(crate) fn nodes_from(
     alloc: Global,
     trace: &NumberedHops<'_>,
@@ -63,7 +63,7 @@ fn write_nodes<W: ByteSink>(
     Ok(())
 }
 
-/// Writes the lines of these nodes and the last lines.
+/// Writes the lines of the nodes and the last lines.
 fn write_answer<W: ByteSink>(
     writer: &mut W,
     buffer: &mut Buffer,

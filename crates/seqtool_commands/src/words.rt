@@ -1,5 +1,5 @@
-//! The command line: which task the words ask for, and of which file. Nothing here reads the input,
-//! writes or takes memory.
+//! Reads the command line: the task that the words ask for, and its file. Nothing here reads the
+//! input, writes or takes memory.
 
 ghost use Rattle.std.specs.Prelude.{◌≡◌, map, option_map};
 ghost use Rattle.seqtool_commands.specs.Words.{begins_with_minus, check_asked, direction_asked};
@@ -13,24 +13,23 @@ use node_hops::Reach;
 use st_text::{read_number, read_pid};
 use std::convert::AsStr;
 
-/// A command of the program.
+/// A task of the program.
 #[derive(Clone, Copy)]
 pub enum ToolTask {
     /// `check`: is the input's certificate a run that shows its streams?
     Check,
-    /// `check --node`: is it one of a standard node?
+    /// `check --node`: is it a run of a standard node?
     CheckNode,
     /// `audit`: is there a certificate for the input's streams?
     Audit,
     /// `complete`: what do the input's streams lack?
     Complete(Form),
-    /// `renumber`: the input's streams with small counts.
+    /// `renumber`: what are the input's streams with small counts?
     Renumber,
     /// `why`: what does an event follow, or what follows it?
     Why(Question),
 }
 
-/// The words after this one, if they begin with it.
 fn words_behind<'a, S: AsStr>(word: &str, words: &'a [S]) -> Option<&'a [S]>
     ensures { option_map (λ rest. map S.text rest.now) result
         ≡ words_behind word.now (map S.text words.now) }
@@ -56,7 +55,7 @@ fn form_named(name: &str) -> Option<Form>
     None
 }
 
-/// The form that words after `--as` begin with, and the words after it.
+/// Returns the form that the words after `--as` begin with, and the words after it.
 fn named_form<S: AsStr>(words: &[S]) -> Option<(Form, &[S])>
     ensures { option_map (λ x. (x.0, map S.text x.1.now)) result
         ≡ named_form (map S.text words.now) }
@@ -70,7 +69,7 @@ fn named_form<S: AsStr>(words: &[S]) -> Option<(Form, &[S])>
     }
 }
 
-/// The form that words begin with, and the words after it.
+/// Returns the form that words begin with, and the words after it.
 fn form_asked<S: AsStr>(words: &[S]) -> Option<(Form, &[S])>
     ensures { option_map (λ x. (x.0, map S.text x.1.now)) result
         ≡ form_asked (map S.text words.now) }
@@ -81,7 +80,7 @@ fn form_asked<S: AsStr>(words: &[S]) -> Option<(Form, &[S])>
     }
 }
 
-/// The task of `check` that words begin with, and the words after it.
+/// Returns the task of `check` that words begin with, and the words after it.
 fn check_asked<S: AsStr>(words: &[S]) -> (ToolTask, &[S])
     ensures { (result.0, map S.text result.1.now) ≡ check_asked (map S.text words.now) }
 {
@@ -100,7 +99,7 @@ fn direction_asked<S: AsStr>(words: &[S]) -> (Direction, &[S])
     }
 }
 
-/// The question that words begin with, and the words after it.
+/// Returns the question that words begin with, and the words after it.
 fn question_asked<S: AsStr>(words: &[S]) -> Option<(Question, &[S])>
     ensures { option_map (λ x. (x.0, map S.text x.1.now)) result
         ≡ question_asked (map S.text words.now) }
@@ -121,7 +120,8 @@ fn question_asked<S: AsStr>(words: &[S]) -> Option<(Question, &[S])>
     }
 }
 
-/// The task of the command of this name, by the words after it, and the words that are left.
+/// Returns the task of the command with the name, by the words after it, and the words that are
+/// left.
 fn task_named<'a, S: AsStr>(name: &str, words: &'a [S]) -> Option<(ToolTask, &'a [S])>
     ensures { option_map (λ x. (x.0, map S.text x.1.now)) result
         ≡ task_named name.now (map S.text words.now) }
@@ -155,7 +155,7 @@ fn begins_with_minus(word: &str) -> bool
     }
 }
 
-/// The file that this word names; none of standard input.
+/// Returns the file that a word names, `Some(None)` for standard input.
 fn file_named<'a>(word: &'a str) -> Option<Option<&'a str>>
     ensures { option_map (λ file. option_map (λ path. path.now) file) result ≡ file_named word.now }
 {
@@ -168,7 +168,7 @@ fn file_named<'a>(word: &'a str) -> Option<Option<&'a str>>
     Some(Some(word))
 }
 
-/// The file that is the only word left; none of standard input.
+/// Returns the file that is the only word left, `Some(None)` for standard input.
 fn file_asked<'a, S: AsStr>(words: &'a [S]) -> Option<Option<&'a str>>
     ensures { option_map (λ file. option_map (λ path. path.now) file) result
         ≡ file_asked (map S.text words.now) }
@@ -180,8 +180,8 @@ fn file_asked<'a, S: AsStr>(words: &'a [S]) -> Option<Option<&'a str>>
     }
 }
 
-/// The task that the words ask for, and the path of the file, if it isn't of standard input. The
-/// first word is the program's name. None, if they ask for no task.
+/// Returns the task that the words ask for, and the path of its file unless it is standard input,
+/// or none if they ask for no task. The first word is the program's name.
 pub fn read_words<'a, S: AsStr>(words: &'a [S]) -> Option<(ToolTask, Option<&'a str>)>
     ensures { option_map (λ x. (x.0, option_map (λ path. path.now) x.1)) result
         ≡ request_asked (map S.text words.now) }
@@ -196,7 +196,7 @@ pub fn read_words<'a, S: AsStr>(words: &'a [S]) -> Option<(ToolTask, Option<&'a 
     }
 }
 
-/// Whether the words ask for the version.
+/// Returns whether the words ask for the version.
 pub fn asks_version<S: AsStr>(words: &[S]) -> bool
     ensures { result ≡ version_asked (map S.text words.now) }
 {

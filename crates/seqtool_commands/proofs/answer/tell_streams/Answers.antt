@@ -1,4 +1,4 @@
--- The text was written whole and the status is 0, or the writer failed and it is 4.
+-- The text is written whole and the status is 0, or the writer fails and it is 4.
 use Rattle.st_commands.specs.Command.{call}
 use Rattle.st_commands.proofs.ForCallers.{delivers}
 use Rattle.seqtool_commands.specs.Renumber.{streams_output}

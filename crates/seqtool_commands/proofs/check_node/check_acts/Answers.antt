@@ -1,4 +1,4 @@
--- The verdict has a line, and so has running out of memory.
+-- Each verdict has a line, and so has running out of memory.
 use Rattle.st_commands.specs.Output.{no_memory}
 use Rattle.seqtool_commands.specs.NodeCheck.{Judges, node_judged, NoRoom}
 use Rattle.seqtool_commands.proofs.check_node.check_acts.Goals as goal

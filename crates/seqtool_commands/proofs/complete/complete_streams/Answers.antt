@@ -1,4 +1,5 @@
--- Running out of memory has a line of its own, and so has a completion that wasn't found.
+-- An answer is written, and running out of memory has a line of its own, and so has a completion
+-- that isn't found.
 use Rattle.std.proofs.Common.{◌≡◌, List, subst}
 use Rattle.st_core.specs.Run.{Stream}
 use Rattle.st_commands.specs.Checked.{top}
@@ -9,7 +10,7 @@ use Rattle.seqtool_commands.specs.Complete.{uncompleted}
 use Rattle.seqtool_commands.specs.Parts.{FindsNone, NoRoomToComplete}
 use Rattle.seqtool_commands.proofs.complete.complete_streams.Goals as goal
 
--- what is known of a fault, if it is this one
+-- the facts about a fault are those about an equal one
 fault_is : (streams : List Stream) {f f2 : CompleteFault} → IsFaultOf top streams f → f ≡ f2
     → IsFaultOf top streams f2
 fault_is streams known is = subst (IsFaultOf top streams) is known

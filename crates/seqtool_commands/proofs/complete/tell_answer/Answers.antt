@@ -1,4 +1,4 @@
--- A completion has its form, and a reason is written with the event.
+-- A completion is written in its form, and a reason with its event.
 use Rattle.lack_decide.specs.declared.answer.Answer.TheVariants as answer
 use Rattle.st_commands.specs.Command.{call}
 use Rattle.st_commands.proofs.ForCallers.{delivers}

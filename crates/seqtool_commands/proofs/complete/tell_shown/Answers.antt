@@ -15,7 +15,7 @@ use Rattle.seqtool_commands.specs.Complete.{uncertified}
 use Rattle.seqtool_commands.specs.Parts.{Finds, NoRoomToComplete}
 use Rattle.seqtool_commands.proofs.complete.tell_shown.Goals as goal
 
--- what is known of a fault, if it is this one
+-- the facts about a fault are those about an equal one
 fault_is : (wholes : List Whole) (most : ℕ) {f f2 : CertificateFault}
     → IsCertificateFault wholes most f → f ≡ f2 → IsCertificateFault wholes most f2
 fault_is wholes most known is = subst (IsCertificateFault wholes most) is known

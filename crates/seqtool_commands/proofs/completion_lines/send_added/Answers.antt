@@ -1,4 +1,4 @@
--- All that waits in the buffer is flushed, and the parts are the text.
+-- The flush writes all that waits in the buffer, and the parts are the text.
 use Rattle.seqtool_commands.specs.Complete.{added_text}
 use Rattle.seqtool_commands.specs.Lines.{added_parts}
 use Rattle.seqtool_commands.proofs.Completions.{added_same, added_some, fails_as, finishes_as}

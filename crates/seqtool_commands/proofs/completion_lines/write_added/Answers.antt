@@ -1,4 +1,4 @@
--- Three texts go one after the other.
+-- The three texts go one after the other.
 use Rattle.std.proofs.Common.{◌++◌}
 use Rattle.std.specs.List.{flat_map}
 use Rattle.st_core.specs.Run.{pids_of}

@@ -1,4 +1,4 @@
--- Three reasons rest on the event alone, so there is nothing to add.
+-- Three reasons name no other event, so they add nothing.
 use Rattle.std.proofs.Common.{ap}
 use Rattle.st_text.proofs.ForCallers.{goes_still}
 use Rattle.seqtool_commands.specs.Lines.{other_line}

@@ -1,4 +1,4 @@
--- Each process adds the line of its first event after those of the processes before it.
+-- Each process adds its first line after those of the processes before it.
 use Rattle.seqtool_commands.proofs.LineFirsts.{all_so_far, so_far_more}
 use Rattle.seqtool_commands.proofs.line_numbers.all_firsts.Goals as goal
 

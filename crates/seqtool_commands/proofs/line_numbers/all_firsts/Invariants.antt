@@ -1,4 +1,5 @@
--- The firsts so far with those that are left come to all, and so does the last line.
+-- The first lines so far and those that are left are all, and the last line is that of the first
+-- act.
 use Rattle.seqtool_commands.proofs.LineFirsts.{AreSoFar}
 use Rattle.seqtool_commands.proofs.line_numbers.all_firsts.Given as goal
 

@@ -1,4 +1,4 @@
--- So far none rests on it.
+-- No hop so far rests on the premise.
 use Rattle.std.proofs.Common.{◌≡◌, false, take}
 use Rattle.std.specs.List.{list_any}
 use Rattle.seqtool_commands.specs.Why.{rests_on}

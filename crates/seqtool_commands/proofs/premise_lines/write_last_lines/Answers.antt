@@ -1,4 +1,4 @@
--- What all lines rest on goes first, and then the premises.
+-- The line about all runs goes first, and then the premises.
 use Rattle.std.specs.List.{flat_map}
 use Rattle.st_text.specs.Spelling.{ended_line}
 use Rattle.st_text.proofs.ForCallers.{then_on, on_err, part_longer}

@@ -1,4 +1,4 @@
--- The reader tells which bytes it gave, and what was delivered is what they owe.
+-- The reader returns the bytes that it read, and the output is one that they owe.
 use Rattle.st_text.specs.Limits.{greater}
 use Rattle.st_commands.specs.Command.{call}
 use Rattle.st_commands.proofs.ForCallers.{says, tells_as, tells_fault, was_read}

@@ -1,4 +1,4 @@
--- There is no such event.
+-- An event that isn't there has a line of its own.
 use Rattle.std.proofs.Common.{sym, ◌∙◌}
 use Rattle.seqtool_commands.specs.Why.{no_event}
 use Rattle.seqtool_commands.specs.WhyParts.{OfNoEvent}

@@ -1,4 +1,4 @@
--- That there is no order has a line, and so has running out of memory.
+-- Events without an order have a line of their own, and so has running out of memory.
 use Rattle.st_commands.specs.Output.{no_memory}
 use Rattle.seqtool_commands.specs.Why.{no_order}
 use Rattle.seqtool_commands.specs.WhyParts.{NoRoom, OfNoOrder}

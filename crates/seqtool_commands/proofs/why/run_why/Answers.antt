@@ -1,5 +1,5 @@
--- The reader tells which bytes it gave, what was delivered is what they owe, and its status says
--- what it is.
+-- The reader returns the bytes that it read, the output is one that they owe, and its status says
+-- which kind it is.
 use Rattle.st_text.specs.Limits.{greater}
 use Rattle.st_commands.specs.Command.{call}
 use Rattle.st_commands.proofs.ForCallers.{says, tells_as, tells_fault, was_read}

@@ -1,4 +1,4 @@
--- The lines are those of what is found; running out of memory has a line of its own.
+-- The nodes are written as lines; running out of memory has a line of its own.
 use Rattle.st_commands.specs.Output.{no_memory}
 use Rattle.st_commands.specs.Command.{call}
 use Rattle.st_commands.proofs.ForCallers.{delivers}

@@ -1,4 +1,4 @@
--- All that waits in the buffer is flushed.
+-- The flush writes all that waits in the buffer.
 use Rattle.st_text.proofs.ForCallers.{finishes}
 use Rattle.seqtool_commands.specs.Why.{answer_lines}
 use Rattle.seqtool_commands.proofs.WhyAnswers.{answer_some}

@@ -1,4 +1,4 @@
--- If there is no event there is no line.
+-- A node without an event has no line.
 use Rattle.std.proofs.Common.{◌∙◌, sym, Some, None}
 use Rattle.st_text.proofs.ForCallers.{goes_still}
 use Rattle.seqtool_commands.proofs.WhyAnswers.{line_of}

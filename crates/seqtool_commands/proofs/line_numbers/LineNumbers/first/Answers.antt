@@ -1,4 +1,4 @@
--- The line of a process's first event is kept at its place.
+-- A process's first line is at its place.
 use Rattle.std.proofs.Common.{◌∙◌, ap, sym, Some, arith}
 use Rattle.seqtool_commands.proofs.LineFirsts.{first_fits, first_kept, first_missing, kept_long}
 use Rattle.seqtool_commands.proofs.line_numbers.LineNumbers.first.Goals as goal

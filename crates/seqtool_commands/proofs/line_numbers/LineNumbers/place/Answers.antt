@@ -1,4 +1,4 @@
--- If no process has an event on the line, nobody does.
+-- If no listed process has an event on the line, no process has.
 use Rattle.seqtool_commands.proofs.LineFirsts.{none_at_all}
 use Rattle.seqtool_commands.proofs.line_numbers.LineNumbers.place.Goals as goal
 
