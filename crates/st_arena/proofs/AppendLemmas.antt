@@ -1,4 +1,4 @@
--- A push: the new node joins the chain of its list, and all other lists stay.
+-- A push adds the new node after the last node of its list, and writes no node of another list.
 use Rattle.std.proofs.Common.{◌≡◌, ◌≢◌, ℕ, zero, suc, ◌+◌, ◌<◌, ◌≤◌, cond, ltb, List, [], ◌∷◌, ◌++◌}
 use Rattle.std.proofs.Common.{length, get_or, map, set, Option, refl, sym, ap, ◌∙◌, inl, inr, arith}
 use Rattle.std.proofs.Common.{Some, unwrap_or}
@@ -17,7 +17,7 @@ module _ {T : Type 0} (old new : ℕ → Option (Node T)) (ends : Ends) (key : �
     (after : Ends) (value : T) (change : Appends old new ends after value) (row : ℕ → ℕ)
     (below : (place : ℕ) → place < ends.len → row place ≡ key place)
     (at_end : row ends.len ≡ change.key) where
-  -- the nodes before the new one hold what they held
+  -- the nodes before the new one have the same values as before
   append_same : (place : ℕ) → place < ends.len
       → value_in (new (row place)) ≡ value_in (old (key place))
   append_same place within =
@@ -29,7 +29,7 @@ module _ {T : Type 0} (old new : ℕ → Option (Node T)) (ends : Ends) (key : �
   append_holds : (place : ℕ) → place ≡ ends.len → value_in (new (row place)) ≡ Some value
   append_holds place is = rw (is, at_end) change.holds
 
-  -- no node before it is under the new key
+  -- no node before the new one is under its key
   append_differs : (place other : ℕ) → place < ends.len → other ≡ ends.len → row place ≢ row other
   append_differs place other within is same =
       vacant_apart old new ends key chain change.key place change.was_vacant within
@@ -106,7 +106,7 @@ module _ {T : Type 0} (old new : ℕ → Option (Node T)) (ends : Ends) (key : �
             ];
       }
     where
-      -- a node with one after it is not the last
+      -- a node that has one after it isn't the last
       not_last : (place : ℕ) → suc place < ends.len → key place ≢ ends.last
       not_last place before same = apart_from_last (ends.len) place refl before same
         where
@@ -118,7 +118,7 @@ module _ {T : Type 0} (old new : ℕ → Option (Node T)) (ends : Ends) (key : �
               chain.apart place last (omega arith) (omega arith) (same ∙ chain.last last is) in
               absurd (omega arith)
 
-  -- and its value the list
+  -- the list's values are the old ones and the new node's
   pub append_items : values_of new after ≡ values_of old ends ++ value ∷ []
   append_items =
       same_lists (values_of new after) (values_of old ends ++ value ∷ [])
@@ -146,16 +146,16 @@ module _ {T : Type 0} (old new : ℕ → Option (Node T)) (ends : Ends) (key : �
             (omega (arith, change.len, length-values_of old ends key chain)))
       ]))
 
--- ---- among all lists: the new key holds nothing of any list, and the last node is this list's
+-- ---- among all lists: no list had a node under the new key, and the last node is this list's
 module _ {T : Type 0} (old new : ℕ → Option (Node T)) (ends : List Ends) (count capacity : ℕ)
     (sound : AreChains old ends count capacity) (list : ℕ) (in_range : list < length ends)
     (after : Ends) (value : T)
     (change : Appends old new (ends_at ends list) after value) where
-  -- the keys of the list from then on: those that it had, then the new one
+  -- the keys of the list after the push: the old ones, then the new one
   pub append_row : ℕ → ℕ
   append_row place = cond (ltb place (len_of (ends_at ends list))) (sound.key list place) change.key
 
-  -- below the old length they are those that the list had
+  -- below the old length they are the old keys
   pub append_row-below : (place : ℕ) → place < len_of (ends_at ends list)
       → append_row place ≡ sound.key list place
   unfolding append_row
@@ -171,7 +171,7 @@ module _ {T : Type 0} (old new : ℕ → Option (Node T)) (ends : List Ends) (co
       (sound.key list (len_of (ends_at ends list))) change.key
       (le-ltb (len_of (ends_at ends list)) (len_of (ends_at ends list)) (omega arith))
 
-  -- no node of another list is the last of this one
+  -- no node of another list is the last node of this list
   not_last : (other place : ℕ) → other ≢ list → place < len_of (ends_at ends other)
       → 0 < len_of (ends_at ends list)
       → sound.key other place ≢ (ends_at ends list).last
@@ -204,7 +204,7 @@ module _ {T : Type 0} (old new : ℕ → Option (Node T)) (ends : List Ends) (co
       change append_row
       append_row-below append_row-end
 
-  -- all is sound after a push, with one node more
+  -- after a push the arena is sound, with one more node
   pub append_sound : (new_count new_capacity : ℕ) → new_count ≡ count + 1 → new_count ≤ new_capacity
       → AreChains new (set ends list after) new_count new_capacity
   append_sound new_count new_capacity more within =
@@ -226,7 +226,7 @@ module _ {T : Type 0} (old new : ℕ → Option (Node T)) (ends : List Ends) (co
       (omega (arith, change.len))
       within
 
-  -- and of all lists only that one changed: the value is at its end
+  -- only the list of the push changed: the value is at its end
   pub append_lists : map (values_of new) (set ends list after)
       ≡ set (map (values_of old) ends) list
       (get_or (map (values_of old) ends) list [] ++ value ∷ [])

@@ -1,5 +1,5 @@
--- If one list changes, all others stay, since no two lists share a node: each fact on all lists is
--- one on the list that changed, and one on slots that did not.
+-- If one list changes, all others stay, since no two lists share a node. So a fact about all lists
+-- follows from one about the changed list and one about slots that did not change.
 use Rattle.std.proofs.Common.{◌≡◌, ◌≢◌, ℕ, zero, suc, ◌+◌, ◌<◌, ◌≤◌, cond, eqb, List, [], ◌∷◌}
 use Rattle.std.proofs.Common.{length, get_or}
 use Rattle.std.proofs.Common.{map, set, Option, sum_by, refl, sym, ap, ◌∙◌, inl, inr, arith}
@@ -13,7 +13,7 @@ use Rattle.st_arena.specs.declared.node.Ends.{Ends}
 use Rattle.st_arena.specs.Chain.{len_of, no_ends, ends_at, values_of, IsChain, AreChains}
 use Rattle.st_arena.proofs.ChainLemmas.{SameAt, chain_stays, items_stay}
 
--- two functions that agree at each element map a list alike
+-- two functions that agree on each element of a list map it alike
 map_same : {A B : Type 0} (f g : A → B) (xs : List A) (default : A)
     → ((i : ℕ) → i < length xs → g (get_or xs i default) ≡ f (get_or xs i default))
     → map g xs ≡ map f xs
@@ -24,7 +24,7 @@ map_same f g (x ∷ xs) default same =
     map_same f g xs default (λ i within. same (suc i) (omega arith)) in
     cc
 
--- a map after a write, by a function that differs from the old one at the written element alone
+-- if two functions agree except at a written element, the lists mapped by them differ only there
 pub map-set_one : {A B : Type 0} (f g : A → B) (xs : List A) (at : ℕ) (x default : A) (y : B)
     → ((i : ℕ) → i ≢ at → i < length xs → g (get_or xs i default) ≡ f (get_or xs i default))
     → g x ≡ y
@@ -41,16 +41,16 @@ map-set_one f g (z ∷ zs) (suc at) x default y same here =
     (λ i differs within. same (suc i) (λ e. differs (omega (arith, e))) (omega arith)) here in
     cc
 
--- the keys of all lists, with those of one list replaced
+-- the keys of all lists, with `row` as the keys of one list
 with_row : (ℕ → ℕ → ℕ) → ℕ → (ℕ → ℕ) → ℕ → ℕ → ℕ
 with_row key list row other = cond (eqb other list) row (key other)
 
--- at that list they are the new ones
+-- for that list they are `row`
 with_row-same : (key : ℕ → ℕ → ℕ) (list : ℕ) (row : ℕ → ℕ) → with_row key list row list ≡ row
 unfolding with_row
 with_row-same key list row = cond-true (eqb list list) row (key list) (eq-eqb list list refl)
 
--- at any other list they are those that were
+-- for any other list they are the old keys
 with_row-other : (key : ℕ → ℕ → ℕ) (list : ℕ) (row : ℕ → ℕ) (other : ℕ) → other ≢ list
     → with_row key list row other ≡ key other
 unfolding with_row
@@ -60,8 +60,8 @@ with_row-other key list row other differs =
 module _ {T : Type 0} (old new : ℕ → Option (Node T)) (ends : List Ends) (count capacity : ℕ)
     (sound : AreChains old ends count capacity) (list : ℕ) (in_range : list < length ends)
     (after : Ends) where
-  -- where one list's chain becomes another, and the nodes of all other lists stay, all is sound
-  -- still
+  -- if one list's chain becomes another, and the nodes of all other lists stay, the arena stays
+  -- sound
   pub sound_with : (row : ℕ → ℕ) (new_count new_capacity : ℕ) → IsChain new after row
       → ((other place : ℕ) → other ≢ list → place < len_of (ends_at ends other)
       → SameAt old new (sound.key other place))
@@ -132,7 +132,7 @@ module _ {T : Type 0} (old new : ℕ → Option (Node T)) (ends : List Ends) (co
       there : (other : ℕ) → other ≢ list → ends_at (set ends list after) other ≡ ends_at ends other
       there other differs = get_or-set_other ends list other after no_ends differs
 
-  -- and of all lists only that one changes
+  -- only that list's values change
   pub lists_with : (items : List T)
       → ((other place : ℕ) → other ≢ list → place < len_of (ends_at ends other)
       → SameAt old new (sound.key other place))
@@ -150,7 +150,7 @@ module _ {T : Type 0} (old new : ℕ → Option (Node T)) (ends : List Ends) (co
       (λ place here. (same other place differs here).item))
       is
 
-  -- a list's items, among all lists
+  -- the values of a list are its element in the list of all lists' values
   pub list_of_map : get_or (map (values_of old) ends) list [] ≡ values_of old (ends_at ends list)
   list_of_map = get_or-map (values_of old) ends list no_ends [] in_range
 
@@ -202,7 +202,7 @@ empty_sound slots empty lists capacity none =
     no_sum zero = refl
     no_sum (suc n) = omega (arith, sum_by-cons len_of empty (replicate n empty), no_sum n, none)
 
--- their items are as many empty lists
+-- the values of the lists are empty lists
 pub empty_lists : {T : Type 0} (slots : ℕ → Option (Node T)) (empty : Ends) (lists : ℕ)
     → empty.len ≡ 0
     → map (values_of slots) (replicate lists empty) ≡ replicate lists []

@@ -1,5 +1,5 @@
--- The marks in blocks: a rank is the sum of the leaves before the slot's block, and of the marks
--- before the slot in its block.
+-- A rank is the sum of the leaves before the slot's block, and of the marks before the slot in its
+-- block, since each leaf counts the marks of its block.
 use Rattle.std.proofs.Common.{◌≡◌, ◌≢◌, ℕ, zero, suc, ◌+◌, ◌-◌, ◌*◌, ◌<◌, ◌≤◌, List, [], ◌∷◌, ◌++◌}
 use Rattle.std.proofs.Common.{length, take, drop, set, get_or, inl, inr, refl, sym, ap, ◌∙◌, arith}
 use Rattle.std.proofs.lemmas.Bool.{cases_lt, cases_eq}
@@ -15,7 +15,7 @@ use Rattle.st_arena.proofs.RankLemmas.{new_live, new_mark_live, new_mark_dead, n
 use Rattle.st_arena.proofs.TreeLemmas.{root-total}
 
 -- ---- marks
--- the sum of a front is that of a shorter one and of what follows it
+-- the sum of the first n + m marks is the sum of the first n and of the m marks after them
 pub sum-split : (marks : List ℕ) (n m : ℕ)
     → sum (take (n + m) marks) ≡ sum (take n marks) + sum (take m (drop n marks))
 sum-split marks n m =
@@ -24,7 +24,7 @@ sum-split marks n m =
     let back = ap sum (drop-take n m marks) in
     omega (arith, whole, front, back)
 
--- a list of marks has at most as many live slots as marks
+-- the first n marks have at most n live slots
 pub rank-most : (marks : List ℕ) → AreMarks marks → (n : ℕ) → sum (take n marks) ≤ n
 rank-most marks bits zero = let none : sum (take 0 marks) ≡ 0 = refl in omega (arith, none)
 rank-most [] bits (suc n) = let none : sum (take (suc n) []) ≡ 0 = refl in omega (arith, none)
@@ -50,13 +50,13 @@ rank-dead (x ∷ xs) (suc slot) dead =
     let there = sum_by-cons (λ n. n) x (take (suc slot) xs) in
     omega (arith, rest, here, there)
 
--- a front of that length has no more
+-- `take count` returns at most `count` elements
 pub front-short : (xs : List ℕ) (count : ℕ) → length (take count xs) ≤ count
 front-short xs zero = omega arith
 front-short [] (suc count) = omega arith
 front-short (x ∷ xs) (suc count) = let rest = front-short xs count in omega (arith, rest)
 
--- marks after one was written
+-- marks stay 0 or 1 if 0 or 1 is written
 pub marks-set : (marks : List ℕ) (slot mark : ℕ) → AreMarks marks → slot < length marks → mark ≤ 1
     → AreMarks (set marks slot mark)
 marks-set marks slot mark bits inside bit at =
@@ -92,7 +92,7 @@ module _ (marks counts : List ℕ) (height : ℕ) (of : AreCounted marks counts 
       let at = ap (λ n. sum (take n marks)) end in
       omega (arith, here, next, at)
 
-  -- and so what is cut out of the marks as its block sums up to
+  -- the marks cut out for a block sum up to its leaf's count
   pub block-sum : (block : ℕ) → block < wide height
       → sum (take 64 (drop (block * 64) marks)) ≡ count_at counts (wide height + block)
   block-sum block inside =
@@ -146,7 +146,7 @@ module _ (marks counts : List ℕ) (height : ℕ) (of : AreCounted marks counts 
         let back = rank-le marks (suc slot) (block * 64 + 64) (omega (arith, to)) in
         omega (arith, counts_it, past, front, back)
 
--- One mark was written, and the leaf of its block changed as the mark did.
+-- one mark is written, and the count of its block's leaf changes by the same
 module _ (marks old new : List ℕ) (height block slot was mark : ℕ)
     (of : AreCounted marks old height)
     (tree : IsTree new height) (from : block * 64 ≤ slot) (to : slot < block * 64 + 64)
@@ -203,7 +203,7 @@ module _ (marks old new : List ℕ) (height block slot was mark : ℕ)
       }
 
 -- ---- new slots, the first of which are live
--- after the live slots the rank is their number
+-- after the live slots, each slot's rank is their number
 rank_past_new : (live dead slot : ℕ) → live ≤ slot
     → sum (take slot (replicate live 1 ++ replicate dead 0)) ≡ live
 rank_past_new live dead slot past =
@@ -245,7 +245,7 @@ module _ (counts : List ℕ) (height live dead : ℕ) (tree : IsTree counts heig
         | inr past ↦ omega (arith, new_mark_dead live dead slot past)
       ]
 
-  -- they are counted by leaves of which the first are full
+  -- leaves of which the first are full count the new slots
   pub counted-new : AreCounted (replicate live 1 ++ replicate dead 0) counts height
   counted-new =
       record {

@@ -1,5 +1,5 @@
--- A closure that computes a test or a function makes of a list, place by place, what the test or
--- the function makes of the whole list.
+-- If a closure computes a test or a function, then what it returned place by place is the test's
+-- position in the list, or the list mapped by the function.
 use Rattle.std.proofs.Common.{◌≡◌, ℕ, zero, suc, ◌<◌, Bool, true, false, ltb, List, [], ◌∷◌, length}
 use Rattle.std.proofs.Common.{get_or, map, Option, Some, None, IfSome, IfNone, slice_get, refl, sym}
 use Rattle.std.proofs.Common.{ap, ◌∙◌, arith}
@@ -12,7 +12,7 @@ use Rattle.st_arena.specs.Calls.{Computes, IsAnswered, IsFirstAnswered, PassesOn
 use Rattle.st_arena.specs.Chain.{Turns}
 
 module _ {T : Type 0} (R : T → T → Type 0) where
-  -- what relates the items at each place relates the lists
+  -- a relation that holds at each place holds of the lists
   pub AllZip-from_places : (xs ys : List T) → length xs ≡ length ys
       → ((place : ℕ) → place < length xs → Turns R (slice_get xs place) (slice_get ys place))
       → AllZip R xs ys
@@ -25,7 +25,7 @@ module _ {T : Type 0} (R : T → T → Type 0) where
         AllZip-from_places xs ys (omega arith) (λ place inside. turns (suc place) (omega arith)),
       )
 
-  -- answers that are computed by a function make the mapped list
+  -- if a function computes the answers, they are the list mapped by it
   pub map-from_AllZip : (f : T → T) (xs ys : List T) → Computes R f xs → AllZip R xs ys
       → ys ≡ map f xs
   map-from_AllZip f [] [] computes each = refl
@@ -45,7 +45,7 @@ module _ {T : Type 0} (answers : T → Bool → Type 0) (test : T → Bool) (ite
       ap test (get_or_from_slice_get items place is.item default is.is_there)
       ∙ sym (computes place is.item answer is.is_there is.answered)
 
-  -- the first place that was answered true is the position of the test
+  -- the first place that was answered true is the test's position
   position-first : (place : ℕ) → IsFirstAnswered answers items place
       → position test items ≡ Some place
   position-first place is =
@@ -57,7 +57,7 @@ module _ {T : Type 0} (answers : T → Bool → Type 0) (test : T → Bool) (ite
       (λ _. tests place true is.found.item is.found))
       (cond-true (ltb place (length items)) (Some place) None (lt-ltb place (length items) inside))
 
-  -- where each was answered false, the test has no position
+  -- if each place was answered false, the test has no position
   position-none : ((place : ℕ) → place < length items → IsAnswered answers items place false)
       → position test items ≡ None
   position-none none = by_items items refl
@@ -72,14 +72,14 @@ module _ {T : Type 0} (answers : T → Bool → Type 0) (test : T → Bool) (ite
           (cond-false (ltb (length items) (length items)) (Some (length items)) None
           (le-ltb (length items) (length items) (omega arith)))
 
-  -- what was found is the position of the test
+  -- the result of a search for the first place is the test's position
   pub position-found : (result : Option ℕ) → IfSome result (IsFirstAnswered answers items)
       → IfNone result ((place : ℕ) → place < length items → IsAnswered answers items place false)
       → result ≡ position test items
   position-found None found absent = sym (position-none absent)
   position-found (Some place) found absent = sym (position-first place found)
 
-  -- the same of any place that was answered true, if one item at most passes
+  -- the result of a search for any place is the test's position, if at most one item passes
   pub position-any : PassesOnce test items → (result : Option ℕ)
       → IfSome result (λ place. IsAnswered answers items place true)
       → IfNone result ((place : ℕ) → place < length items → IsAnswered answers items place false)

@@ -1,4 +1,4 @@
--- A chain has an item under each of its keys, which are apart: so a list has as many items as its
+-- Each key of a chain has an item, and the keys are distinct. So a list has as many items as its
 -- ends say, and keeps them if the slots of its keys stay.
 use Rattle.std.proofs.Common.{◌≡◌, ◌≢◌, ℕ, zero, suc, ◌+◌, ◌<◌, false, List, [], ◌∷◌, length}
 use Rattle.std.proofs.Common.{get_or, drop, Option, Some, None, IsSome, is_some, unwrap_or}
@@ -12,7 +12,7 @@ use Rattle.st_arena.specs.Chain.{value_in, next_key, previous_key, values_from}
 use Rattle.st_arena.specs.Chain.{values_of, key_after, IsChain, IsChained}
 
 module _ {T : Type 0} where
-  -- a slot that holds a value is a node
+  -- a slot that holds a value has a node
   pub held_node : (slot : Option (Node T)) → IsSome (value_in slot)
       → (node : Node T) × (slot ≡ Some node)
   held_node None held = absurd (cc)
@@ -23,20 +23,20 @@ module _ {T : Type 0} where
   held_slot None held = held
   held_slot (Some node) held = refl
 
-  -- a slot holds a value exactly if it has a node
+  -- a slot holds a value if and only if it has a node
   pub is_some-value_in : (slot : Option (Node T)) → is_some (value_in slot) ≡ is_some slot
   is_some-value_in None = refl
   is_some-value_in (Some node) = refl
 
 module _ {T : Type 0} (slots : ℕ → Option (Node T)) where
-  -- the items from a node on begin with its own
+  -- the values from a node on begin with its own
   pub items_at_node : (count key : ℕ) (node : Node T) → slots key ≡ Some node
       → values_from slots (suc count) key ≡ node.value ∷ values_from slots count node.next
   items_at_node count key node is = rw is refl
 
 module _ {T : Type 0} (slots : ℕ → Option (Node T)) (ends : Ends) (key : ℕ → ℕ)
     (chain : IsChain slots ends key) where
-  -- from any node on, the items are as many as the nodes that are left
+  -- from any node on, there are as many values as nodes left
   length-values_from : (count start : ℕ) → start + count ≡ ends.len
       → length (values_from slots count (key start)) ≡ count
   length-values_from zero start all = refl
@@ -50,7 +50,7 @@ module _ {T : Type 0} (slots : ℕ → Option (Node T)) (ends : Ends) (key : ℕ
       rw (items_at_node slots (suc count) (key start) node.0 node.1, link)
       (ap suc (length-values_from (suc count) (suc start) (omega arith)))
 
-  -- and each is what its node holds
+  -- and each is the value of its node
   get-values_from : (count start place : ℕ) → start + count ≡ ends.len → place < count
       → slice_get (values_from slots count (key start)) place
       ≡ value_in (slots (key (start + place)))
@@ -83,7 +83,7 @@ module _ {T : Type 0} (slots : ℕ → Option (Node T)) (ends : Ends) (key : ℕ
       rw (chain.first (omega arith))
       (rw there at (get-values_from ends.len 0 place (omega arith) within))
 
-  -- the same, read with a default
+  -- the item at a place, read with a default, is what the node there holds
   pub get_or-values_of : (place : ℕ) (default : T) → place < ends.len
       → get_or (values_of slots ends) place default
       ≡ unwrap_or (value_in (slots (key place))) default
@@ -91,7 +91,7 @@ module _ {T : Type 0} (slots : ℕ → Option (Node T)) (ends : Ends) (key : ℕ
       sym (unwrap_or-slice_get (values_of slots ends) place default)
       ∙ ap (λ item. unwrap_or item default) (get-values_of place within)
 
-  -- that many steps from the first node lead to the node at that place
+  -- `place` steps from the first node lead to the node at `place`
   pub key_after-first : (place : ℕ) → place < ends.len
       → key_after slots ends.first place ≡ key place
   key_after-first zero within = chain.first within
@@ -102,10 +102,10 @@ module _ {T : Type 0} (slots : ℕ → Option (Node T)) (ends : Ends) (key : ℕ
   pub held_at : (place : ℕ) → place < ends.len → IsSome (slots (key place))
   held_at place within = held_slot (slots (key place)) (chain.held place within)
 
--- the same facts by steps from the first node, for code that knows no place's key
+-- the facts above in steps from the first node, for code that doesn't know the key of a place
 module _ {T : Type 0} (slots : ℕ → Option (Node T)) (ends : Ends) (chained : IsChained slots ends)
   where
-    -- that many steps lead to the key of that place
+    -- `place` steps lead to the key of `place`
     step_is : (place : ℕ) → place < ends.len → key_after slots ends.first place ≡ chained.key place
     step_is place within = key_after-first slots ends chained.key chained.chain place within
 
@@ -122,12 +122,12 @@ module _ {T : Type 0} (slots : ℕ → Option (Node T)) (ends : Ends) (chained :
         get-values_of slots ends chained.key chained.chain place within
         ∙ ap (λ k. value_in (slots k)) (sym (step_is place within))
 
-    -- the last node is that many steps from the first
+    -- as many steps as the length less 1 lead from the first node to the last
     pub last_after : (place : ℕ) → suc place ≡ ends.len
         → ends.last ≡ key_after slots ends.first place
     last_after place is = chained.chain.last place is ∙ sym (step_is place (omega arith))
 
-    -- a node names the one a step before it as its previous
+    -- a node names the node one step before it as its previous
     pub previous_after : (place : ℕ) → suc place < ends.len
         → previous_key (slots (key_after slots ends.first (suc place)))
         ≡ key_after slots ends.first place
@@ -136,17 +136,17 @@ module _ {T : Type 0} (slots : ℕ → Option (Node T)) (ends : Ends) (chained :
         ∙ chained.chain.previous place within
         ∙ sym (step_is place (omega arith))
 
-    -- the first node's steps are each at another node
+    -- different numbers of steps lead to different nodes
     pub steps_apart : (place other : ℕ) → place < ends.len → other < ends.len
         → key_after slots ends.first place ≡ key_after slots ends.first other → place ≡ other
     steps_apart place other within other_within same =
         chained.chain.apart place other within other_within
         (sym (step_is place within) ∙ same ∙ step_is other other_within)
 
-    -- the neighbours of the node at a place, if it has them, are there, and are other nodes
+    -- the node at a place has its neighbours, if any, in the slab, and they are other nodes
     module _ (place key : ℕ) (node : Node T) (within : place < ends.len)
         (is_there : key ≡ key_after slots ends.first place) (is_node : slots key ≡ Some node) where
-      -- the previous of the node is that at the place before
+      -- the node's previous is the node at the place before
       back_is : (before : ℕ) → suc before ≡ place
           → node.previous ≡ key_after slots ends.first before
       back_is before is =
@@ -154,11 +154,11 @@ module _ {T : Type 0} (slots : ℕ → Option (Node T)) (ends : Ends) (chained :
           ∙ ap (λ k. previous_key (slots k)) (is_there ∙ ap (key_after slots ends.first) (sym is))
           ∙ previous_after before (omega arith)
 
-      -- and its next that at the place after
+      -- the node's next is the node at the place after
       front_is : suc place < ends.len → node.next ≡ key_after slots ends.first (suc place)
       front_is more = sym (ap next_key is_node) ∙ ap (λ k. next_key (slots k)) is_there
 
-      -- the node before it is there, and is another
+      -- the node before it is in the slab, and is another node
       pub back_there : 0 < place → IsSome (slots node.previous) × (node.previous ≢ key)
       back_there some = by_place place refl some
         where
@@ -174,7 +174,7 @@ module _ {T : Type 0} (slots : ℕ → Option (Node T)) (ends : Ends) (chained :
                 absurd (omega arith),
           )
 
-      -- the node after it is there, and is another
+      -- the node after it is in the slab, and is another node
       pub front_there : suc place < ends.len → IsSome (slots node.next) × (node.next ≢ key)
       front_there more = (
         rw (front_is more) (held_after (suc place) more),
@@ -184,7 +184,7 @@ module _ {T : Type 0} (slots : ℕ → Option (Node T)) (ends : Ends) (chained :
             absurd (omega arith),
       )
 
--- one step along the items that are left of a list
+-- one step along the items of a list that are left
 module _ {T : Type 0} (slots : ℕ → Option (Node T)) (whole : List T) (place : ℕ)
     (within : place < length whole) where
   -- while items are left, the node at the key is there
@@ -199,7 +199,7 @@ module _ {T : Type 0} (slots : ℕ → Option (Node T)) (whole : List T) (place 
           absurd (omega (arith, ap length (sym none ∙ left), length-drop place whole))
       by_slot (Some node) is = refl
 
-  -- it holds the first of them, and its next has those after it
+  -- the node holds the first item left, and the items after it begin at its next
   pub left_step : (count rest key : ℕ) (node : Node T) → slots key ≡ Some node
       → values_from slots count key ≡ drop place whole → suc rest ≡ count
       → (values_from slots rest node.next ≡ drop (place + 1) whole)
@@ -214,7 +214,7 @@ module _ {T : Type 0} (slots : ℕ → Option (Node T)) (whole : List T) (place 
       let first : node.value ≡ get_or whole place node.value = cc in
       (cc, slice_get-get_or whole place node.value within ∙ ap Some (sym first))
 
--- the slot under a key tells the same in both
+-- the slot under the key has the same value and links in both
 pub record SameAt {T : Type 0} (old new : ℕ → Option (Node T)) (key : ℕ) : Type 0 where
   pub item : value_in (new key) ≡ value_in (old key)
   pub next : next_key (new key) ≡ next_key (old key)
@@ -222,7 +222,7 @@ pub record SameAt {T : Type 0} (old new : ℕ → Option (Node T)) (key : ℕ) :
 
 module _ {T : Type 0} (old new : ℕ → Option (Node T)) (ends : Ends) (key : ℕ → ℕ)
     (chain : IsChain old ends key) where
-  -- a chain whose nodes stay as they were is a chain still
+  -- a chain whose nodes stay is still a chain
   pub chain_stays : ((place : ℕ) → place < ends.len → SameAt old new (key place))
       → IsChain new ends key
   chain_stays same =
@@ -235,7 +235,7 @@ module _ {T : Type 0} (old new : ℕ → Option (Node T)) (ends : Ends) (key : �
         previous = λ place within. (same (suc place) within).previous ∙ chain.previous place within;
       }
 
-  -- two chains of one length that hold the same at each place have the same items
+  -- two chains of one length with the same values at each place have the same items
   pub items_stay : (after : Ends) (row : ℕ → ℕ) → IsChain new after row → after.len ≡ ends.len
       → ((place : ℕ) → place < ends.len → value_in (new (row place)) ≡ value_in (old (key place)))
       → values_of new after ≡ values_of old ends
@@ -249,7 +249,7 @@ module _ {T : Type 0} (old new : ℕ → Option (Node T)) (ends : Ends) (key : �
       ∙ ap (λ item. unwrap_or item default) (same place inside_old)
       ∙ sym (get_or-values_of old ends key chain place default inside_old))
 
-  -- a key that holds nothing is no node's
+  -- an empty slot's key is no node's of the chain
   pub vacant_apart : (vacant place : ℕ) → old vacant ≡ None → place < ends.len → key place ≢ vacant
   vacant_apart vacant place nothing within same =
       let held : IsSome (value_in (old vacant)) = rw (← same) (chain.held place within) in

@@ -1,4 +1,4 @@
--- A change of the items of one list: every link stays, and so do all other lists.
+-- A change of one list's items keeps every link, and writes no node of another list.
 use Rattle.std.proofs.Common.{◌≡◌, ◌≢◌, ℕ, suc, ◌<◌, List, length, map, set, Option, refl, sym, ap}
 use Rattle.std.proofs.Common.{◌∙◌, inl, inr, arith, Some, IsSome, is_some}
 use Rattle.std.proofs.lemmas.Bool.{cases_lt, cases_eq}
@@ -14,13 +14,13 @@ use Rattle.st_arena.proofs.ArenaLemmas.{lists_with}
 use Rattle.st_arena.proofs.CallLemmas.{AllZip-from_places}
 
 -- ---- on one chain
--- one item more is changed
+-- one more item is changed
 module _ {T : Type 0} (old now new : ℕ → Option (Node T)) (ends : Ends)
     (chained : IsChained old ends)
     (R : T → T → Type 0) (count : ℕ) (so_far : ChangesItems old now R ends.first count)
     (within : count < ends.len)
     (key : ℕ) (is_there : key ≡ key_after old ends.first count) where
-  -- the next node to be changed is there
+  -- the slab has the next node to be changed
   pub change_there : IsSome (now key)
   change_there =
       sym (is_some-value_in (now key))
@@ -37,12 +37,12 @@ module _ {T : Type 0} (old now new : ℕ → Option (Node T)) (ends : Ends)
           absurd (omega arith)
 
   module _ (node : Node T) (is_node : now key ≡ Some node) where
-    -- and leads to the one after it
+    -- its next is the node after it
     pub change_next : node.next ≡ key_after old ends.first (suc count)
     change_next = sym (ap next_key is_node) ∙ so_far.next_stay key
         ∙ ap (λ k. next_key (old k)) is_there
 
-    -- with one more item changed, one more than before are
+    -- after its change, one more node is changed
     pub change_more : (value : T) → SetsItem now new key value → R node.value value
         → ChangesItems old new R ends.first (suc count)
     change_more value change related =
@@ -100,13 +100,13 @@ module _ {T : Type 0} (old new : ℕ → Option (Node T)) (ends : List Ends) (co
     (sound : AreChains old ends count capacity) (list : ℕ) (in_range : list < length ends)
     (R : T → T → Type 0)
     (change : ChangesItems old new R (ends_at ends list).first (len_of (ends_at ends list))) where
-  -- that many steps lead to the key of that place
+  -- `place` steps lead to the key of `place`
   change_steps : (place : ℕ) → place < len_of (ends_at ends list)
       → key_after old (ends_at ends list).first place ≡ sound.key list place
   change_steps place within =
       key_after-first old (ends_at ends list) (sound.key list) (sound.chain list) place within
 
-  -- each item of the list became one that R relates to it
+  -- R relates each item of the list to its new value
   change_turns : (place : ℕ) → place < len_of (ends_at ends list)
       → Turns R (value_in (old (sound.key list place))) (value_in (new (sound.key list place)))
   change_turns place within = rw (change_steps place within) at (change.changed place within)
@@ -125,7 +125,7 @@ module _ {T : Type 0} (old new : ℕ → Option (Node T)) (ends : List Ends) (co
         previous = change.previous_stay _;
       }
 
-  -- each list is a chain still, under the same keys
+  -- each list is still a chain, under the same keys
   pub change_chain : (other : ℕ) → IsChain new (ends_at ends other) (sound.key other)
   change_chain other =
       record {
@@ -145,7 +145,7 @@ module _ {T : Type 0} (old new : ℕ → Option (Node T)) (ends : List Ends) (co
             inside;
       }
 
-  -- all is sound after the change
+  -- the arena is sound after the change
   pub change_sound : (new_count new_capacity : ℕ) → new_count ≡ count → new_capacity ≡ capacity
       → AreChains new ends new_count new_capacity
   change_sound new_count new_capacity same_count same_capacity =
@@ -157,7 +157,7 @@ module _ {T : Type 0} (old new : ℕ → Option (Node T)) (ends : List Ends) (co
         within = omega (arith, sound.within);
       }
 
-  -- of all lists only that one changed
+  -- only that list changed
   pub change_lists : map (values_of new) ends
       ≡ set (map (values_of old) ends) list (values_of new (ends_at ends list))
   change_lists =
@@ -165,7 +165,7 @@ module _ {T : Type 0} (old new : ℕ → Option (Node T)) (ends : List Ends) (co
       ∙ lists_with old new ends count capacity sound list in_range (ends_at ends list)
       (values_of new (ends_at ends list)) change_others refl
 
-  -- and R relates its items, place by place
+  -- R relates its items to the new ones, place by place
   pub change_each : AllZip R (values_of old (ends_at ends list)) (values_of new (ends_at ends list))
   change_each =
       AllZip-from_places R (values_of old (ends_at ends list)) (values_of new (ends_at ends list))

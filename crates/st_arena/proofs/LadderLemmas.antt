@@ -1,5 +1,5 @@
--- The keys of a list's nodes, place by place: they follow the links, so they stay where the links
--- do, and one list's change changes the keys of that list alone.
+-- The keys of a list's nodes follow the links, so they stay if the links stay, and a change of one
+-- list changes only that list's keys.
 use Rattle.std.proofs.Common.{◌≡◌, ◌≢◌, ℕ, zero, suc, ◌+◌, ◌<◌, ◌≤◌, List, [], ◌∷◌, ◌++◌, length}
 use Rattle.std.proofs.Common.{get_or, set, map, Option, Some, None, IfSome, remove, slice_get, refl}
 use Rattle.std.proofs.Common.{sym, ap, ◌∙◌, inl, inr, arith, Result, Ok, Err, false}
@@ -21,7 +21,7 @@ use Rattle.st_arena.proofs.UnlinkLemmas.{unlink_row, unlink_row-below, unlink_ro
 use Rattle.st_arena.proofs.UnlinkLemmas.{unlink_others, unlink_here}
 use Rattle.st_arena.proofs.ChangeLemmas.{change_chain}
 
--- a slot more for one key more
+-- a key added to the slots is a key added to the list of keys
 pub map_Some-push : (xs : List ℕ) (x : ℕ)
     → map (λ n. Some n) xs ++ Some x ∷ [] ≡ map (λ n. Some n) (xs ++ x ∷ [])
 map_Some-push [] x = refl
@@ -35,7 +35,7 @@ module _ {T : Type 0} (slots : ℕ → Option (Node T)) where
       let rest = length-keys count first in
       omega (arith, rest, length_push (keys slots count first) (key_after slots first count))
 
-  -- the key at a place is the one that many steps on
+  -- the key at `place` is the key `place` steps from the first
   pub get_or-keys : (count first place default : ℕ) → place < count
       → get_or (keys slots count first) place default ≡ key_after slots first place
   get_or-keys zero first place default inside = absurd (omega (arith, inside))
@@ -54,7 +54,7 @@ module _ {T : Type 0} (slots : ℕ → Option (Node T)) where
             ∙ ap (key_after slots first) (sym here)
       ]
 
--- a list of that length with the key at each place is the list of keys
+-- a list of `count` keys that has the right key at each place is the list of keys
 pub keys_are : {T : Type 0} (slots : ℕ → Option (Node T)) (count first : ℕ) (found : List ℕ)
     → length found ≡ count
     → ((place default : ℕ) → place < count
@@ -67,7 +67,7 @@ keys_are slots count first found len each =
     let within : place < count = omega (arith, inside, len) in
     each place default within ∙ sym (get_or-keys slots count first place default within))
 
--- a chain keeps its keys where its nodes' links stay
+-- a list keeps its keys if it stays a chain under the same keys
 pub keys_stay : {T : Type 0} (old new : ℕ → Option (Node T)) (ends : Ends) (key : ℕ → ℕ)
     → IsChain old ends key
     → IsChain new ends key → node_keys old ends ≡ node_keys new ends
@@ -78,7 +78,7 @@ keys_stay old new ends key chain later =
     ∙ key_after-first old ends key chain place inside
     ∙ sym (key_after-first new ends key later place inside))
 
--- a key more at the end
+-- a push adds one key at the end
 pub keys_push : {T : Type 0} (old new : ℕ → Option (Node T)) (ends after : Ends) (key row : ℕ → ℕ)
     → IsChain old ends key → IsChain new after row → after.len ≡ suc ends.len
     → ((place : ℕ) → place < ends.len → row place ≡ key place) → (last : ℕ) → row ends.len ≡ last
@@ -104,7 +104,7 @@ keys_push old new ends after key row chain later longer below last at_end =
           ∙ sym (key_after-first new after row later place inside)
     ])
 
--- a key fewer at a place
+-- a take removes the key at its place
 pub keys_remove : {T : Type 0} (old new : ℕ → Option (Node T)) (ends after : Ends) (key row : ℕ → ℕ)
     (place : ℕ)
     → IsChain old ends key → IsChain new after row → suc after.len ≡ ends.len → place < ends.len
@@ -137,7 +137,7 @@ keys_remove old new ends after key row place chain later shorter within below ab
     ])
 
 -- ---- a list's ladder
--- what a ladder holds at a place is the key there
+-- the key that a ladder holds at a place is the key of the node there
 pub ladder_key : {T : Type 0} (slots : ℕ → Option (Node T)) (ends : Ends) (place key : ℕ)
     (ladder : List ℕ)
     (found : Option (List ℕ)) → IfSome found (λ l. l ≡ node_keys slots ends) → found ≡ Some ladder
@@ -152,25 +152,25 @@ ladder_key slots ends place key ladder found holds is inside there =
     same_Some _ _ (sym there ∙ ap (λ l. slice_get l place) same ∙ read)
     ∙ get_or-keys slots ends.len ends.first place key inside
 
--- what holds of a value that is there
+-- what `IfSome` says holds of a value that is present
 pub if_some : {A : Type 0} (P : A → Type 0) (found : Option A) (x : A) → IfSome found P
     → found ≡ Some x → P x
 if_some P found x holds is = rw is at holds
 
--- and of a result that is `Ok`
+-- what `IfOk` says holds of the value of an `Ok`
 pub if_ok : {A E : Type 0} (P : A → Type 0) (result : Result A E) (x : A) → IfOk result P
     → result_ok result ≡ Some x → P x
 if_ok P (Ok y) x holds is = rw (same_Some y x is) at holds
 if_ok P (Err e) x holds is = absurd cc
 
--- what follows from both outcomes
+-- what follows from each of the two outcomes holds
 pub either_way : {A E : Type 0} (P Q R : Type 0) (result : Result A E) → OnOk result P
     → OnErr result Q → (P → R)
     → (Q → R) → R
 either_way P Q R (Ok x) ok err from_ok from_err = from_ok ok
 either_way P Q R (Err e) ok err from_ok from_err = from_err err
 
--- the ladder of one list was put in
+-- after a list's ladder is stored, the list has it and the other lists keep theirs
 pub ladder_joins : (old new : ℕ → Option (List ℕ)) (list : ℕ) (ladder wanted : List ℕ)
     → ladder ≡ wanted
     → new list ≡ Some ladder → ((other : ℕ) → nat_eq list other ≡ false → new other ≡ old other)
@@ -181,7 +181,7 @@ ladder_joins old new list ladder wanted same here others =
       others = λ other differs. others other (ne_eqb list other (λ e. differs (sym e)));
     }
 
--- or there was no memory for it
+-- if it can't be stored, the list has none and the other lists keep theirs
 pub ladder_stays_out : (old new : ℕ → Option (List ℕ)) (list : ℕ) (wanted : List ℕ)
     → old list ≡ None
     → ((other : ℕ) → new other ≡ old other) → KeepsLadder old new list wanted
@@ -191,7 +191,7 @@ ladder_stays_out old new list wanted none same =
       others = λ other differs. same other;
     }
 
--- what follows of a ladder that is there
+-- what follows for each value follows for one that is present
 if_some_then : {A : Type 0} (P Q : A → Type 0) (found : Option A) → ((x : A) → P x → Q x)
     → IfSome found P
     → IfSome found Q
@@ -204,7 +204,7 @@ module _ {T : Type 0} (old new : ℕ → Option (Node T)) (ends : List Ends) (co
     (have : AreLadders old ends ladders)
     (list : ℕ) where
   module _ (in_range : list < length ends) (after : Ends) where
-    -- where the nodes of all other lists stay, each ladder holds the keys of its list
+    -- if the nodes of all other lists stay, each ladder holds the keys of its list
     ladders_with : (later : ℕ → Option (List ℕ))
         → ((other place : ℕ) → other ≢ list → place < len_of (ends_at ends other)
         → SameAt old new (sound.key other place))
@@ -228,7 +228,7 @@ module _ {T : Type 0} (old new : ℕ → Option (Node T)) (ends : List Ends) (co
         ]
 
     module _ (value : T) (change : Appends old new (ends_at ends list) after value) where
-      -- a push adds the key of the last node to the list's ladder
+      -- with the last node's key added, the list's ladder holds the list's keys after a push
       pub append_ladder : IfSome (ladders list) (λ l. l ++ after.last ∷ [] ≡ node_keys new after)
       append_ladder =
           let more =
@@ -244,7 +244,7 @@ module _ {T : Type 0} (old new : ℕ → Option (Node T)) (ends : List Ends) (co
           if_some_then _ _ (ladders list) (λ l is. ap (λ ks. ks ++ after.last ∷ []) is ∙ more)
           (have list)
 
-      -- and leaves all others
+      -- if the list keeps that ladder or none, all ladders are right after the push
       pub append_ladders : (later : ℕ → Option (List ℕ))
           → KeepsLadder ladders later list (node_keys new after)
           → AreLadders new (set ends list after) later
@@ -255,7 +255,7 @@ module _ {T : Type 0} (old new : ℕ → Option (Node T)) (ends : List Ends) (co
     module _ (place gone : ℕ) (value : T)
         (change : Unlinks old new (ends_at ends list) after place gone value)
         (within : place < len_of (ends_at ends list)) (is_there : gone ≡ sound.key list place) where
-      -- a take takes the key at the place out of the list's ladder
+      -- without the key at the place, the list's ladder holds the list's keys after a take
       pub unlink_ladder : IfSome (ladders list) (λ l. remove l place ≡ node_keys new after)
       unlink_ladder =
           let fewer =
@@ -275,7 +275,7 @@ module _ {T : Type 0} (old new : ℕ → Option (Node T)) (ends : List Ends) (co
           if_some_then _ _ (ladders list) (λ l is. ap (λ ks. remove ks place) is ∙ fewer)
           (have list)
 
-      -- and leaves all others
+      -- if the list keeps that ladder or none, all ladders are right after the take
       pub unlink_ladders : (later : ℕ → Option (List ℕ))
           → KeepsLadder ladders later list (node_keys new after)
           → AreLadders new (set ends list after) later
@@ -284,7 +284,7 @@ module _ {T : Type 0} (old new : ℕ → Option (Node T)) (ends : List Ends) (co
           (unlink_others old new ends count capacity sound list in_range after place gone value
           change within is_there)
 
-  -- a change of one list's items leaves all ladders
+  -- after a change of one list's items, all ladders are right
   pub change_ladders : list < length ends → (R : T → T → Type 0)
       → ChangesItems old new R (ends_at ends list).first (len_of (ends_at ends list))
       → AreLadders new ends ladders

@@ -1,12 +1,12 @@
--- The lemmas; what upper crates may cite is in `ForCallers`.
+-- The lemmas; `ForCallers` has those that proofs of the crates above may cite.
 mod TreeLemmas
 mod BlockLemmas
 pub mod RankLemmas
 pub mod QueueLemmas
 pub mod ForCallers
--- The lemmas of this crate, each file on those above it: what one chain and all lists hold, what
--- closures made of a list, what each kind of change leaves, and all that for the list that a call
--- names. The folders prove the functions of src/.
+-- The lemmas of this crate, in an order in which each file cites earlier ones: on one chain and
+-- all lists, on what closures return, on each kind of change, and on the list that a call names.
+-- The folders prove the functions of src/.
 mod ChainLemmas
 mod ArenaLemmas
 mod CallLemmas

@@ -1,5 +1,5 @@
--- The code read the ends of a list (`found`) from their table, so a fact about the chain of each
--- list holds of the one that a call names.
+-- The code reads the ends of a list from their table as `found`, so facts about each list's chain
+-- hold of the list that a call names.
 use Rattle.std.proofs.Common.{◌≡◌, ℕ, zero, suc, ◌+◌, ◌<◌, ◌≤◌, List, [], ◌∷◌, ◌++◌, length, get_or}
 use Rattle.std.proofs.Common.{map, set, Option, Some, None, IsSome, IfSome, remove, slice_get, refl}
 use Rattle.std.proofs.Common.{sym, ap, ◌∙◌, arith}
@@ -28,15 +28,15 @@ module _ {T : Type 0} (slots : ℕ → Option (Node T)) (ends : List Ends) (coun
     (view : map (values_of slots) ends ≡ lists)
     (list : ℕ) (in_range : list < length lists) (found : Ends)
     (read : found ≡ get_or ends list found) where
-  -- the list has ends
+  -- the list's number has ends in the table
   in_ends : list < length ends
   in_ends = omega (arith, in_range, ap length view, length-map ends (values_of slots))
 
-  -- they are what was read
+  -- they are the ends that were read
   found_is : found ≡ ends_at ends list
   found_is = get_or_read ends list found in_ends read no_ends
 
-  -- the list that a contract sees is the chain's items
+  -- the list that a contract sees is the values of the chain
   pub list_is : get_or lists list [] ≡ values_of slots found
   list_is =
       ap (λ xs. get_or xs list []) (sym view)
@@ -47,19 +47,19 @@ module _ {T : Type 0} (slots : ℕ → Option (Node T)) (ends : List Ends) (coun
   pub chained : IsChained slots found
   chained = rw found_is (record { key = sound.key list; chain = sound.chain list })
 
-  -- it has as many items as the ends say
+  -- the list has as many items as the ends say
   pub whole : length (values_of slots found) ≡ found.len
   whole = length-values_of slots found chained.key chained.chain
 
-  -- so the ends' length is the list's
+  -- so the length in the ends is the list's
   pub len_is : found.len ≡ length (get_or lists list [])
   len_is = sym whole ∙ ap length (sym list_is)
 
-  -- past it there is nothing
+  -- past the length there is no item
   pub get_past : (place : ℕ) → found.len ≤ place → slice_get (get_or lists list []) place ≡ None
   get_past place past = slice_get_past (get_or lists list []) place (omega (arith, len_is))
 
-  -- below it there is what the node at the place holds
+  -- below it, the item at a place is the value of the node there
   pub get_at : (place key : ℕ) (node : Node T) → place < found.len
       → key ≡ key_after slots found.first place
       → slots key ≡ Some node → slice_get (get_or lists list []) place ≡ Some node.value
@@ -69,7 +69,7 @@ module _ {T : Type 0} (slots : ℕ → Option (Node T)) (ends : List Ends) (coun
       ∙ ap (λ k. value_in (slots k)) (sym is_there)
       ∙ ap value_in is_node
 
-  -- the same, of a slot that holds the value
+  -- the item at a place is the value in the slot there
   pub get_held : (place key : ℕ) (value : T) → place < found.len
       → key ≡ key_after slots found.first place
       → value_in (slots key) ≡ Some value → slice_get (get_or lists list []) place ≡ Some value
@@ -79,7 +79,7 @@ module _ {T : Type 0} (slots : ℕ → Option (Node T)) (ends : List Ends) (coun
       ∙ ap (λ k. value_in (slots k)) (sym is_there)
       ∙ held
 
-  -- no list has more nodes than there are
+  -- no list has more nodes than the slab
   pub counted : found.len ≤ count
   counted = omega (
     arith,
@@ -88,7 +88,7 @@ module _ {T : Type 0} (slots : ℕ → Option (Node T)) (ends : List Ends) (coun
     sum_by-set len_of ends list no_ends no_ends in_ends,
   )
 
-  -- the last node of a list that has some is there
+  -- the slab has the last node of a list that isn't empty
   pub last_there : 0 < found.len → IsSome (slots found.last)
   last_there some = by_len found.len refl some
     where
@@ -105,17 +105,17 @@ module _ {T : Type 0} (slots : ℕ → Option (Node T)) (ends : List Ends) (coun
 
   module _ (new : ℕ → Option (Node T)) (after : Ends) where
     module _ (value : T) (change : Appends slots new found after value) where
-      -- a push on the ends that were read is one on the list's
+      -- a push on the ends that were read is a push on the list's
       appends : Appends slots new (ends_at ends list) after value
       appends = rw found_is at change
 
-      -- after it all is sound
+      -- after the push the arena is sound
       pub push_sound : (new_count new_capacity : ℕ) → new_count ≡ count + 1
           → new_count ≤ new_capacity
           → AreChains new (set ends list after) new_count new_capacity
       push_sound = append_sound slots new ends count capacity sound list in_ends after value appends
 
-      -- and the value is at the end of that list alone
+      -- only that list changed: the value is at its end
       pub push_lists : map (values_of new) (set ends list after)
           ≡ set lists list (get_or lists list [] ++ value ∷ [])
       push_lists = rw view at (append_lists slots new ends count capacity sound list in_ends after
@@ -129,14 +129,14 @@ module _ {T : Type 0} (slots : ℕ → Option (Node T)) (ends : List Ends) (coun
             in_ends after value appends;
       }
 
-      -- and its ladder has the new node's key to come
+      -- with the new node's key added, the list's ladder holds the list's keys
       pub push_ladder : (ladders : ℕ → Option (List ℕ)) → AreLadders slots ends ladders
           → IfSome (ladders list) (λ l. l ++ after.last ∷ [] ≡ node_keys new after)
       push_ladder ladders have =
           append_ladder slots new ends count capacity sound ladders have list in_ends after value
           appends
 
-      -- once it has it, all ladders are right
+      -- if the list keeps that ladder or none, all ladders are right
       pub push_ladders : (ladders later : ℕ → Option (List ℕ)) → AreLadders slots ends ladders
           → KeepsLadder ladders later list (node_keys new after)
           → AreLadders new (set ends list after) later
@@ -146,7 +146,7 @@ module _ {T : Type 0} (slots : ℕ → Option (Node T)) (ends : List Ends) (coun
 
     module _ (place key : ℕ) (value : T) (change : Unlinks slots new found after place key value)
         (within : place < found.len) (is_there : key ≡ key_after slots found.first place) where
-      -- a take from the ends that were read is one from the list's
+      -- a take from the ends that were read is a take from the list's
       unlinks : Unlinks slots new (ends_at ends list) after place key value
       unlinks = rw found_is at change
 
@@ -154,7 +154,7 @@ module _ {T : Type 0} (slots : ℕ → Option (Node T)) (ends : List Ends) (coun
       inside : place < len_of (ends_at ends list)
       inside = rw found_is at within
 
-      -- the key is that of the place
+      -- the key is that of the node at the place
       there : key ≡ sound.key list place
       there =
           is_there
@@ -162,7 +162,7 @@ module _ {T : Type 0} (slots : ℕ → Option (Node T)) (ends : List Ends) (coun
           ∙ key_after-first slots (ends_at ends list) (sound.key list) (sound.chain list) place
           inside
 
-      -- after it all is sound
+      -- after the take the arena is sound
       pub take_sound : (new_count new_capacity : ℕ) → new_count + 1 ≡ count
           → new_count ≤ new_capacity
           → AreChains new (set ends list after) new_count new_capacity
@@ -170,7 +170,7 @@ module _ {T : Type 0} (slots : ℕ → Option (Node T)) (ends : List Ends) (coun
           unlink_sound slots new ends count capacity sound list in_ends after place key value
           unlinks inside there
 
-      -- and that list alone lost the item at the place
+      -- only that list changed: it lost the item at the place
       pub take_lists : map (values_of new) (set ends list after)
           ≡ set lists list (remove (get_or lists list []) place)
       take_lists =
@@ -188,7 +188,7 @@ module _ {T : Type 0} (slots : ℕ → Option (Node T)) (ends : List Ends) (coun
                 there;
           }
 
-      -- and its ladder has that node's key to lose
+      -- without that node's key, the list's ladder holds the list's keys
       pub take_ladder : (ladders : ℕ → Option (List ℕ)) → AreLadders slots ends ladders
           → IfSome (ladders list) (λ l. remove l place ≡ node_keys new after)
       take_ladder ladders have =
@@ -196,7 +196,7 @@ module _ {T : Type 0} (slots : ℕ → Option (Node T)) (ends : List Ends) (coun
           key value unlinks
           inside there
 
-      -- once it has lost it, all ladders are right
+      -- if the list keeps that ladder or none, all ladders are right
       pub take_ladders : (ladders later : ℕ → Option (List ℕ)) → AreLadders slots ends ladders
           → KeepsLadder ladders later list (node_keys new after)
           → AreLadders new (set ends list after) later
@@ -207,39 +207,39 @@ module _ {T : Type 0} (slots : ℕ → Option (Node T)) (ends : List Ends) (coun
 
   module _ (new : ℕ → Option (Node T)) (R : T → T → Type 0)
       (change : ChangesItems slots new R found.first found.len) where
-    -- a change under the ends that were read is one of the list
+    -- a change under the ends that were read is a change of the list
     changes : ChangesItems slots new R (ends_at ends list).first (len_of (ends_at ends list))
     changes = rw found_is at change
 
-    -- after it all is sound
+    -- after the change the arena is sound
     pub changed_sound : (new_count new_capacity : ℕ) → new_count ≡ count → new_capacity ≡ capacity
         → AreChains new ends new_count new_capacity
     changed_sound = change_sound slots new ends count capacity sound list in_ends R changes
 
-    -- and all ladders are right still
+    -- all ladders are still right
     pub changed_ladders : (ladders : ℕ → Option (List ℕ)) → AreLadders slots ends ladders
         → AreLadders new ends ladders
     changed_ladders ladders have =
         change_ladders slots new ends count capacity sound ladders have list in_ends R changes
 
-    -- the changed list, among all lists
+    -- the changed list is an element of the list of all lists
     new_list : get_or (map (values_of new) ends) list [] ≡ values_of new (ends_at ends list)
     new_list = list_of_map new new ends count capacity (changed_sound count capacity refl refl) list
         in_ends found
 
-    -- that list alone changed
+    -- only that list changed
     pub changed_lists : map (values_of new) ends
         ≡ set lists list (get_or (map (values_of new) ends) list [])
     changed_lists = rw new_list
         (rw view at (change_lists slots new ends count capacity sound list in_ends R changes))
 
-    -- each of its items became one that R relates to it
+    -- R relates each of its items to the new one
     pub changed_each : AllZip R (get_or lists list []) (get_or (map (values_of new) ends) list [])
     changed_each =
         rw (new_list, list_is, found_is)
         (change_each slots new ends count capacity sound list in_ends R changes)
 
-    -- and where a function computes R, the list is mapped by it
+    -- if a function computes R, the list is mapped by it
     pub changed_mapped : (f : T → T) → Computes R f (get_or lists list [])
         → map (values_of new) ends ≡ set lists list (map f (get_or lists list []))
     changed_mapped f computes =

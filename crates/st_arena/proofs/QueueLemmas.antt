@@ -1,5 +1,4 @@
--- A queue in slots: a slot's rank is its item's place in the queue, since both count the live slots
--- before it.
+-- A slot's rank is its item's place in the queue, since both count the live slots before it.
 use Rattle.std.proofs.Common.{◌≡◌, ◌+◌, ◌-◌, ◌<◌, ◌≤◌, ℕ, zero, suc, List, [], ◌∷◌, ◌++◌, length}
 use Rattle.std.proofs.Common.{take, set, get_or}
 use Rattle.std.proofs.Common.{map, Option, Some, None, slice_get, refl, sym, ap, ◌∙◌, arith}
@@ -23,7 +22,7 @@ module _ {T : Type 0} where
   kept-get (Some first ∷ slots) zero item is = cc
   kept-get (Some first ∷ slots) (suc slot) item is = kept-get slots slot item is
 
-  -- an item is taken out of the queue where its slot is emptied
+  -- emptying the item's slot removes the item from the queue
   pub kept-take : (slots : List (Option T)) (slot : ℕ) (item : T)
       → slice_get slots slot ≡ Some (Some item)
       → kept (set slots slot None) ≡ remove (kept slots) (before slots slot)
@@ -34,14 +33,14 @@ module _ {T : Type 0} where
   kept-take (Some first ∷ slots) (suc slot) item is =
       ap (λ t. first ∷ t) (kept-take slots slot item is)
 
-  -- a put adds a live slot
+  -- a slot added with an item adds the item to the queue
   pub kept-put : (slots : List (Option T)) (item : T)
       → kept (slots ++ Some item ∷ []) ≡ kept slots ++ item ∷ []
   kept-put [] item = refl
   kept-put (None ∷ slots) item = kept-put slots item
   kept-put (Some first ∷ slots) item = ap (λ t. first ∷ t) (kept-put slots item)
 
-  -- a queue in slots of its own, all of them live
+  -- a queue whose items have a slot each, and all slots live
   pub kept-map_Some : (items : List T) → kept (map (λ x. Some x) items) ≡ items
   kept-map_Some [] = refl
   kept-map_Some (x ∷ xs) = ap (λ t. x ∷ t) (kept-map_Some xs)
@@ -52,12 +51,12 @@ module _ {T : Type 0} where
   length-marks (None ∷ slots) = ap suc (length-marks slots)
   length-marks (Some item ∷ slots) = ap suc (length-marks slots)
 
-  -- all slots of new ranks are live
+  -- the marks of slots that all hold items are ones
   marks-map_Some : (items : List T) → marks (map (λ x. Some x) items) ≡ replicate (length items) 1
   marks-map_Some [] = refl
   marks-map_Some (x ∷ xs) = ap (λ t. 1 ∷ t) (marks-map_Some xs)
 
-  -- the marks of slots, and those of the spare ones after them
+  -- the marks of the slots, and then of the spare ones
   abbrev with_spare : List (Option T) → ℕ → List ℕ
   with_spare slots spare = marks slots ++ replicate spare 0
 
@@ -127,22 +126,22 @@ module _ {T : Type 0} where
 
 -- from here on, the ranks are those of the slots
 module _ {T : Type 0} (ranks : List ℕ) (slots : List (Option T)) (of : AreRanksOf ranks slots) where
-  -- there are at least as many ranks as slots
+  -- there is a mark for each slot, and for each spare one
   pub ranks_room : length ranks ≡ length slots + of.spare
   ranks_room =
       ap length of.are
       ∙ length-append (marks slots) (replicate of.spare 0)
       ∙ (λ i. length-marks slots i + length-replicate of.spare zero i)
 
-  -- what `rank` returns for a slot is how many live slots are before it
+  -- the rank that `rank` returns is the number of live slots before
   pub rank-before : (slot : ℕ) → slot ≤ length slots → sum (take slot ranks) ≡ before slots slot
   rank-before slot inside = ap (λ l. sum (take slot l)) of.are ∙ rank_in slots of.spare slot inside
 
-  -- what `live` returns is the length of the queue
+  -- the number that `live` returns is the length of the queue
   pub live-kept : sum ranks ≡ length (kept slots)
   live-kept = ap sum of.are ∙ live_in slots of.spare
 
-  -- each slot that isn't there yet is marked dead
+  -- each spare slot is marked dead
   pub marked_dead : (slot : ℕ) → length slots ≤ slot → get_or ranks slot 0 ≡ 0
   marked_dead slot past = ap (λ l. get_or l slot 0) of.are ∙ dead_in slots of.spare slot past
 
@@ -151,7 +150,7 @@ module _ {T : Type 0} (ranks : List ℕ) (slots : List (Option T)) (of : AreRank
       → (item : T) × (slice_get slots slot ≡ Some (Some item))
   live_item slot live = item_in slots of.spare slot (sym (ap (λ l. get_or l slot 0) of.are) ∙ live)
 
-  -- a slot is emptied, and marked dead
+  -- the ranks stay right if a slot is emptied and marked dead
   pub ranks-take : (slot : ℕ) → slot < length slots
       → AreRanksOf (set ranks slot 0) (set slots slot None)
   ranks-take slot inside =
@@ -160,7 +159,7 @@ module _ {T : Type 0} (ranks : List ℕ) (slots : List (Option T)) (of : AreRank
         are = ap (λ l. set l slot 0) of.are ∙ take_in slots of.spare slot inside;
       }
 
-  -- the first spare slot takes an item, and is marked live
+  -- the ranks stay right if the first spare slot takes an item and is marked live
   pub ranks-put : (item : T) → length slots < length ranks
       → AreRanksOf (set ranks (length slots) 1) (slots ++ Some item ∷ [])
   ranks-put item room =
@@ -174,7 +173,7 @@ module _ {T : Type 0} (ranks : List ℕ) (slots : List (Option T)) (of : AreRank
             ∙ put_in slots left item;
       }
 
--- new ranks, of as many live slots as there are items
+-- new ranks with as many live slots as items are the ranks of those items
 pub ranks-new : {T : Type 0} (ranks : List ℕ) (items : List T) (spare : ℕ)
     → ranks ≡ replicate (length items) 1 ++ replicate spare 0
     → AreRanksOf ranks (map (λ x. Some x) items)
@@ -184,11 +183,11 @@ ranks-new ranks items spare is =
       are = is ∙ ap (λ l. l ++ replicate spare 0) (sym (marks-map_Some items));
     }
 
--- the slot that `select` returned for a place
+-- the slot that `select` returns for a place
 module _ {T : Type 0} (ranks : List ℕ) (slots : List (Option T)) (of : AreRanksOf ranks slots)
     (slot place : ℕ)
     (live : get_or ranks slot 0 ≡ 1) (rank : sum (take slot ranks) ≡ place) where
-  -- it is one of the slots
+  -- it is one of the slots, not a spare one
   pub selected_inside : slot < length slots
   selected_inside =
       let there = live_item ranks slots of slot live in
@@ -207,7 +206,7 @@ module _ {T : Type 0} (ranks : List ℕ) (slots : List (Option T)) (of : AreRank
       ap (slice_get (kept slots)) (sym selected_before) ∙ kept-get slots slot there.0 there.1 in
       there.1 ∙ ap Some (sym at_place)
 
-  -- and once it is emptied, the queue is without that item
+  -- emptying it removes that item from the queue
   pub selected_take : kept (set slots slot None) ≡ remove (kept slots) place
   selected_take =
       let there = live_item ranks slots of slot live in

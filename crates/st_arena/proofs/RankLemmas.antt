@@ -1,5 +1,5 @@
--- Ranks in a list of marks: a rank is a sum of the marks before a slot, so it grows by one after
--- each live slot and stays after each dead one.
+-- A rank is the sum of the marks before a slot, so it grows by one after each live slot and stays
+-- after each dead one.
 use Rattle.std.proofs.Common.{◌≡◌, ◌+◌, ◌<◌, ◌≤◌, ℕ, zero, suc, List, [], ◌∷◌, ◌++◌, length, take}
 use Rattle.std.proofs.Common.{set, get_or, refl, ap, arith}
 use Rattle.std.proofs.lemmas.List.{take-set-le}
@@ -8,7 +8,7 @@ use Rattle.std.specs.List.{sum}
 use Rattle.std.specs.Prelude.{replicate}
 
 -- ---- in one list
--- a later slot has no lesser rank
+-- a later slot has no smaller rank
 pub rank-le : (marks : List ℕ) (slot later : ℕ) → slot ≤ later
     → sum (take slot marks) ≤ sum (take later marks)
 rank-le marks zero later le = let none : sum (take 0 marks) ≡ 0 = refl in omega (arith, none)
@@ -37,12 +37,12 @@ rank-live (x ∷ xs) (suc slot) live =
     omega (arith, rest, here, there)
 
 -- ---- after one mark is written
--- up to the slot, ranks stay
+-- ranks up to the slot stay
 pub rank_before_mark : (marks : List ℕ) (slot mark at : ℕ) → at ≤ slot
     → sum (take at (set marks slot mark)) ≡ sum (take at marks)
 rank_before_mark marks slot mark at before = ap sum (take-set-le at marks slot mark before)
 
--- after it, they change as the mark does
+-- ranks after it change as the mark does
 pub rank_behind_mark : (marks : List ℕ) (slot mark at : ℕ) → slot < at → slot < length marks
     → get_or marks slot 0 + sum (take at (set marks slot mark)) ≡ mark + sum (take at marks)
 rank_behind_mark [] slot mark at behind inside = absurd (omega (arith, inside))
@@ -58,7 +58,7 @@ rank_behind_mark (x ∷ xs) (suc slot) mark (suc at) behind inside =
     omega (arith, rest, old, new)
 
 -- ---- in new slots, the first of which are live
--- the marks of new slots
+-- the marks of new slots: `live` ones, then `dead` zeros
 abbrev new_marks : ℕ → ℕ → List ℕ
 new_marks live dead = replicate live 1 ++ replicate dead 0
 
@@ -90,7 +90,7 @@ new_mark_dead zero (suc dead) (suc slot) past = new_mark_dead zero dead slot (om
 new_mark_dead (suc live) dead zero past = absurd (omega (arith, past))
 new_mark_dead (suc live) dead (suc slot) past = new_mark_dead live dead slot (omega (arith, past))
 
--- a live slot is its own rank
+-- the rank of a live slot is its number
 pub new_rank : (live dead slot : ℕ) → slot ≤ live
     → sum (take slot (replicate live 1 ++ replicate dead 0)) ≡ slot
 new_rank live dead zero inside = refl

@@ -1,11 +1,12 @@
--- Sums over the levels of the tree.
+-- Each inner node counts the sum of its children's counts, so sums over the nodes of a level and
+-- of the level below agree.
 use Rattle.std.proofs.Common.{◌≡◌, ℕ, zero, suc, ◌+◌, ◌<◌, ◌≤◌, ◌-◌, ◌*◌, List, length, refl, sym}
 use Rattle.std.proofs.Common.{ap, ◌∙◌, arith, inl, inr, drop, get_or, set, ◌≢◌, ◌^◌}
 use Rattle.std.proofs.lemmas.Bool.{cases_lt, cases_eq}
 use Rattle.std.proofs.lemmas.List.{get_or-drop, get_or-set_same, get_or-set_other}
 use Rattle.st_arena.specs.Tree.{count_at, sums, wide, AddsUpFrom, IsTree}
 
--- a level has a node
+-- a level has at least one node
 pub wide-positive : (height : ℕ) → 0 < wide height
 wide-positive zero = omega arith
 wide-positive (suc height) = let below = wide-positive height in omega (arith, below)
@@ -39,7 +40,7 @@ module _ (f : ℕ → ℕ) where
       rw (← left, ← right) here in
       rw two (omega (arith, before, last))
 
-  -- what counts 64 at most at each node sums up to 64 times the number of nodes at most
+  -- a sum over `count` nodes that each count at most 64 is at most 64 times `count`
   pub sums-le : (start count end : ℕ) → count ≤ end
       → ((leaf : ℕ) → leaf < end → f (start + leaf) ≤ 64)
       → sums f start count ≤ count * 64
@@ -58,7 +59,7 @@ within counts height tree level start place low is inside =
     let le = wide-le level height low in
     omega (arith, len, le, is, inside)
 
--- the climb keeps the sum within the number of slots in this many blocks
+-- the climb's sum stays at most 64 times the number of blocks before
 pub rank-fits : (counts : List ℕ) (height : ℕ) → IsTree counts height
     → (size block sum start place : ℕ)
     → size ≡ wide height → block < size
@@ -78,7 +79,7 @@ rank-fits counts height tree size block sum start place is inside total some =
     tree.leaves) in
     omega (arith, total, split, at, most)
 
--- a sum over an even number of nodes of a level is that over half as many one level above
+-- a sum over an even number of nodes of a level is the sum over half as many nodes one level up
 pub sums-up : (counts : List ℕ) (height : ℕ) → IsTree counts height → (level start place : ℕ)
     → level < height
     → start ≡ wide (suc level) → place + place ≤ start
@@ -91,8 +92,8 @@ sums-up counts height tree level start place low is inside =
     (omega (arith, two, inside, le))
     tree.inner)
 
--- one level down, the same slots are before the node's first child, and its children count what it
--- counts
+-- the leaves before a node are those before its first child, and its children together count what
+-- it counts
 pub down : (counts : List ℕ) (height : ℕ) → IsTree counts height → (level start place : ℕ)
     → level < height
     → start ≡ wide level → place < start
@@ -112,7 +113,7 @@ down counts height tree level start place low is inside =
       rw (← two) here,
     )
 
--- the node this many levels down, first children all the way
+-- the node `deep` levels down, by first children only
 reach : ℕ → ℕ → ℕ
 reach zero node = node
 reach (suc deep) node = reach deep (node + node)
@@ -130,7 +131,7 @@ reach-one zero = refl
 reach-one (suc deep) = let one = reach-one deep in let two = reach-add deep 1 1 in
     omega (arith, one, two)
 
--- if the leaves count 64 at most, and the nodes from `from` on what their children count
+-- if the leaves count at most 64, and the nodes from `from` on the sums of their children
 module _ (counts : List ℕ) (height from : ℕ)
     (adds : AddsUpFrom (count_at counts) from (wide height))
     (leaves : (leaf : ℕ) → leaf < wide height → count_at counts (wide height + leaf) ≤ 64) where
@@ -141,7 +142,7 @@ module _ (counts : List ℕ) (height from : ℕ)
       let is : wide height + leaf ≡ node = omega (arith, past) in
       rw (← is) (leaves leaf (omega (arith, inside, past)))
 
-  -- a node this many levels above the leaves counts at most 64 times the leaves below it
+  -- a node `deep` levels above the leaves counts at most 64 times the number of leaves below it
   bound-by : (deep node : ℕ) → 0 < node → from ≤ node → node < wide height + wide height
       → wide height ≤ reach deep node → count_at counts node ≤ wide deep * 64
   unfolding reach
@@ -166,7 +167,7 @@ module _ (counts : List ℕ) (height from : ℕ)
             omega (arith, one, most)
       ]
 
-  -- no node from there on counts more than all slots
+  -- no node from `from` on counts more than the number of all slots
   bound-from : (node : ℕ) → 0 < node → from ≤ node → node < wide height + wide height
       → count_at counts node ≤ wide height * 64
   bound-from node some high inside =
@@ -176,7 +177,7 @@ module _ (counts : List ℕ) (height from : ℕ)
       let one = reach-one height in
       bound-by height node some high inside (omega (arith, add, one))
 
--- no node counts more than all slots
+-- no node counts more than the number of all slots
 pub node-bound : (counts : List ℕ) (height : ℕ) → IsTree counts height → (node : ℕ) → 0 < node
     → node < length counts
     → count_at counts node ≤ wide height * 64
@@ -191,7 +192,7 @@ module _ (old now : List ℕ) (size height : ℕ) (is : size ≡ wide height)
     (len : length now ≡ size + size)
     (leaves : (leaf : ℕ) → leaf < size → count_at old (size + leaf) ≤ 64)
     (stay : drop size now ≡ drop size old) where
-  -- the leaves count 64 at most still
+  -- the leaves still count at most 64
   leaves_now : (leaf : ℕ) → leaf < wide height → count_at now (wide height + leaf) ≤ 64
   leaves_now leaf inside =
       let same : count_at now (size + leaf) ≡ count_at old (size + leaf) =
@@ -203,7 +204,7 @@ module _ (old now : List ℕ) (size height : ℕ) (is : size ≡ wide height)
 
   module _ (node : ℕ) (adds : AddsUpFrom (count_at now) (suc node) size) (some : 0 < node)
       (inside : node < size) where
-    -- what two children count in all is a `u64`
+    -- the sum of two children's counts fits a `u64`
     pub children_bound : size ≤ 2 ^ 53
         → count_at now (node + node) + count_at now (suc (node + node)) ≤ 2 ^ 59 + 2 ^ 59
     children_bound few =
@@ -216,7 +217,7 @@ module _ (old now : List ℕ) (size height : ℕ) (is : size ≡ wide height)
         (omega (arith, some)) (omega (arith, is, inside)) in
         omega (arith, first, second, is, few)
 
-    -- with this node added up, so are all from it on
+    -- after the node is added up, all nodes from it on count the sums of their children
     pub adds_more : (sum : ℕ) → sum ≡ count_at now (node + node) + count_at now (suc (node + node))
         → AddsUpFrom (count_at (set now node sum)) node size
     adds_more sum sums at at_some high inner =
@@ -257,6 +258,6 @@ module _ (counts : List ℕ) (height : ℕ) (tree : IsTree counts height) where
       tree.inner in
       sym down ∙ above
 
-  -- the root counts what all leaves count
+  -- the root counts the sum of all leaves
   pub root-total : sums (count_at counts) (wide height) (wide height) ≡ count_at counts 1
   root-total = level-total height (omega arith)

@@ -1,5 +1,5 @@
--- A take: the node leaves the chain of its list, which its neighbours close, and all other lists
--- stay.
+-- A take removes the node from the chain of its list, joins the nodes next to it, and writes no
+-- node of another list.
 use Rattle.std.proofs.Common.{◌≡◌, ◌≢◌, ℕ, zero, suc, ◌+◌, ◌<◌, ◌≤◌, cond, ltb, List, [], length}
 use Rattle.std.proofs.Common.{get_or, map}
 use Rattle.std.proofs.Common.{set, Option, remove, refl, sym, ap, ◌∙◌, inl, inr, arith, unwrap_or}
@@ -26,16 +26,16 @@ module _ {T : Type 0} (old new : ℕ → Option (Node T)) (ends : Ends) (key : �
   not_gone other inside differs same =
       differs (chain.apart other place inside within (same ∙ is_there))
 
-  -- the node that goes names the one at the place before as its previous
+  -- the removed node names the node at the place before as its previous
   back_key : (before : ℕ) → suc before ≡ place → previous_key (old gone) ≡ key before
   back_key before is = ap (λ k. previous_key (old k)) (is_there ∙ ap key (sym is))
       ∙ chain.previous before (omega arith)
 
-  -- and the one at the place after as its next
+  -- and the node at the place after as its next
   front_key : suc place < ends.len → next_key (old gone) ≡ key (suc place)
   front_key more = ap (λ k. next_key (old k)) is_there ∙ chain.next place more
 
-  -- of the nodes that stay, only the one before the place has a new next, and only the one after it
+  -- of the other nodes, only the node before the place gets a new next, and only the node after it
   -- a new previous
   next_kept : (other : ℕ) → other < ends.len → other ≢ place → suc other ≢ place
       → next_key (new (key other)) ≡ next_key (old (key other))
@@ -58,14 +58,14 @@ module _ {T : Type 0} (old new : ℕ → Option (Node T)) (ends : Ends) (key : �
       (λ more same. absurd (not_behind
       (chain.apart other (suc place) inside more (same ∙ front_key more))))
 
-  -- the nodes before the place hold what they held
+  -- the nodes before the place have the same values as before
   unlink_same_below : (other : ℕ) → other < place
       → value_in (new (row other)) ≡ value_in (old (key other))
   unlink_same_below other before =
       rw (below other before) (change.items_stay (key other)
       (not_gone other (omega arith) (omega arith)))
 
-  -- and those after it what the ones a place further held
+  -- the nodes from the place on have the values that were one place further
   unlink_same_above : (other : ℕ) → place ≤ other → suc other < ends.len
       → value_in (new (row other)) ≡ value_in (old (key (suc other)))
   unlink_same_above other behind inside =
@@ -173,7 +173,7 @@ module _ {T : Type 0} (old new : ℕ → Option (Node T)) (ends : Ends) (key : �
             ];
       }
 
-  -- and its value the list
+  -- the list's values are the old ones without the item at the place
   pub unlink_items : values_of new after ≡ remove (values_of old ends) place
   unlink_items =
       let many : length (values_of old ends) ≡ ends.len = length-values_of old ends key chain in
@@ -201,25 +201,25 @@ module _ {T : Type 0} (old new : ℕ → Option (Node T)) (ends : Ends) (key : �
             (omega arith))
       ]))
 
--- ---- among all lists: the node that goes and its neighbours are this list's
+-- ---- among all lists: the removed node and the nodes next to it are this list's
 module _ {T : Type 0} (old new : ℕ → Option (Node T)) (ends : List Ends) (count capacity : ℕ)
     (sound : AreChains old ends count capacity) (list : ℕ) (in_range : list < length ends)
     (after : Ends)
     (place gone : ℕ) (value : T)
     (change : Unlinks old new (ends_at ends list) after place gone value)
     (within : place < len_of (ends_at ends list)) (is_there : gone ≡ sound.key list place) where
-  -- the keys of the list from then on: those that it had, without the one at the place
+  -- the keys of the list after the take: the old ones without the key at the place
   pub unlink_row : ℕ → ℕ
   unlink_row other = cond (ltb other place) (sound.key list other) (sound.key list (suc other))
 
-  -- before the place they are those that the list had
+  -- before the place they are the old keys
   pub unlink_row-below : (other : ℕ) → other < place → unlink_row other ≡ sound.key list other
   unfolding unlink_row
   unlink_row-below other before =
       cond-true (ltb other place) (sound.key list other) (sound.key list (suc other))
       (lt-ltb other place before)
 
-  -- from there on those a place further
+  -- from the place on they are the old keys one place further
   pub unlink_row-above : (other : ℕ) → place ≤ other → unlink_row other ≡ sound.key list (suc other)
   unfolding unlink_row
   unlink_row-above other behind =
@@ -233,7 +233,7 @@ module _ {T : Type 0} (old new : ℕ → Option (Node T)) (ends : List Ends) (co
   not_here other there here differs inside here_inside key is same =
       sound.disjoint other list there here differs inside here_inside (same ∙ is)
 
-  -- nor is it the one before the place
+  -- no node of another list is the node before the place
   not_back : (other there : ℕ) → other ≢ list → there < len_of (ends_at ends other) → 0 < place
       → sound.key other there ≢ previous_key (old gone)
   not_back other there differs inside some = by_place place refl some
@@ -266,7 +266,7 @@ module _ {T : Type 0} (old new : ℕ → Option (Node T)) (ends : List Ends) (co
       value change
       within is_there unlink_row unlink_row-below unlink_row-above
 
-  -- all is sound after a take, with one node fewer
+  -- after a take the arena is sound, with one node fewer
   pub unlink_sound : (new_count new_capacity : ℕ) → new_count + 1 ≡ count → new_count ≤ new_capacity
       → AreChains new (set ends list after) new_count new_capacity
   unlink_sound new_count new_capacity fewer room =
@@ -286,7 +286,7 @@ module _ {T : Type 0} (old new : ℕ → Option (Node T)) (ends : List Ends) (co
       (omega (arith, change.len))
       room
 
-  -- and of all lists only that one changed: it lost the item at the place
+  -- only the list of the take changed: it lost the item at the place
   pub unlink_lists : map (values_of new) (set ends list after)
       ≡ set (map (values_of old) ends) list
       (remove (get_or (map (values_of old) ends) list []) place)

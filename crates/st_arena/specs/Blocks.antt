@@ -1,4 +1,4 @@
--- The marks of all slots, in blocks of 64, and a tree whose leaves count the live slots of each
+-- The marks of all slots in blocks of 64, and a tree whose leaves each count the live slots of a
 -- block.
 use Rattle.std.specs.Prelude.{◌≡◌, ℕ, ◌+◌, ◌-◌, ◌*◌, ◌≤◌, ◌<◌, List, length, take, slice_index_or}
 use Rattle.std.specs.List.{sum}
@@ -8,7 +8,8 @@ use Rattle.st_arena.specs.Tree.{count_at, sums, wide, IsTree}
 abbrev pub AreMarks : List ℕ → Type 0
 AreMarks marks = (slot : ℕ) → slice_index_or marks slot 0 ≤ 1
 
--- each leaf has a block, and the first leaves count the live slots of as many blocks
+-- there are 64 marks for each leaf, and the counts of any number of first leaves add up to the
+-- live slots of their blocks
 pub record AreCounted (marks counts : List ℕ) (height : ℕ) : Type 0 where
   pub tree : IsTree counts height
   pub bits : AreMarks marks
@@ -16,7 +17,8 @@ pub record AreCounted (marks counts : List ℕ) (height : ℕ) : Type 0 where
   pub blocks : (count : ℕ) → count ≤ wide height
       → sums (count_at counts) (wide height) count ≡ sum (take (count * 64) marks)
 
--- the leaves count what is in each block if the first slots are live and all others dead
+-- the leaves count the live slots of their blocks if the first `live` slots are live and all
+-- others dead
 pub record CountsFirst (counts : List ℕ) (size live : ℕ) : Type 0 where
   pub full : (block : ℕ) → block < size → block * 64 + 64 ≤ live
       → count_at counts (size + block) ≡ 64

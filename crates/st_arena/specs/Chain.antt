@@ -1,5 +1,5 @@
--- How a list lies in the arena: its nodes, linked by the keys under which the slab keeps them.
--- No public clause cites this module.
+-- How a list lies in the arena: as nodes linked by the keys under which the slab keeps them. No
+-- public clause cites this module.
 use Rattle.std.specs.Prelude.{◌≡◌, ◌≢◌, ℕ, zero, suc, ◌<◌, ◌≤◌, List, [], ◌∷◌, ◌++◌, Option, Some}
 use Rattle.std.specs.Prelude.{None, IsSome, IfSome, sum_by, slice_index_or}
 use Rattle.std.specs.Option.{option_map, option_map_or}
@@ -14,12 +14,12 @@ len_of ends = ends.len
 abbrev pub no_ends : Ends
 no_ends = record { first = 0; last = 0; len = 0 }
 
--- the ends of the list of this number
+-- the ends of the list with the number `list`
 abbrev pub ends_at : List Ends → ℕ → Ends
 ends_at ends list = slice_index_or ends list no_ends
 
 module _ {T : Type 0} where
-  -- what is in a slot: its value, and the keys of its neighbours (0 if the slot is empty)
+  -- the value in a slot, and the keys of the nodes next to its node (0 if the slot is empty)
   abbrev pub value_in : Option (Node T) → Option T
   value_in slot = option_map (λ node. node.value) slot
 
@@ -29,7 +29,7 @@ module _ {T : Type 0} where
   abbrev pub previous_key : Option (Node T) → ℕ
   previous_key slot = option_map_or (λ node. node.previous) slot 0
 
--- there is a value in both, and R relates them
+-- both slots have a value, and R relates the old value to the new one
 pub record Turns {T : Type 0} (R : T → T → Type 0) (old new : Option T) : Type 0 where
   pub before : T
   pub after : T
@@ -37,9 +37,9 @@ pub record Turns {T : Type 0} (R : T → T → Type 0) (old new : Option T) : Ty
   pub is : new ≡ Some after
   pub related : R before after
 
--- from here on, `slots` gives what is under a key
+-- from here on, `slots` gives the node under a key, if there is one
 module _ {T : Type 0} (slots : ℕ → Option (Node T)) where
-  -- the values of n nodes in a row, from a key on
+  -- the values of `count` nodes in a row, from the node under `key` on
   abbrev pub values_from : ℕ → ℕ → List T
   values_from zero key = []
   values_from (suc count) key =
@@ -49,12 +49,12 @@ module _ {T : Type 0} (slots : ℕ → Option (Node T)) where
   abbrev pub values_of : Ends → List T
   values_of ends = values_from ends.len ends.first
 
-  -- the key n steps after this one
+  -- the key of the node that is `steps` steps after the node under `first`
   abbrev pub key_after : ℕ → ℕ → ℕ
   key_after first zero = first
   key_after first (suc steps) = next_key (slots (key_after first steps))
 
-  -- the keys of n nodes in a row, from a key on
+  -- the keys of `count` nodes in a row, from the node under `first` on
   abbrev pub keys : ℕ → ℕ → List ℕ
   keys zero first = []
   keys (suc count) first = keys count first ++ key_after first count ∷ []
@@ -63,13 +63,15 @@ module _ {T : Type 0} (slots : ℕ → Option (Node T)) where
   abbrev pub node_keys : Ends → List ℕ
   node_keys ends = keys ends.len ends.first
 
-  -- each ladder holds the keys of its list's nodes; `ladders` gives that of a list which has one
+  -- each ladder holds the keys of its list's nodes; `ladders` gives the ladder of a list that has
+  -- one
   abbrev pub AreLadders : List Ends → (ℕ → Option (List ℕ)) → Type 0
   AreLadders ends ladders = (list : ℕ)
       → IfSome (ladders list) (λ ladder. ladder ≡ node_keys (ends_at ends list))
 
-  -- the nodes of a list are under the keys key 0, key 1, .., each once, and each names its
-  -- neighbours. What the last node names as its next, and the first as its previous, is left open
+  -- the list's nodes are under the keys `key 0`, `key 1` and so on, each of them once, and each
+  -- node names its neighbours; what the first node names as its previous, and the last as its
+  -- next, is open
   pub record IsChain (ends : Ends) (key : ℕ → ℕ) : Type 0 where
     pub held : (place : ℕ) → place < ends.len → IsSome (value_in (slots (key place)))
     pub apart : (place other : ℕ) → place < ends.len → other < ends.len → key place ≡ key other
@@ -80,12 +82,12 @@ module _ {T : Type 0} (slots : ℕ → Option (Node T)) where
     pub previous : (place : ℕ) → suc place < ends.len
         → previous_key (slots (key (suc place))) ≡ key place
 
-  -- the same, under some keys
+  -- the list's nodes are a chain under some keys
   pub record IsChained (ends : Ends) : Type 0 where
     pub key : ℕ → ℕ
     pub chain : IsChain ends key
 
-  -- each list is a chain, no two share a node, and the chains have every node
+  -- each list is a chain, no two lists share a node, and every node is in one of the lists
   pub record AreChains (ends : List Ends) (node_count capacity : ℕ) : Type 0 where
     pub key : ℕ → ℕ → ℕ
     pub chain : (list : ℕ) → IsChain (ends_at ends list) (key list)
@@ -95,16 +97,15 @@ module _ {T : Type 0} (slots : ℕ → Option (Node T)) where
     pub total : sum_by len_of ends ≡ node_count
     pub within : node_count ≤ capacity
 
--- the ladders after a change of one list: it has that of these keys or none, and each other one has
--- the ladder that it had
+-- after a change of one list, the list's ladder, if it has one, holds the keys `wanted`, and the
+-- ladders of all other lists are as before
 pub record KeepsLadder (old new : ℕ → Option (List ℕ)) (list : ℕ) (wanted : List ℕ) : Type 0 where
   pub here : IfSome (new list) (λ ladder. ladder ≡ wanted)
   pub others : (other : ℕ) → other ≢ list → new other ≡ old other
 
--- how one change of the slots, from old to new, tells in them
+-- how the slots after a change, `new`, differ from those before it, `old`
 module _ {T : Type 0} (old new : ℕ → Option (Node T)) where
-  -- if the condition holds, the node under the key names another as its next, and nothing else
-  -- changed
+  -- if the condition holds, the node under `key` names `next` as its next; nothing else changed
   pub record SetsNext (condition : Type 0) (key next : ℕ) : Type 0 where
     pub items_stay : (other : ℕ) → value_in (new other) ≡ value_in (old other)
     pub previous_stay : (other : ℕ) → previous_key (new other) ≡ previous_key (old other)
@@ -112,7 +113,8 @@ module _ {T : Type 0} (old new : ℕ → Option (Node T)) where
         → next_key (new other) ≡ next_key (old other)
     pub mended : condition → next_key (new key) ≡ next
 
-  -- the same of its previous
+  -- if the condition holds, the node under `key` names `previous` as its previous; nothing else
+  -- changed
   pub record SetsPrevious (condition : Type 0) (key previous : ℕ) : Type 0 where
     pub items_stay : (other : ℕ) → value_in (new other) ≡ value_in (old other)
     pub next_stay : (other : ℕ) → next_key (new other) ≡ next_key (old other)
@@ -120,14 +122,15 @@ module _ {T : Type 0} (old new : ℕ → Option (Node T)) where
         → previous_key (new other) ≡ previous_key (old other)
     pub mended : condition → previous_key (new key) ≡ previous
 
-  -- the node under the key has another value, and nothing else changed
+  -- the node under `key` has the value `item`; nothing else changed
   pub record SetsItem (key : ℕ) (item : T) : Type 0 where
     pub next_stay : (other : ℕ) → next_key (new other) ≡ next_key (old other)
     pub previous_stay : (other : ℕ) → previous_key (new other) ≡ previous_key (old other)
     pub items_stay : (other : ℕ) → other ≢ key → value_in (new other) ≡ value_in (old other)
     pub changed : value_in (new key) ≡ Some item
 
-  -- a list with these ends got one node more, after its last one, and has the ends `after`
+  -- a node with the value `item` joined the list with the ends `ends` as its last one, and the
+  -- list's ends became `after`
   pub record Appends (ends after : Ends) (item : T) : Type 0 where
     pub key : ℕ
     pub was_vacant : old key ≡ None
@@ -144,8 +147,8 @@ module _ {T : Type 0} (old new : ℕ → Option (Node T)) where
     pub last : after.last ≡ key
     pub len : after.len ≡ suc ends.len
 
-  -- a list with these ends lost the node under the key, which was at the place, and has the ends
-  -- `after`
+  -- the node under `key`, at `place`, left the list with the ends `ends`, and the list's ends
+  -- became `after`
   pub record Unlinks (ends after : Ends) (place key : ℕ) (item : T) : Type 0 where
     pub held : value_in (old key) ≡ Some item
     pub items_stay : (other : ℕ) → other ≢ key → value_in (new other) ≡ value_in (old other)
@@ -163,8 +166,7 @@ module _ {T : Type 0} (old new : ℕ → Option (Node T)) where
     pub last_stays : suc place < ends.len → after.last ≡ ends.last
     pub len : suc after.len ≡ ends.len
 
-  -- each of the first `count` items of a list became another, related to it by R, and nothing else
-  -- changed
+  -- R relates the value of each of the first `count` nodes to its new value; nothing else changed
   pub record ChangesItems (R : T → T → Type 0) (first count : ℕ) : Type 0 where
     pub next_stay : (other : ℕ) → next_key (new other) ≡ next_key (old other)
     pub previous_stay : (other : ℕ) → previous_key (new other) ≡ previous_key (old other)

@@ -1,11 +1,11 @@
--- A queue that is kept in slots, for callers' proofs.
+-- A queue whose items have slots, for the proofs of callers.
 pub mod Queue
--- The definitions of public contracts: the lists as contracts see them, and the closures that are
--- called at their items.
+-- What public contracts cite: lists as contracts see them, and what closures return for their
+-- items.
 pub mod Arena
 pub mod Calls
--- For the parts alone: the blocks of marks, and the tree of counts.
+-- For this crate's own proofs: the marks in blocks, and the tree that counts them.
 pub mod Blocks
 pub mod Tree
--- For the parts alone, `chain.rt` above all: how a list lies in its nodes.
+-- For this crate's own proofs: how a list lies in its nodes.
 pub mod Chain

@@ -1,11 +1,11 @@
-//! The marks of one block, which are looked through one by one.
+//! The marks of one block, which a search reads one by one.
 
 ghost use Rattle.std.specs.Prelude.{◌≡◌, ◌<◌, length, take, slice_index_or};
 ghost use Rattle.std.specs.List.{sum};
 ghost use Rattle.st_arena.specs.Blocks.{AreMarks};
 
-/// The slots that are counted together: as many as a line of the processor's cache has bytes. So a
-/// search waits for memory once there, and the tree above is small.
+/// The number of slots that a leaf of the tree counts: as many as a line of the processor's cache
+/// has bytes. So a search waits for memory once in a block, and the tree stays small.
 pub(crate) const BLOCK: usize = 64;
 
 pub(crate) fn count(marks: &[u8]) -> u64
@@ -19,7 +19,7 @@ pub(crate) fn count(marks: &[u8]) -> u64
     live
 }
 
-/// Returns the place of the live slot with this many live slots before it.
+/// Returns the place of the live slot that has `wanted` live slots before it.
 pub(crate) fn place_of(marks: &[u8], wanted: u64) -> usize
     requires marks { AreMarks marks.now }
     requires there { wanted < sum marks.now }

@@ -1,4 +1,4 @@
-//! All blocks, and the tree above them.
+//! The marks of all blocks, and the tree that counts them.
 
 ghost use Rattle.std.specs.Prelude.{◌≡◌, ◌+◌, ◌-◌, ◌/◌, ◌%◌, ◌^◌, ◌<◌, ◌≤◌, ◌∷◌, ◌++◌, IfOk};
 ghost use Rattle.std.specs.Prelude.{length, replicate, take, slice_set, slice_index_or};
@@ -10,7 +10,7 @@ use crate::block::{BLOCK, count, place_of};
 use crate::tree::{add_up, count_down, count_up, rank_in, select_in};
 use std::alloc::{AllocError, Global};
 
-/// Makes the marks of this many slots, the first of which are live.
+/// Makes the marks of `slots` slots, the first `live` of them live.
 pub(crate) fn new_marks(alloc: Global, slots: usize, live: usize) -> Result<Vec<u8>, AllocError>
     requires { live ≤ slots }
     ensures { IfOk result (λ marks. marks.items
@@ -22,7 +22,7 @@ pub(crate) fn new_marks(alloc: Global, slots: usize, live: usize) -> Result<Vec<
     Ok(marks)
 }
 
-/// Makes the leaves of a new tree, after as many nodes that count nothing yet.
+/// Makes the list of a new tree's nodes: 0 for each node above the leaves, and then the leaves.
 fn new_leaves(alloc: Global, size: usize, live: usize) -> Result<Vec<u64>, AllocError>
     requires few { size ≤ 2 ^ 53 }
     requires within { live / 64 < size }
@@ -37,7 +37,7 @@ fn new_leaves(alloc: Global, size: usize, live: usize) -> Result<Vec<u64>, Alloc
     Ok(counts)
 }
 
-/// Makes the tree over this many blocks, of whose slots the first are live.
+/// Makes the tree over `size` blocks, if the first `live` slots are live.
 pub(crate) fn new_counts(
     alloc: Global,
     size: usize,
@@ -55,7 +55,7 @@ pub(crate) fn new_counts(
     Ok(counts)
 }
 
-/// How many live slots are before this one.
+/// Returns how many live slots are before `slot`.
 pub(crate) fn live_before(
     marks: &[u8],
     counts: &[u64],
@@ -72,7 +72,7 @@ pub(crate) fn live_before(
     rank_in(counts, size, height, block) + count(&marks[block * BLOCK..slot])
 }
 
-/// Returns the live slot with this many live slots before it.
+/// Returns the live slot that has `wanted` live slots before it.
 pub(crate) fn live_slot(
     marks: &[u8],
     counts: &[u64],
@@ -87,8 +87,7 @@ pub(crate) fn live_slot(
     ensures live { slice_index_or marks.now result 0 ≡ 1 }
     ensures rank { sum (take result marks.now) ≡ wanted }
 {
-    // That the number of slots is a `usize` is known where it is read, and so the sum stays in
-    // range.
+    // Reads the length: only then is it known to be a `usize`, so that the sum below fits.
     let _slot_count = marks.len();
     let (block, left) = select_in(counts, size, height, wanted);
     let start = block * BLOCK;

@@ -1,6 +1,6 @@
-//! The chain of one list: how it is walked, and how a node joins and leaves it. No caller of the
-//! crate sees this. Each function takes the slab and the ends of one list, and changes the nodes of
-//! that list alone; `lists` puts the ends back.
+//! The chain of one list: how it is walked, and how a node joins and leaves it. Each function
+//! takes the slab and the ends of one list, and changes only nodes of that list; `lists` stores
+//! the new ends.
 
 ghost use Rattle.std.specs.Prelude.{◌≡◌, ◌+◌, ◌<◌, ◌≤◌, ℕ, suc, length, Some, None, true, false};
 ghost use Rattle.std.specs.Prelude.{IfSome, IfNone};
@@ -13,12 +13,11 @@ ghost use Rattle.st_arena.specs.Chain.{Appends, Unlinks, ChangesItems};
 use crate::node::{Ends, NONE, Node, set_next, set_previous, set_value};
 use slab::Slab;
 
-/// The length up to which a search from both ends looks at more items than one from the
-/// front alone, since most that are looked for lie near the front. And one from the front can't
-/// take long there.
+/// The greatest length at which a list is searched from the front alone. Most items that are
+/// looked for are near the front, where a search from both ends reads more items.
 const FEW: u64 = 512;
 
-/// The key of the node at a place, found from the nearer end.
+/// Returns the key of the node at a place, by a walk from the nearer end.
 pub(crate) fn key_at<T>(nodes: &Slab<Node<T>>, ends: Ends, place: u64) -> usize
     requires chained { IsChained (get nodes.now) ends }
     requires in_range { place < ends.len }
@@ -57,7 +56,7 @@ fn key_from_last<T>(nodes: &Slab<Node<T>>, ends: Ends, place: u64) -> usize
     key
 }
 
-/// Adds a node with `value` after the last one, and returns the list's ends from then on.
+/// Adds a node with `value` after the last one, and returns the list's new ends.
 pub(crate) fn append<T>(nodes: &mut Slab<Node<T>>, ends: Ends, value: T) -> Ends
     requires room { HasRoomFor nodes.old 1 }
     requires last { 0 < ends.len → ContainsKey nodes.old ends.last }
@@ -71,8 +70,8 @@ pub(crate) fn append<T>(nodes: &mut Slab<Node<T>>, ends: Ends, value: T) -> Ends
         next: NONE,
         previous: ends.last,
     });
-    // No list has more nodes than there are. That their number is a `usize` is known where it is
-    // read, and so the length that is counted up below stays within its type.
+    // Reads the number of nodes: only then is it known to be a `usize`. No list is longer, so a
+    // list's length plus 1 fits.
     let _node_count = nodes.len();
     if ends.len == 0 {
         return Ends {
@@ -89,7 +88,7 @@ pub(crate) fn append<T>(nodes: &mut Slab<Node<T>>, ends: Ends, value: T) -> Ends
     }
 }
 
-/// Takes the node at a place out, and returns the list's ends from then on, and its value.
+/// Removes the node at a place, and returns the list's new ends and the node's value.
 pub(crate) fn unlink<T>(nodes: &mut Slab<Node<T>>, ends: Ends, place: u64, key: usize) -> (Ends, T)
     requires chained { IsChained (get nodes.old) ends }
     requires in_range { place < ends.len }
@@ -114,7 +113,7 @@ pub(crate) fn unlink<T>(nodes: &mut Slab<Node<T>>, ends: Ends, place: u64, key: 
     (ends, value)
 }
 
-// Links the node before the place to the one after it, if there is one before, and returns the
+// Links the node before the removed one, if there is one, to the node after it, and returns the
 // list's first key.
 fn mend_next<T>(
     nodes: &mut Slab<Node<T>>,
@@ -137,8 +136,8 @@ fn mend_next<T>(
     ends.first
 }
 
-// Links the node after the place to the one before it, if there is one after, and returns the
-// list's last key.
+// Links the node after the removed one, if there is one, back to the node before it, and returns
+// the list's last key.
 fn mend_previous<T>(
     nodes: &mut Slab<Node<T>>,
     ends: Ends,
@@ -162,7 +161,7 @@ fn mend_previous<T>(
     ends.last
 }
 
-/// The least place whose item `pred` returns true for.
+/// Returns the least place whose item `pred` returns true for.
 pub(crate) fn first_answered<T, F: Fn(&T) -> bool>(
     nodes: &Slab<Node<T>>,
     ends: Ends,
@@ -186,8 +185,8 @@ pub(crate) fn first_answered<T, F: Fn(&T) -> bool>(
     None
 }
 
-/// A place whose item `pred` is true of: looked for from the front if there are few items, and else
-/// from both ends at once.
+/// Returns a place whose item `pred` returns true for, by a search from the front if the list is
+/// short, and otherwise from both ends at once.
 pub(crate) fn any_answered<T, F: Fn(&T) -> bool>(
     nodes: &Slab<Node<T>>,
     ends: Ends,
@@ -207,7 +206,6 @@ pub(crate) fn any_answered<T, F: Fn(&T) -> bool>(
     }
 }
 
-/// Searches from both ends at once.
 fn answered_from_ends<T, F: Fn(&T) -> bool>(
     nodes: &Slab<Node<T>>,
     ends: Ends,
@@ -237,7 +235,7 @@ fn answered_from_ends<T, F: Fn(&T) -> bool>(
     None
 }
 
-/// Puts `change(&item)` in the place of each item, from the first on.
+/// Replaces each item by `change(&item)`, from the first on.
 pub(crate) fn change_items<T: Drop, F: Fn(&T) -> T>(
     nodes: &mut Slab<Node<T>>,
     ends: Ends,

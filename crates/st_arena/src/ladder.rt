@@ -1,6 +1,5 @@
-//! The ladders of long lists: the keys of a list's nodes by place, each found in few steps. No
-//! caller of the crate sees them. A ladder is only an aid: if memory for it runs out, the list is
-//! walked without one.
+//! The ladders of long lists: the keys of a list's nodes by place, each found in few steps. If
+//! memory for a ladder runs out, the list is walked.
 
 ghost use Rattle.std.specs.Prelude.{◌≡◌, ◌<◌, [], ◌∷◌, ◌++◌, map, remove, slice_get, nat_eq};
 ghost use Rattle.std.specs.Prelude.{Some, None, IfSome, IfOk, OnOk};
@@ -16,27 +15,27 @@ use std::alloc::{AllocError, Global};
 use std::collections::HashMap;
 use std::marker::Model;
 
-/// A list gets a ladder once a take has walked so far from either end: a shorter walk costs less
-/// than a ladder does. So a list that gives up its first or last items alone never has one.
+/// The least distance from both ends at which a take gives its list a ladder: a shorter walk costs
+/// less than a ladder does. So a list that only loses items near its ends never has one.
 const FAR: u64 = 256;
 
-/// A list with fewer nodes loses its ladder. That is so few that no walk in it is far.
+/// The least length at which a list keeps its ladder: in a shorter list no walk is far.
 const SHORT: u64 = 256;
 
-/// The places from either end up to which a walk costs less than the ladder.
+/// The distance from either end up to which a walk costs less than the ladder.
 const NEAR: u64 = 8;
 
-/// A ladder with fewer live slots than this part of all is made anew, so that its memory is bounded
-/// by that of the list.
+/// A ladder is dropped if less than one in `SPARSE` of its slots is live, so that the list's
+/// length bounds its memory.
 const SPARSE: u64 = 8;
 
-/// The ladders of those lists that have one, by the list's number.
+/// The ladders by the numbers of their lists.
 pub(crate) type Ladders = HashMap<usize, Ladder>;
 
-/// The keys of one list's nodes, from the first on. A contract sees the list of these keys.
+/// The keys of one list's nodes, from the first on. A contract sees the list of keys.
 ///
 /// Each key has a slot, in the order in which the nodes joined the list. When a node leaves, its
-/// slot is emptied and is dead from then on. So the rank of a live slot is the place of its node.
+/// slot becomes empty and dead, and stays so. So the rank of a live slot is the place of its node.
 #[derive(Drop)]
 pub(crate) struct Ladder {
     slots: Vec<Option<usize>>,
@@ -55,7 +54,7 @@ impl Model for Ladder {
 }
 
 impl Ladder {
-    // The ladder of a list, with slots for at least half as many nodes more.
+    // Makes the ladder of a list, with slots for at least half as many nodes more.
     fn new<T>(alloc: Global, nodes: &Slab<Node<T>>, ends: Ends) -> Result<Ladder, AllocError>
         requires chained { IsChained (get nodes.now) ends }
         ensures { IfOk result (λ ladder. ladder ≡ node_keys (get nodes.now) ends) }
@@ -68,7 +67,7 @@ impl Ladder {
         Ok(Ladder { slots, ranks })
     }
 
-    // The key of the node at a place.
+    // Returns the key of the node at a place.
     fn key_at(&self, place: u64) -> Option<usize>
         ensures { result ≡ slice_get self.now place }
     {
@@ -76,7 +75,7 @@ impl Ladder {
         self.slots[slot]
     }
 
-    // The ladder with a key more at its end, if there is a slot for it.
+    // Returns the ladder with `key` at its end, or nothing if no slot is left.
     fn add(mut self, key: usize) -> Option<Ladder>
         ensures { IfSome result (λ ladder. ladder ≡ self ++ key ∷ []) }
     {
@@ -91,8 +90,8 @@ impl Ladder {
         Some(self)
     }
 
-    // The ladder without the key at a place, unless so few slots are live that a new ladder does
-    // better.
+    // Returns the ladder without the key at a place, or nothing if too few slots are live for it
+    // to be worth keeping.
     fn remove(mut self, place: u64) -> Option<Ladder>
         ensures { IfSome result (λ ladder. ladder ≡ remove self place) }
     {
@@ -106,7 +105,6 @@ impl Ladder {
     }
 }
 
-// Adds the keys of a list's nodes, from the first on.
 fn push_keys<T>(
     slots: &mut Vec<Option<usize>>,
     nodes: &Slab<Node<T>>,
@@ -125,8 +123,8 @@ fn push_keys<T>(
     Ok(())
 }
 
-/// The key of the node at a place of a list: by the list's ladder, unless it has none or a walk
-/// from the nearer end is short.
+/// Returns the key of the node at a place of a list: by the list's ladder, or by a walk if there
+/// is none or the nearer end is close.
 pub(crate) fn find_key<T>(
     ladders: &Ladders,
     list: usize,
@@ -154,7 +152,7 @@ pub(crate) fn find_key<T>(
     }
 }
 
-/// Adds the last node of a list, which has just joined it, to the list's ladder.
+/// Adds the key of a list's last node, which has just joined the list, to the list's ladder.
 pub(crate) fn follow_push<T>(
     ladders: &mut Ladders,
     list: usize,
@@ -178,7 +176,7 @@ pub(crate) fn follow_push<T>(
     keep_ladder(ladders, list, ladder, false, alloc, nodes, ends);
 }
 
-/// Takes the node that has just left a place of a list out of the list's ladder.
+/// Removes the key of the node that has just left a place of a list from the list's ladder.
 pub(crate) fn follow_take<T>(
     ladders: &mut Ladders,
     list: usize,
@@ -204,13 +202,13 @@ pub(crate) fn follow_take<T>(
     keep_ladder(ladders, list, ladder, is_far, alloc, nodes, ends);
 }
 
-// Gives a list this ladder, or, if there is none, a new one if one is wanted. If memory runs out,
-// the list has none.
+// Stores `ladder` as the list's, or a new one if it is `None` and `is_wanted` is true. If memory
+// runs out, the list has none.
 //
-// A list that lost its ladder gets one at the next take that walks far. It loses it only when all
-// its slots are used or most are dead, which takes at least half as many pushes or takes as it had
-// keys; and if memory runs out, it does so before the first step. So the steps for all ladders grow
-// as the number of calls.
+// A list that lost its ladder gets one at the next take that walks far. It loses its ladder if the
+// list becomes short, if all slots are used or if most are dead, which takes at least half as many
+// pushes or takes as the ladder had keys when it was made. So while there is memory, the steps for
+// all ladders grow as the number of calls.
 fn keep_ladder<T>(
     ladders: &mut Ladders,
     list: usize,

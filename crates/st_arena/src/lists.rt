@@ -1,4 +1,4 @@
-//! The arena of lists, and all that a caller does with it but the walk.
+//! The arena of lists, and all calls on it.
 
 use crate::chain::{any_answered, append, change_items, first_answered, unlink};
 use crate::ladder::{Ladders, find_key, follow_push, follow_take};
@@ -11,7 +11,7 @@ use std::marker::Model;
 
 /// A fixed number of lists whose nodes lie in one arena.
 ///
-/// A contract sees the lists, and `spare`: how many more values fit with no allocation.
+/// A contract sees the lists and `spare`, the number of values for which there is room already.
 #[derive(Drop)]
 pub struct Lists<T> {
     alloc: Global,
@@ -53,7 +53,7 @@ impl<T> Lists<T> {
     ghost use Rattle.st_arena.specs.Arena.{list_at};
     ghost use Rattle.st_arena.specs.Calls.{Computes, IsAnswered, IsFirstAnswered, PassesOnce};
 
-    /// As many empty lists, with nothing spare.
+    /// Makes `lists` empty lists, without room for values. Fails if memory runs out.
     pub fn new(alloc: Global, lists: usize) -> Result<Lists<T>, AllocError>
         ensures empty { IfOk result (λ arena. arena.lists ≡ replicate lists []) }
         ensures spare { IfOk result (λ arena. arena.spare ≡ 0) }
@@ -72,8 +72,8 @@ impl<T> Lists<T> {
         })
     }
 
-    /// Makes room for `additional` more values, on any lists. If there is room already, nothing
-    /// changes.
+    /// Makes room for `additional` more values, on any lists, and changes nothing if there is room
+    /// already. Fails if memory runs out.
     pub fn reserve(&mut self, additional: usize) -> Result<(), AllocError>
         ensures room { OnOk result (additional ≤ self.new.spare) }
         ensures succeeds { additional ≤ self.old.spare → IsOk result }
@@ -84,7 +84,7 @@ impl<T> Lists<T> {
         self.nodes.reserve(additional)
     }
 
-    /// Adds `value` at the end of a list, or hands it back if memory runs out.
+    /// Adds `value` at the end of a list. If memory runs out, the error has the value.
     pub fn push_back(&mut self, list: usize, value: T) -> Result<(), AllocFailed<T>>
         requires { list < length self.old.lists }
         ensures pushed { OnOk result (
@@ -95,7 +95,8 @@ impl<T> Lists<T> {
         ensures lists_stay { OnErr result (self.new.lists ≡ self.old.lists) }
         ensures value_returned { IfErr result (λ failed. failed.value ≡ value) }
 
-        // The push takes a spare place. If there was none, some may be spare once the arena grew.
+        // The push uses one spare place. If nothing was spare, the arena may grow by several
+        // places.
         ensures had_room { 0 < self.old.spare → self.old.spare ≡ self.new.spare + 1 }
     {
         let Ok(()) = self.reserve(1) else {
@@ -105,7 +106,7 @@ impl<T> Lists<T> {
         Ok(())
     }
 
-    /// Adds `value` at the end of a list, in a place that is spare.
+    /// Adds `value` at the end of a list, in a spare place.
     pub fn push_reserved(&mut self, list: usize, value: T)
         requires in_range { list < length self.old.lists }
         requires room { 0 < self.old.spare }
@@ -118,7 +119,7 @@ impl<T> Lists<T> {
         follow_push(&mut self.ladders, list, self.alloc, &self.nodes, ends);
     }
 
-    /// How many items a list has.
+    /// Returns how many items a list has.
     pub fn len(&self, list: usize) -> u64
         requires { list < length self.now.lists }
         ensures { result ≡ length (list_at self.now list) }
@@ -126,7 +127,7 @@ impl<T> Lists<T> {
         self.ends[list].len
     }
 
-    /// The item at a place of a list, if the list is that long.
+    /// Returns the item at a place of a list, if the list is that long.
     pub fn get(&self, list: usize, place: u64) -> Option<&T>
         requires { list < length self.now.lists }
         ensures { option_copied result ≡ slice_get (list_at self.now list) place }
@@ -139,8 +140,8 @@ impl<T> Lists<T> {
         Some(&self.nodes[key].value)
     }
 
-    /// Takes the item at a place out of a list, if the list is that long. Its node is spare from
-    /// then on.
+    /// Removes the item at a place of a list and returns it, if the list is that long. Its node
+    /// becomes spare.
     pub fn take_at(&mut self, list: usize, place: u64) -> Option<T>
         requires { list < length self.old.lists }
         ensures value { result ≡ slice_get (list_at self.old list) place }
@@ -167,7 +168,7 @@ impl<T> Lists<T> {
         Some(value)
     }
 
-    /// The least place of a list whose item `pred` returns true for.
+    /// Returns the least place of a list whose item `pred` returns true for.
     pub fn find_first<F: Fn(&T) -> bool>(&self, list: usize, pred: &F) -> Option<u64>
         requires in_range { list < length self.now.lists }
         requires callable { F.IsAlwaysCallable pred.now }
@@ -176,7 +177,7 @@ impl<T> Lists<T> {
         ensures absent { IfNone result ((place : ℕ) → place < length (list_at self.now list) →
             IsAnswered (FnReturnsAt F.Fn pred.now) (list_at self.now list) place false) }
 
-        // So it is the position that a test has, if `pred` computes that test.
+        // If `pred` computes a test, the result is the test's position in the list.
         ensures position { (test : T → Bool) →
             Computes (FnReturnsAt F.Fn pred.now) test (list_at self.now list) →
             result ≡ position test (list_at self.now list) }
@@ -184,9 +185,9 @@ impl<T> Lists<T> {
         first_answered(&self.nodes, self.ends[list], pred)
     }
 
-    /// A place of a list whose item `pred` is true of. In a list of at most 512 items it is the
-    /// first, in a longer one the least from the nearer end, so that it takes as many steps as the
-    /// place is from there.
+    /// Returns a place of a list whose item `pred` returns true for: the least if the list has at
+    /// most 512 items, and otherwise the nearest to either end, in as many steps as it is away
+    /// from there.
     pub fn find_any<F: Fn(&T) -> bool>(&self, list: usize, pred: &F) -> Option<u64>
         requires in_range { list < length self.now.lists }
         requires callable { F.IsAlwaysCallable pred.now }
@@ -195,8 +196,8 @@ impl<T> Lists<T> {
         ensures absent { IfNone result ((place : ℕ) → place < length (list_at self.now list) →
             IsAnswered (FnReturnsAt F.Fn pred.now) (list_at self.now list) place false) }
 
-        // So it is the position that a test has, if `pred` computes that test and one item at most
-        // passes.
+        // If `pred` computes a test that at most one item passes, the result is the test's
+        // position in the list.
         ensures position { (test : T → Bool) →
             Computes (FnReturnsAt F.Fn pred.now) test (list_at self.now list) →
             PassesOnce test (list_at self.now list)
@@ -205,7 +206,7 @@ impl<T> Lists<T> {
         any_answered(&self.nodes, self.ends[list], pred)
     }
 
-    /// Puts `change(&item)` in the place of each item of a list, from the first on.
+    /// Replaces each item of a list by `change(&item)`, from the first on.
     pub fn change_all<F: Fn(&T) -> T>(&mut self, list: usize, change: &F)
     where
         T: Drop,
@@ -216,7 +217,7 @@ impl<T> Lists<T> {
         ensures changed { AllZip (FnReturnsAt F.Fn change.now)
             (list_at self.old list) (list_at self.new list) }
 
-        // So it is the list mapped by a function, if `change` computes that function.
+        // If `change` computes a function, the list is mapped by that function.
         ensures mapped { (function : T → T) →
             Computes (FnReturnsAt F.Fn change.now) function (list_at self.old list) →
             self.new.lists ≡ slice_set self.old.lists list (map function (list_at self.old list)) }
@@ -225,7 +226,7 @@ impl<T> Lists<T> {
         change_items(&mut self.nodes, self.ends[list], change)
     }
 
-    /// An iterator over a list's items, from the first on.
+    /// Returns an iterator over a list's items, from the first on.
     pub fn walk(&self, list: usize) -> Walk<'_, T>
         requires { list < length self.now.lists }
         ensures { result ≡ list_at self.now list }

@@ -1,5 +1,4 @@
-//! One node, the ends of one list, and the writes of one field of a node. No caller of the crate
-//! sees them.
+//! One node, the ends of one list, and functions that write one field of a node.
 
 ghost use Rattle.std.specs.Prelude.{◌≡◌, ⊤};
 ghost use Rattle.slab.specs.Slab.{get, ContainsKey, slab_len};
@@ -7,11 +6,11 @@ ghost use Rattle.st_arena.specs.Chain.{SetsNext, SetsPrevious, SetsItem};
 
 use slab::Slab;
 
-/// The neighbour of a node that has none, and an end of an empty list. It is never followed: a
-/// list's length says where it ends.
+/// The key where there is no node: at both ends of an empty list, as the previous of a first node
+/// and as the next of a last one. No walk follows it, since the list's length ends the walk.
 pub(crate) const NONE: usize = usize::MAX;
 
-/// A value of some list, and the keys of its neighbours in that list.
+/// A value of a list, and the keys of the nodes next to it in that list.
 #[derive(Drop)]
 pub(crate) struct Node<T> {
     pub value: T,
@@ -19,8 +18,8 @@ pub(crate) struct Node<T> {
     pub previous: usize,
 }
 
-/// Where a list begins and ends, and how many nodes it has. The keys mean something only if it has
-/// some.
+/// The keys of a list's first and last nodes, and the number of its nodes. If there are none, the
+/// keys mean nothing.
 #[derive(Clone, Copy)]
 pub(crate) struct Ends {
     pub first: usize,
@@ -28,7 +27,7 @@ pub(crate) struct Ends {
     pub len: u64,
 }
 
-/// Links the node under `key` to the one under `next`.
+/// Links the node under `key` to the node under `next`.
 pub(crate) fn set_next<T>(nodes: &mut Slab<Node<T>>, key: usize, next: usize)
     requires { ContainsKey nodes.old key }
     ensures links { SetsNext (get nodes.old) (get nodes.new) ⊤ key next }
@@ -38,7 +37,7 @@ pub(crate) fn set_next<T>(nodes: &mut Slab<Node<T>>, key: usize, next: usize)
     nodes[key].next = next;
 }
 
-/// Links the node under `key` back to the one under `previous`.
+/// Links the node under `key` back to the node under `previous`.
 pub(crate) fn set_previous<T>(nodes: &mut Slab<Node<T>>, key: usize, previous: usize)
     requires { ContainsKey nodes.old key }
     ensures links { SetsPrevious (get nodes.old) (get nodes.new) ⊤ key previous }
@@ -48,7 +47,7 @@ pub(crate) fn set_previous<T>(nodes: &mut Slab<Node<T>>, key: usize, previous: u
     nodes[key].previous = previous;
 }
 
-/// Puts `value` in the place of the value under `key`.
+/// Replaces the value of the node under `key`.
 pub(crate) fn set_value<T: Drop>(nodes: &mut Slab<Node<T>>, key: usize, value: T)
     requires { ContainsKey nodes.old key }
     ensures item { SetsItem (get nodes.old) (get nodes.new) key value }

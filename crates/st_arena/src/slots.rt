@@ -1,4 +1,4 @@
-//! Slots that are live or dead, seen as a list of ones and zeros.
+//! Slots that are live or dead, which contracts see as a list of ones and zeros.
 
 use crate::block::BLOCK;
 use crate::blocks::{live_before, live_slot, new_counts, new_marks, set_dead, set_live};
@@ -6,13 +6,13 @@ use crate::tree::count_live;
 use std::alloc::{AllocError, Global};
 use std::marker::Model;
 
-/// The most slots that there are ever, so that no number of them overflows as it is rounded up.
+/// The greatest number of slots that `new` accepts: rounding it up doesn't overflow.
 const MOST_SLOTS: usize = usize::MAX / BLOCK;
 
 /// A fixed number of slots, each live or dead.
 ///
-/// A contract sees the list of them: 1 for a live slot, 0 for a dead one. So the rank of a slot is
-/// a sum: that of the slots before it.
+/// A contract sees the slots' marks: 1 for a live slot, 0 for a dead one. The rank of a slot is
+/// the sum of the marks before it.
 #[derive(Drop)]
 pub struct Ranks {
     marks: Vec<u8>,
@@ -40,8 +40,8 @@ impl Ranks {
     ghost use Rattle.std.specs.Prelude.{IfNone};
     ghost use Rattle.std.specs.List.{sum};
 
-    /// At least this many slots, the first `live` of them live and all others dead. They are in
-    /// blocks of 64, of which there are as many as a power of two.
+    /// Makes at least `slots` slots, of which the first `live` are live: blocks of 64, and as many
+    /// blocks as a power of two. Fails if memory runs out or `slots` is above `usize::MAX / 64`.
     pub fn new(alloc: Global, slots: usize, live: usize) -> Result<Ranks, AllocError>
         requires within { live ≤ slots }
         ensures marks { IfOk result (λ ranks.
@@ -62,21 +62,21 @@ impl Ranks {
         })
     }
 
-    /// How many slots there are, live and dead.
+    /// Returns how many slots there are, live and dead.
     pub fn len(&self) -> usize
         ensures { result ≡ length self.now }
     {
         self.marks.len()
     }
 
-    /// How many slots are live.
+    /// Returns how many slots are live.
     pub fn live(&self) -> u64
         ensures { result ≡ sum self.now }
     {
         count_live(&self.counts, self.height)
     }
 
-    /// How many live slots are before this one.
+    /// Returns how many live slots are before `slot`.
     pub fn rank(&self, slot: usize) -> u64
         requires { slot < length self.now }
         ensures { result ≡ sum (take slot self.now) }
@@ -84,7 +84,7 @@ impl Ranks {
         live_before(&self.marks, &self.counts, self.size, self.height, slot)
     }
 
-    /// Returns the live slot with this many live slots before it, if there is one.
+    /// Returns the live slot that has `rank` live slots before it, if there is one.
     pub fn select(&self, rank: u64) -> Option<usize>
         ensures in_range { IfSome result (λ slot. slot < length self.now) }
         ensures live { IfSome result (λ slot. slice_index_or self.now slot 0 ≡ 1) }
@@ -131,7 +131,7 @@ impl Ranks {
 ghost use Rattle.std.specs.Prelude.{◌≡◌, ◌+◌, ◌≤◌, ◌^◌};
 ghost use Rattle.st_arena.specs.Tree.{wide};
 
-// Returns the size of the least tree over this many blocks, and its height.
+// Returns the size of the least tree over `blocks` blocks, and its height.
 fn size_over(blocks: usize) -> (usize, usize)
     requires few { blocks ≤ 2 ^ 52 + 1 }
     ensures room { blocks ≤ result.0 }

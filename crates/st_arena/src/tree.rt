@@ -1,5 +1,5 @@
-//! The tree: the root is node 1, and node k has the children 2k and 2k + 1; a leaf counts the live
-//! slots of one block.
+//! The tree of counts: node 1 is the root, node k has the children 2k and 2k + 1, and each leaf
+//! counts the live slots of one block.
 
 ghost use Rattle.std.specs.Prelude.{◌≡◌, ◌+◌, ◌<◌, ◌≤◌, ◌^◌, ℕ, length, drop, true};
 ghost use Rattle.std.specs.Prelude.{false};
@@ -12,7 +12,7 @@ pub(crate) fn count_live(counts: &[u64], height: usize) -> u64
     counts[1]
 }
 
-/// How many slots are live in the blocks before this one.
+/// Returns how many slots are live in the blocks before `block`.
 #[tactic(auto, using(crate::proofs::TreeLemmas::within))]
 pub(crate) fn rank_in(counts: &[u64], size: usize, height: usize, block: usize) -> u64
     requires tree { IsTree counts.now height }
@@ -20,8 +20,7 @@ pub(crate) fn rank_in(counts: &[u64], size: usize, height: usize, block: usize) 
     requires in_range { block < size }
     ensures { result ≡ sums (count_at counts.now) size block }
 {
-    // That the number of nodes is a `usize` is known where it is read, and so the sums below stay
-    // in range.
+    // Reads the length: only then is it known to be a `usize`, so that the sums below fit.
     let _node_count = counts.len();
     let mut sum = 0;
     let mut start = size;
@@ -38,7 +37,7 @@ pub(crate) fn rank_in(counts: &[u64], size: usize, height: usize, block: usize) 
     sum
 }
 
-/// Returns the block of the live slot with this many live slots before it, and how many of these
+/// Returns the block of the live slot that has `wanted` live slots before it, and how many of them
 /// are in the block.
 pub(crate) fn select_in(counts: &[u64], size: usize, height: usize, wanted: u64) -> (usize, u64)
     requires tree { IsTree counts.now height }
@@ -65,7 +64,7 @@ pub(crate) fn select_in(counts: &[u64], size: usize, height: usize, wanted: u64)
     (place, left)
 }
 
-/// Counts a block's live slots down by one.
+/// Subtracts 1 from the live slots of a block, in its leaf and all nodes above.
 pub(crate) fn count_down(counts: &mut [u64], size: usize, height: usize, block: usize)
     requires tree { IsTree counts.old height }
     requires size { size ≡ wide height }
@@ -82,7 +81,7 @@ pub(crate) fn count_down(counts: &mut [u64], size: usize, height: usize, block: 
     }
 }
 
-/// Counts a block's live slots up by one.
+/// Adds 1 to the live slots of a block, in its leaf and all nodes above.
 pub(crate) fn count_up(counts: &mut [u64], size: usize, height: usize, block: usize)
     requires tree { IsTree counts.old height }
     requires size { size ≡ wide height }
@@ -99,7 +98,7 @@ pub(crate) fn count_up(counts: &mut [u64], size: usize, height: usize, block: us
     }
 }
 
-/// Counts in each inner node what its children count.
+/// Writes into each inner node the sum of its children's counts.
 pub(crate) fn add_up(counts: &mut [u64], size: usize, height: usize)
     requires len { length counts.old ≡ size + size }
     requires size { size ≡ wide height }

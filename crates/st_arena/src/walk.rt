@@ -7,12 +7,11 @@ use crate::node::Node;
 use slab::Slab;
 use std::marker::Model;
 
-/// The items of one list, from the first on. A contract sees it as the list of the items that are
-/// left.
+/// The items of one list, from the first on. A contract sees the list of items left.
 #[derive(Drop)]
 pub struct Walk<'a, T> {
     nodes: &'a Slab<Node<T>>,
-    // The node of the first item that is left, and how many are left.
+    // The key of the first node left, and the number of nodes left.
     key: usize,
     left: u64,
 }

@@ -1,5 +1,5 @@
--- The marks so far and the next one are one live slot each at most, and a slice has no more than
--- fit.
+-- Each mark counts at most one live slot, and a slice has no more elements than a `usize` can say,
+-- so the sum fits.
 use Rattle.std.proofs.Common.{◌+◌, ◌≤◌, ◌<◌, length, arith}
 use Rattle.st_arena.proofs.BlockLemmas.{rank-most}
 use Rattle.st_arena.proofs.block.count.Goals as goal

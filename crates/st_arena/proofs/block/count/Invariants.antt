@@ -1,4 +1,4 @@
--- The count so far.
+-- The sum so far is that of the marks passed.
 use Rattle.std.proofs.Common.{◌≡◌, take}
 use Rattle.std.specs.List.{sum}
 use Rattle.st_arena.proofs.block.count.Given as goal

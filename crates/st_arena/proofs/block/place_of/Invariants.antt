@@ -1,9 +1,8 @@
--- The walk to the slot.
+-- The live slots passed and those left to pass make up the number wanted.
 use Rattle.std.proofs.Common.{◌≡◌, ◌+◌, ◌-◌, ◌≤◌, length, take}
 use Rattle.std.specs.List.{sum}
 use Rattle.st_arena.proofs.block.place_of.Given as goal
 
--- what is left and the live slots that were passed make up what is wanted
 abbrev pub invariant-loop-left : goal.invariant-loop-left
 invariant-loop-left l = (l.left + sum (take l.place l.marks) ≡ l.fn.wanted)
     × (l.place ≤ length l.marks)

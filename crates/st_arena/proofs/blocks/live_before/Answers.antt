@@ -1,4 +1,5 @@
--- A rank is that of the slot's block, and what is before the slot in the block.
+-- A rank is the number of live slots in the blocks before the slot's, plus those before the slot
+-- in its block.
 use Rattle.std.proofs.Common.{◌≡◌, ◌+◌, ◌-◌, ◌*◌, ◌/◌, ◌≤◌, take, arith, ap}
 use Rattle.std.specs.List.{sum}
 use Rattle.st_arena.specs.Tree.{count_at, sums, wide}

@@ -1,4 +1,4 @@
--- The block holds what is left, and so has a slot for it.
+-- The block has more live slots than `left`, so one of them has that rank in the block.
 use Rattle.std.proofs.Common.{◌≡◌, ◌+◌, ◌-◌, ◌*◌, ◌<◌, ◌≤◌, take, drop, arith, sym, ap}
 use Rattle.std.proofs.lemmas.List.{take-take}
 use Rattle.std.specs.List.{sum}

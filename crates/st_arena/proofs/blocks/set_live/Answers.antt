@@ -1,4 +1,4 @@
--- The leaf of the slot's block changes as the slot's mark does.
+-- The count of the block's leaf changes by the same as the slot's mark.
 use Rattle.std.proofs.Common.{◌+◌, ◌/◌, ◌<◌, arith, ap}
 use Rattle.st_arena.specs.Tree.{count_at, wide}
 use Rattle.st_arena.proofs.BlockLemmas.{leaf-room, counted-set}

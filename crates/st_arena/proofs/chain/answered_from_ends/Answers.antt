@@ -1,5 +1,5 @@
--- The search from both ends: each key is that of the node at its place, and what `pred` gave is the
--- item's answer. Where the two meet, each item was answered.
+-- The two keys are those of the nodes at their places, so `pred` answers for the items there. When
+-- the two searches meet, each item is answered.
 use Rattle.std.proofs.Common.{◌≡◌, ◌∙◌, ◌+◌, ◌-◌, suc, inl, inr, refl, sym, ap, arith, below_more}
 use Rattle.std.proofs.lemmas.Bool.{cases_lt}
 use Rattle.slab.specs.Slab.{get}

@@ -1,4 +1,5 @@
--- The search from both ends.
+-- The two keys are those of the nodes at `place` and as far from the end, and each item outside
+-- them was answered false.
 use Rattle.std.proofs.Common.{◌≡◌, ℕ, suc, ◌+◌, ◌<◌, ◌≤◌, false}
 use Rattle.std.specs.Fn.{FnReturnsAt}
 use Rattle.slab.specs.Slab.{get}
@@ -6,8 +7,6 @@ use Rattle.st_arena.specs.Calls.{IsAnswered}
 use Rattle.st_arena.specs.Chain.{values_of, key_after}
 use Rattle.st_arena.proofs.chain.answered_from_ends.Given as goal
 
--- the keys are those of the nodes at the place and as far from the end, and each item outside was
--- answered false
 abbrev pub invariant-loop-place : goal.invariant-loop-place
 invariant-loop-place g l =
     (l.front ≡ key_after (get l.nodes) l.fn.ends.first l.place)

@@ -1,4 +1,5 @@
--- The first item that was answered true is one that was. A chain has as many items as its ends say.
+-- The first place that was answered true is one that was, and a chain has as many items as its
+-- ends say.
 use Rattle.slab.specs.Slab.{get}
 use Rattle.st_arena.proofs.ChainLemmas.{length-values_of}
 use Rattle.st_arena.proofs.chain.any_answered.Goals as goal

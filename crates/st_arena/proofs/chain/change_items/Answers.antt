@@ -1,4 +1,4 @@
--- The change: the node at the key is there, and one more item is changed.
+-- The slab has the node under the key, and its change makes one more changed item.
 use Rattle.std.proofs.Common.{◌≡◌, ◌∙◌, ◌+◌, suc, refl, ap, arith}
 use Rattle.std.specs.Fn.{FnReturnsAt}
 use Rattle.slab.specs.Slab.{get}

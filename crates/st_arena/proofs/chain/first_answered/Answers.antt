@@ -1,4 +1,4 @@
--- The search: the node at the key holds the item at the place, and what `pred` gave is its answer.
+-- The node under the key holds the item at the place, so `pred` answers for that item.
 use Rattle.std.proofs.Common.{refl, ◌-◌, ◌+◌, arith, below_more}
 use Rattle.slab.specs.Slab.{get}
 use Rattle.st_arena.specs.Chain.{values_of}

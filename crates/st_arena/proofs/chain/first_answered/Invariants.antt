@@ -1,4 +1,4 @@
--- The search along the items of one list.
+-- The values from the key on are the items left, and each item before was answered false.
 use Rattle.std.proofs.Common.{◌≡◌, ℕ, ◌<◌, ◌-◌, drop, false}
 use Rattle.std.specs.Fn.{FnReturnsAt}
 use Rattle.slab.specs.Slab.{get}
@@ -6,7 +6,6 @@ use Rattle.st_arena.specs.Calls.{IsAnswered}
 use Rattle.st_arena.specs.Chain.{values_from, values_of}
 use Rattle.st_arena.proofs.chain.first_answered.Given as goal
 
--- the items from the key on are those that are left, and each one before was answered false
 abbrev pub invariant-loop-place : goal.invariant-loop-place
 invariant-loop-place g l =
     (values_from (get l.nodes) (l.fn.ends.len - l.place) l.key

@@ -1,4 +1,4 @@
--- The walk from the first node: each node that it comes to is there.
+-- The slab has each node of the walk, since the walk stays within the list.
 use Rattle.std.proofs.Common.{arith}
 use Rattle.st_arena.proofs.ChainLemmas.{held_after}
 use Rattle.st_arena.proofs.chain.key_from_first.Goals as goal

@@ -1,4 +1,4 @@
--- The walk from the last node: each node that it comes to is there, and names the one before it.
+-- The slab has each node of the walk, and each names the node before it.
 use Rattle.std.proofs.Common.{◌≡◌, ◌∙◌, ◌-◌, suc, sym, ap, arith}
 use Rattle.slab.specs.Slab.{get}
 use Rattle.st_arena.specs.Chain.{key_after, previous_key}

@@ -1,4 +1,4 @@
--- The take from one chain: the node is there, and so are the neighbours whose links are mended.
+-- The slab has the node, and the nodes next to it whose links are mended.
 use Rattle.std.proofs.Common.{ap, is_some, ◌∙◌, sym}
 use Rattle.st_arena.proofs.ChainLemmas.{held_after, back_there, front_there, is_some-value_in}
 use Rattle.st_arena.proofs.chain.unlink.Goals as goal

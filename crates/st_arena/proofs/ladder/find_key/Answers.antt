@@ -1,4 +1,4 @@
--- The ladder holds at the place the key of the node there.
+-- The ladder holds the key of the node at each place.
 use Rattle.std.proofs.Common.{◌∙◌, sym}
 use Rattle.slab.specs.Slab.{get}
 use Rattle.st_arena.proofs.LadderLemmas.{ladder_key}

@@ -1,4 +1,4 @@
--- The ladder that joins is the one that is wanted, and if it can't join there is none.
+-- The ladder that is stored holds the keys wanted; if it can't be stored, the list has none.
 use Rattle.std.proofs.Common.{◌≡◌, ◌∙◌, sym, ap}
 use Rattle.std.specs.Prelude.{nat_eq}
 use Rattle.std.specs.Map.{lookup}

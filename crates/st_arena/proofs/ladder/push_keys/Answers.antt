@@ -1,4 +1,4 @@
--- The walk from the first node: each node that it comes to is there, and its key is the next.
+-- The slab has each node of the walk, and its key is the next one in order.
 use Rattle.std.proofs.Common.{◌≡◌, ◌+◌, ◌++◌, ◌∷◌, [], suc, map, Some, arith, ap, sym, ◌∙◌}
 use Rattle.slab.specs.Slab.{get}
 use Rattle.st_arena.specs.Chain.{keys, key_after, next_key}

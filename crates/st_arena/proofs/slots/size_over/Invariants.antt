@@ -1,4 +1,4 @@
--- The doubling.
+-- Each doubling adds a level, so the size stays the number of leaves.
 use Rattle.std.proofs.Common.{◌≡◌, ◌-◌, ◌<◌, ◌≤◌, ◌^◌}
 use Rattle.st_arena.specs.Tree.{wide}
 use Rattle.st_arena.proofs.slots.size_over.Given as goal

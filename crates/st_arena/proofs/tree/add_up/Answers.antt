@@ -1,4 +1,4 @@
--- Each step adds up one node more, from its two children, whose counts are right already.
+-- Each step adds up one more node, from two children whose counts are right already.
 use Rattle.std.proofs.Common.{◌≡◌, ◌+◌, ◌-◌, ◌<◌, ◌≤◌, ◌^◌, suc, length, ◌∙◌, arith, refl, ap}
 use Rattle.std.proofs.lemmas.List.{drop-set-lt, length-set}
 use Rattle.st_arena.specs.Tree.{count_at, AddsUpFrom}

@@ -1,9 +1,8 @@
--- The sums from the last inner node down.
+-- The nodes from `node` on count the sums of their children, and the leaves are unchanged.
 use Rattle.std.proofs.Common.{◌≡◌, ◌<◌, ◌≤◌, length, drop}
 use Rattle.st_arena.specs.Tree.{count_at, AddsUpFrom}
 use Rattle.st_arena.proofs.tree.add_up.Given as goal
 
--- the nodes from this one on count what their children count, and the leaves are as they were
 abbrev pub invariant-loop-node : goal.invariant-loop-node
 invariant-loop-node l =
     AddsUpFrom (count_at l.counts) l.node l.fn.size

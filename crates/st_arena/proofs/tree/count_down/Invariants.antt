@@ -1,9 +1,8 @@
--- The climb that counts down.
+-- All sums hold, except that `node` counts one more than its children.
 use Rattle.std.proofs.Common.{◌≡◌, ◌<◌, length}
 use Rattle.st_arena.specs.Tree.{count_at, IsAllBut, IsStill}
 use Rattle.st_arena.proofs.tree.count_down.Given as goal
 
--- all sums hold but that of the node, which is one too much
 abbrev pub invariant-loop-node : goal.invariant-loop-node
 invariant-loop-node l =
     IsAllBut (count_at l.counts) l.fn.height l.node

@@ -1,4 +1,4 @@
--- Node 1 is there.
+-- The list of counts has a node 1.
 use Rattle.std.proofs.Common.{◌≡◌, ◌+◌, length, arith}
 use Rattle.st_arena.specs.Tree.{wide}
 use Rattle.st_arena.proofs.TreeLemmas.{wide-positive}

@@ -1,4 +1,4 @@
--- The climb: no node on its way counts more than all slots yet.
+-- No node counts more than the number of all slots, so adding 1 fits.
 use Rattle.std.proofs.Common.{◌≡◌, ◌+◌, ◌≤◌, ◌^◌, arith}
 use Rattle.st_arena.specs.Tree.{count_at}
 use Rattle.st_arena.proofs.TreeLemmas.{node-bound}

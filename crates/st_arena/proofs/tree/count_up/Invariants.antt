@@ -1,9 +1,8 @@
--- The climb that counts up.
+-- All sums hold, except that `node` counts one less than its children.
 use Rattle.std.proofs.Common.{◌≡◌, ◌<◌, length}
 use Rattle.st_arena.specs.Tree.{count_at, IsShort, IsLifted}
 use Rattle.st_arena.proofs.tree.count_up.Given as goal
 
--- all sums hold but that of the node, which is one too little
 abbrev pub invariant-loop-node : goal.invariant-loop-node
 invariant-loop-node l =
     IsShort (count_at l.counts) l.fn.height l.node

@@ -1,5 +1,5 @@
--- The climb: each node that it adds is in the tree, and a level up the same slots are before the
--- place.
+-- Each node that the climb adds is in the tree, and it adds just what the next level up leaves
+-- out.
 use Rattle.std.proofs.Common.{◌≡◌, ◌+◌, ◌∙◌, suc, ◌-◌, ◌/◌, arith, ap}
 use Rattle.st_arena.specs.Tree.{count_at, sums, wide}
 use Rattle.st_arena.proofs.TreeLemmas.{within, rank-fits, sums-up}

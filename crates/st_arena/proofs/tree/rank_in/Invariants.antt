@@ -1,9 +1,9 @@
--- The climb from a slot.
+-- The sum so far and the counts before `place` on its level add up to the live slots before the
+-- block.
 use Rattle.std.proofs.Common.{◌≡◌, ◌+◌, ◌<◌, ◌≤◌}
 use Rattle.st_arena.specs.Tree.{count_at, sums, wide}
 use Rattle.st_arena.proofs.tree.rank_in.Given as goal
 
--- what was added, and what is before the place on this level, make up what is before the slot
 abbrev pub invariant-loop-level : goal.invariant-loop-level
 invariant-loop-level l =
     (l.sum + sums (count_at l.counts) l.start l.place

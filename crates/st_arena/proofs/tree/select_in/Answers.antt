@@ -1,4 +1,4 @@
--- The descent: the child is in the tree, and holds what is left.
+-- The child on the way down is in the tree, and holds the slot wanted.
 use Rattle.std.proofs.Common.{◌≡◌, ◌+◌, ◌∙◌, suc, arith, sym, ap}
 use Rattle.st_arena.specs.Tree.{count_at, sums, wide}
 use Rattle.st_arena.proofs.TreeLemmas.{within, down}

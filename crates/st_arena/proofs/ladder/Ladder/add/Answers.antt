@@ -1,4 +1,4 @@
--- The first slot that isn't used is dead, and takes the key.
+-- The first unused slot is dead, and takes the key.
 use Rattle.std.proofs.Common.{◌≡◌, ◌<◌, ◌++◌, ◌∷◌, [], length, set, ap, ◌∙◌, arith}
 use Rattle.st_arena.proofs.ForCallers.{marked_dead, ranks-put, kept-put}
 use Rattle.st_arena.specs.Queue.{kept}

@@ -1,4 +1,4 @@
--- The slot of the place's rank holds the key at the place.
+-- The slot that has the place as its rank holds the key at the place.
 use Rattle.std.proofs.Common.{ap, sym, ◌∙◌, arith, Some, slice_get}
 use Rattle.std.proofs.lemmas.Option.{slice_get_past, slice_get-get_or, same_Some}
 use Rattle.st_arena.proofs.ForCallers.{live-kept, selected_inside, selected_item}

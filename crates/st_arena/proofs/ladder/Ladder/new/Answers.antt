@@ -1,4 +1,4 @@
--- As many slots are live as there are nodes, and each holds its node's key.
+-- There are as many live slots as nodes, and each holds its node's key.
 use Rattle.std.proofs.Common.{◌≡◌, ◌-◌, ◌++◌, length, ap, sym, ◌∙◌}
 use Rattle.std.specs.Prelude.{replicate}
 use Rattle.slab.specs.Slab.{get}

@@ -1,4 +1,4 @@
--- The slot of the place's rank is emptied, and marked dead.
+-- The slot that has the place as its rank is emptied, and marked dead.
 use Rattle.std.proofs.Common.{ap, ◌∙◌, arith, remove}
 use Rattle.st_arena.proofs.ForCallers.{selected_inside, selected_take, ranks-take}
 use Rattle.st_arena.proofs.ladder.Ladder.remove.Goals as goal

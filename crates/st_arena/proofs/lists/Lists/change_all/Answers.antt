@@ -1,4 +1,4 @@
--- One list changed, and a list without it is as it was, so the clause on all lists follows.
+-- Only one list changed, so all lists are the old ones with that one replaced.
 use Rattle.std.proofs.Common.{ap}
 use Rattle.st_arena.proofs.ListLemmas.{changed_sound, changed_ladders, changed_lists, changed_each}
 use Rattle.st_arena.proofs.ListLemmas.{changed_mapped}

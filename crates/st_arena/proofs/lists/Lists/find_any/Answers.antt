@@ -1,4 +1,4 @@
--- The chain of a list holds its items in order, so a search of the chain is one of the list.
+-- The chain of a list holds its items in order, so a search of the chain is a search of the list.
 use Rattle.std.proofs.Common.{ap}
 use Rattle.st_arena.proofs.CallLemmas.{position-any}
 use Rattle.st_arena.proofs.ListLemmas.{chained, list_is, len_is}

@@ -1,4 +1,4 @@
--- The node that the walk comes to holds the item at the place.
+-- The node under the key that `find_key` returns holds the item at the place.
 use Rattle.std.proofs.Common.{ap, sym, arith}
 use Rattle.st_arena.proofs.ChainLemmas.{held_after}
 use Rattle.st_arena.proofs.ListLemmas.{chained, get_past, get_at, ladder_is}

@@ -1,4 +1,4 @@
--- The length that the ends keep is the number of items.
+-- The length in the ends is the number of items.
 use Rattle.std.proofs.Common.{ap}
 use Rattle.st_arena.proofs.ListLemmas.{len_is}
 use Rattle.st_arena.proofs.lists.Lists.len.Goals as goal

@@ -1,4 +1,4 @@
--- Lists without nodes are sound.
+-- An arena whose lists have no nodes is sound.
 use Rattle.std.proofs.Common.{refl, ap}
 use Rattle.std.specs.Prelude.{nat_eq}
 use Rattle.std.specs.Map.{lookup}

@@ -1,4 +1,4 @@
--- One chain changed, and the others are as they were, so the clause on all lists follows.
+-- Only one chain changed, so all lists are the old ones with that one replaced.
 use Rattle.std.proofs.Common.{ap, arith}
 use Rattle.st_arena.proofs.ListLemmas.{last_there, push_sound, push_lists, push_chained}
 use Rattle.st_arena.proofs.ListLemmas.{push_ladder, push_ladders}

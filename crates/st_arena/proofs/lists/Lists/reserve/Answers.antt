@@ -1,4 +1,4 @@
--- A growing arena changes no slot.
+-- A slab that grows keeps its slots.
 use Rattle.st_arena.proofs.ArenaLemmas.{more_room}
 use Rattle.st_arena.proofs.lists.Lists.reserve.Goals as goal
 

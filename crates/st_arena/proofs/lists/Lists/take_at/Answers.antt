@@ -1,4 +1,4 @@
--- One chain changed, and the others are as they were, so the clause on all lists follows.
+-- Only one chain changed, so all lists are the old ones with that one replaced.
 use Rattle.std.proofs.Common.{ap, sym, arith}
 use Rattle.st_arena.proofs.ListLemmas.{get_past, get_held, ladder_is, take_sound, take_lists}
 use Rattle.st_arena.proofs.ListLemmas.{take_chained, take_ladder, take_ladders}

@@ -1,4 +1,4 @@
--- The walk has each of its nodes before it.
+-- A list has as many items as its ends say.
 use Rattle.std.proofs.Common.{ap}
 use Rattle.st_arena.proofs.ListLemmas.{whole}
 use Rattle.st_arena.proofs.lists.Lists.walk.Goals as goal

@@ -1,4 +1,4 @@
--- The first slots are live, and the leaves count them.
+-- The first slots are live, and the new leaves count them.
 use Rattle.std.proofs.Common.{◌≡◌, ◌+◌, ◌-◌, ◌*◌, arith}
 use Rattle.st_arena.specs.Tree.{wide}
 use Rattle.st_arena.proofs.BlockLemmas.{counted-new}
