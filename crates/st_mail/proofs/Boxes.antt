@@ -1,5 +1,5 @@
--- Counts and stored lists are read and written box by box, so what holds of one wiped front holds
--- of the box that a call names, and all others stay.
+-- Counts and stored lists are read and written one mailbox at a time, so what holds of one wiped
+-- front holds of the mailbox that a call names, and all others stay.
 use Rattle.std.proofs.Common.{◌≡◌, ℕ, zero, suc, ◌+◌, ◌<◌, ◌≤◌, Bool, false, List, [], ◌∷◌, ◌++◌}
 use Rattle.std.proofs.Common.{length, map, drop, get_or, set, remove, replicate, Option, None, Some}
 use Rattle.std.proofs.Common.{option_map, position, slice_get, refl, sym, ◌∙◌, ap, arith}
@@ -15,7 +15,7 @@ use Rattle.st_mail.proofs.Fronts.{length-front, get-wiped, get-kept, wipe_all, f
 use Rattle.st_mail.proofs.Fronts.{remove-wiped, remove-kept}
 use Rattle.st_mail.proofs.Fronts.{IsBlind, position-blind, position-skips}
 
--- if nothing is found a list has ended
+-- a list has no place from its length on
 none_past : (ms : List Message) (k : ℕ) → slice_get ms k ≡ None → length ms ≤ k
 none_past [] k none = omega arith
 none_past (m ∷ ms) zero none = absurd (cc)
@@ -33,7 +33,7 @@ empty_boxes (suc k) = ap (λ rest. [] ∷ rest) (empty_boxes k)
 
 -- BY PLACES
 
--- there are as many counts and boxes as lists
+-- there are as many counts and as many boxes as stored lists
 length_counts : (counts : List ℕ) (stored : List (List Message)) → AreFronts counts stored
     → length counts ≡ length stored
 length_counts [] [] fronts = refl
@@ -49,7 +49,7 @@ length_boxes [] (queue ∷ stored) fronts = absurd fronts
 length_boxes (count ∷ counts) [] fronts = absurd fronts
 length_boxes (count ∷ counts) (queue ∷ stored) fronts = ap suc (length_boxes counts stored fronts.1)
 
--- each box is a wiped front
+-- each box is its stored list with a wiped front
 box_at : (counts : List ℕ) (stored : List (List Message)) (i : ℕ) → AreFronts counts stored
     → i < length stored
     → queue_in (fronts_wiped counts stored) i ≡ front_wiped (get_or counts i 0) (queue_in stored i)
@@ -60,7 +60,7 @@ box_at (count ∷ counts) (queue ∷ stored) zero fronts within = refl
 box_at (count ∷ counts) (queue ∷ stored) (suc i) fronts within =
     box_at counts stored i fronts.1 (omega arith)
 
--- of messages that lie there
+-- each count is at most the length of the stored list
 count_at : (counts : List ℕ) (stored : List (List Message)) (i : ℕ) → AreFronts counts stored
     → i < length stored
     → get_or counts i 0 ≤ length (queue_in stored i)
@@ -71,7 +71,7 @@ count_at (count ∷ counts) (queue ∷ stored) zero fronts within = fronts.0
 count_at (count ∷ counts) (queue ∷ stored) (suc i) fronts within =
     count_at counts stored i fronts.1 (omega arith)
 
--- both written at one place write one box
+-- writing a count and a list at one place writes one box there
 box_set : (counts : List ℕ) (stored : List (List Message)) (i count : ℕ) (queue : List Message)
     → fronts_wiped (set counts i count) (set stored i queue)
     ≡ set (fronts_wiped counts stored) i (front_wiped count queue)
@@ -97,18 +97,18 @@ fronts_set (old ∷ counts) (was ∷ stored) (suc i) count queue fronts le =
 module _ (counts : List ℕ) (stored : List (List Message)) (fronts : AreFronts counts stored)
     (boxes : List (List Message)) (view : fronts_wiped counts stored ≡ boxes)
     (i : ℕ) (within : i < length boxes) where
-  -- there is a list for it, and a count
+  -- the mailbox has a stored list, and a count
   pub in_stored : i < length stored
   in_stored = omega (arith, length_boxes counts stored fronts, ap length view)
 
   pub in_counts : i < length counts
   in_counts = omega (arith, in_stored, length_counts counts stored fronts)
 
-  -- what a read gives is the count
+  -- a read returns its count
   pub read_count : (count : ℕ) → count ≡ get_or counts i count → count ≡ get_or counts i 0
   read_count count read = get_or_read counts i count in_counts read 0
 
-  -- the list that it is stored as
+  -- its stored list
   abbrev list : List Message
   list = queue_in stored i
 
@@ -125,7 +125,7 @@ module _ (counts : List ℕ) (stored : List (List Message)) (fronts : AreFronts 
     pub queue_is : queue_in boxes i ≡ front_wiped count list
     queue_is = rw (← view, is_count) (box_at counts stored i fronts in_stored)
 
-    -- a write of the count and of the list
+    -- writing its count and its list writes its box
     written : (new : ℕ) (queue : List Message)
         → fronts_wiped (set counts i new) (set stored i queue) ≡ set boxes i (front_wiped new queue)
     written new queue = box_set counts stored i new queue
@@ -135,7 +135,7 @@ module _ (counts : List ℕ) (stored : List (List Message)) (fronts : AreFronts 
         → AreFronts (set counts i new) (set stored i queue)
     written_fronts new queue le = fronts_set counts stored i new queue fronts le
 
-    -- what is looked up
+    -- what is read of the mailbox
 
     pub len_is : length list ≡ length (queue_in boxes i)
     len_is = sym (length-front count list) ∙ ap length (sym queue_is)
@@ -169,7 +169,7 @@ module _ (counts : List ℕ) (stored : List (List Message)) (fronts : AreFronts 
     found_behind test fails =
         ap (position (λ m. test m.token)) queue_is ∙ position-skips test fails count list
 
-    -- what is changed
+    -- what is changed in the mailbox
 
     pub pushed : (m : Message)
         → fronts_wiped counts (set stored i (list ++ m ∷ []))
@@ -201,7 +201,7 @@ module _ (counts : List ℕ) (stored : List (List Message)) (fronts : AreFronts 
       shorter : length (remove list k) + 1 ≡ length list
       shorter = length-remove list k (slice_get_within list k m there)
 
-      -- a message after the front is taken
+      -- a take behind the wiped front leaves the count
       pub taken_behind : count ≤ k
           → fronts_wiped counts (set stored i (remove list k))
           ≡ set boxes i (remove (queue_in boxes i) k)
@@ -217,7 +217,7 @@ module _ (counts : List ℕ) (stored : List (List Message)) (fronts : AreFronts 
           let le : count ≤ length (remove list k) = omega (arith, behind, shorter, below) in
           rw count_stays at (written_fronts count (remove list k) le)
 
-      -- one of the front is taken
+      -- a take from the wiped front lowers the count by one
       pub taken_front : (left : ℕ) → left + 1 ≡ count → k < count
           → fronts_wiped (set counts i left) (set stored i (remove list k))
           ≡ set boxes i (remove (queue_in boxes i) k)

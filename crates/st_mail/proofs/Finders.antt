@@ -1,5 +1,5 @@
--- Finders and stored lists are read and written queue by queue, so what finds the messages of one
--- queue follows that queue, and all others stay.
+-- Finders and stored lists are read and written one queue at a time, so the finder of a queue
+-- follows that queue, and all others stay.
 use Rattle.std.proofs.Common.{◌≡◌, ℕ, zero, suc, ◌+◌, ◌<◌, List, [], ◌∷◌, ◌++◌, length, get_or, set}
 use Rattle.std.proofs.Common.{replicate, Option}
 use Rattle.std.proofs.Common.{Some, None, option_map, Global, refl, ap, subst, ◌∙◌, arith}
@@ -12,7 +12,7 @@ use Rattle.st_mail.specs.declared.finder.Finder.{Finder}
 use Rattle.st_mail.specs.Found.{Finds, IsFinder, AllFound}
 use Rattle.st_mail.specs.Mail.{queue_in}
 
--- a finder of one queue is one of some queue
+-- a finder of a queue is a finder of some queue
 pub some_queue : (f : Finder) (queue : List Message) → Finds f queue → IsFinder f
 some_queue f queue is = by f.index is
   where
@@ -43,7 +43,7 @@ found_at (g ∷ finders) (queue ∷ stored) zero f found within is =
 found_at (g ∷ finders) (queue ∷ stored) (suc i) f found within is =
     found_at finders stored i f found.1 (omega arith) is
 
--- both written at one place
+-- writing a finder of a queue and the queue at one place keeps a finder for each queue
 pub found_set : (finders : List Finder) (stored : List (List Message)) (i : ℕ) (f : Finder)
     (queue : List Message)
     → AllFound finders stored → Finds f queue → AllFound (set finders i f) (set stored i queue)
@@ -54,7 +54,7 @@ found_set (g ∷ finders) (was ∷ stored) zero f queue found is = (is, found.1)
 found_set (g ∷ finders) (was ∷ stored) (suc i) f queue found is =
     (found.0, found_set finders stored i f queue found.1 is)
 
--- another finder of the same queue
+-- writing another finder of the same queue keeps a finder for each queue
 pub kept_found : (finders : List Finder) (stored : List (List Message))
     (found : AllFound finders stored) (i : ℕ)
     (f : Finder) → Finds f (queue_in stored i) → AllFound (set finders i f) stored
@@ -65,7 +65,7 @@ kept_found (g ∷ finders) (queue ∷ stored) found zero f is = (is, found.1)
 kept_found (g ∷ finders) (queue ∷ stored) found (suc i) f is =
     (found.0, kept_found finders stored found.1 i f is)
 
--- one more of an empty queue
+-- one more finder of an empty queue keeps a finder for each queue
 pub found_more : (finders : List Finder) (n : ℕ) (f : Finder) → AllFound finders (replicate n [])
     → Finds f []
     → AllFound (finders ++ f ∷ []) (replicate (suc n) [])
@@ -74,7 +74,7 @@ found_more [] (suc n) f found is = absurd found
 found_more (g ∷ finders) zero f found is = absurd found
 found_more (g ∷ finders) (suc n) f found is = (found.0, found_more finders n f found.1 is)
 
--- a search from place 0 on
+-- adding 0 to a place that was found leaves it
 pub from_zero : (place : Option ℕ) → option_map (λ k. 0 + k) place ≡ place
 from_zero None = refl
 from_zero (Some k) = ap (λ j. Some j) (omega arith)
@@ -92,7 +92,7 @@ module _ (finders : List Finder) (stored : List (List Message)) (found : AllFoun
         subst (λ (ls : List (List Message)). Finds f (queue_in ls i)) view
         (found_at finders stored i f found (omega (arith, ap length view)) is)
 
-  -- its finder and its list are written
+  -- writing its finder and its list keeps a finder for each queue
   pub written_found : (f : Finder) (queue : List Message) (new : List (List Message))
       → new ≡ set stored i queue
       → Finds f (queue_in new i) → AllFound (set finders i f) new

@@ -1,5 +1,6 @@
--- A wiped front differs from what is stored in its tokens alone, message by message: so each change
--- and each look at the queue is one at what is stored, at the same place.
+-- The queue and the stored list have the same messages at the same places, and differ only in the
+-- tokens of the wiped front. So each look and each change at a place of the queue is one at that
+-- place of the stored list.
 use Rattle.std.proofs.Common.{◌≡◌, ℕ, zero, suc, ◌+◌, ◌<◌, ◌≤◌, Bool, true, false, cond, List, []}
 use Rattle.std.proofs.Common.{◌∷◌, ◌++◌, length, map, drop, remove, Option, None, Some, option_map}
 use Rattle.std.proofs.Common.{position, slice_get, refl, sym, ◌∙◌, ap, arith}
@@ -12,13 +13,13 @@ use Rattle.st_mail.specs.Wiped.{front_wiped}
 
 -- LOOKS
 
--- no message comes or goes
+-- wiping a front keeps the length
 pub length-front : (n : ℕ) (ms : List Message) → length (front_wiped n ms) ≡ length ms
 length-front zero ms = refl
 length-front (suc n) [] = refl
 length-front (suc n) (m ∷ ms) = ap suc (length-front n ms)
 
--- in the front a message has no token
+-- a message in the wiped front has no token
 pub get-wiped : (n k : ℕ) (ms : List Message) → k < n
     → slice_get (front_wiped n ms) k ≡ option_map untraced (slice_get ms k)
 get-wiped zero k ms below = absurd (omega arith)
@@ -26,7 +27,7 @@ get-wiped (suc n) k [] below = refl
 get-wiped (suc n) zero (m ∷ ms) below = refl
 get-wiped (suc n) (suc k) (m ∷ ms) below = get-wiped n k ms (omega arith)
 
--- after it a message is as it is stored
+-- a message behind the wiped front is as it is stored
 pub get-kept : (n k : ℕ) (ms : List Message) → n ≤ k
     → slice_get (front_wiped n ms) k ≡ slice_get ms k
 get-kept zero k ms behind = refl
@@ -36,7 +37,7 @@ get-kept (suc n) (suc k) (m ∷ ms) behind = get-kept n k ms (omega arith)
 
 -- CHANGES
 
--- all of it is wiped, whatever was before
+-- wiping all messages wipes a queue of which any front was wiped before
 pub wipe_all : (n : ℕ) (ms : List Message)
     → front_wiped (length ms) ms ≡ map untraced (front_wiped n ms)
 wipe_all zero [] = refl
@@ -44,7 +45,7 @@ wipe_all zero (m ∷ ms) = ap (λ rest. untraced m ∷ rest) (wipe_all zero ms)
 wipe_all (suc n) [] = refl
 wipe_all (suc n) (m ∷ ms) = ap (λ rest. untraced m ∷ rest) (wipe_all n ms)
 
--- a message comes after the front
+-- a push leaves the wiped front
 pub front-push : (n : ℕ) (ms : List Message) (last : Message) → n ≤ length ms
     → front_wiped n (ms ++ last ∷ []) ≡ front_wiped n ms ++ last ∷ []
 front-push zero ms last within = refl
@@ -52,7 +53,7 @@ front-push (suc n) [] last within = absurd (omega arith)
 front-push (suc n) (m ∷ ms) last within =
     ap (λ rest. untraced m ∷ rest) (front-push n ms last (omega arith))
 
--- a message leaves the front
+-- a take from the wiped front shortens it by one
 pub remove-wiped : (n k : ℕ) (ms : List Message) → k ≤ n
     → front_wiped n (remove ms k) ≡ remove (front_wiped (suc n) ms) k
 remove-wiped zero zero [] within = refl
@@ -63,7 +64,7 @@ remove-wiped (suc n) (suc k) [] within = refl
 remove-wiped (suc n) (suc k) (m ∷ ms) within =
     ap (λ rest. untraced m ∷ rest) (remove-wiped n k ms (omega arith))
 
--- one leaves from after it
+-- a take from behind the wiped front leaves it
 pub remove-kept : (n k : ℕ) (ms : List Message) → n ≤ k
     → front_wiped n (remove ms k) ≡ remove (front_wiped n ms) k
 remove-kept zero k ms behind = refl
@@ -74,7 +75,7 @@ remove-kept (suc n) (suc k) (m ∷ ms) behind =
 
 -- SEARCHES
 
--- a test that doesn't look at tokens
+-- the test doesn't look at tokens
 abbrev pub IsBlind : (Message → Bool) → Type 0
 IsBlind test = (m : Message) → test (untraced m) ≡ test m
 
@@ -85,7 +86,7 @@ blind_from test i (suc n) [] blind = refl
 blind_from test i (suc n) (m ∷ ms) blind =
     rw (blind m) (ap (cond (test m) (Some i)) (blind_from test (i + 1) n ms blind))
 
--- finds the same place
+-- so it passes first at the same place in the stored list
 pub position-blind : (test : Message → Bool) (n : ℕ) (ms : List Message) → IsBlind test
     → position test ms ≡ position test (front_wiped n ms)
 position-blind test n ms blind =
@@ -93,7 +94,7 @@ position-blind test n ms blind =
     ∙ blind_from test 0 n ms blind
     ∙ sym (position_from-zero test (front_wiped n ms))
 
--- a test of tokens that each message without one fails
+-- a test of tokens that fails without a token
 module _ (test : Option Token → Bool) (fails : test None ≡ false) where
   abbrev of : Message → Bool
   of m = test m.token
@@ -120,7 +121,7 @@ module _ (test : Option Token → Bool) (fails : test None ≡ false) where
       let next : i + 1 + n ≡ i + suc n = omega arith in
       rw fails (skipped (i + 1) n ms ∙ ap (λ j. position_from of j (drop n ms)) next)
 
-  -- finds its place after the front
+  -- passes first behind the wiped front
   pub position-skips : (n : ℕ) (ms : List Message)
       → position of (front_wiped n ms) ≡ option_map (λ k. n + k) (position of (drop n ms))
   position-skips n ms =

@@ -31,7 +31,7 @@ module _ (index : Index) (slots : List (Option Message)) (has : HasSlots index s
   pub total-of : sum index.ranks ≡ length (kept slots)
   total-of = live-kept index.ranks slots has.ranks
 
-  -- the item of a live slot is the one at its rank
+  -- the item of a live slot is the queue's item at the slot's rank
   pub item-at : (slot place : ℕ) (m : Message) → get_or index.ranks slot 0 ≡ 1
       → sum (take slot index.ranks) ≡ place
       → slice_get (kept slots) place ≡ Some m → item_at slots slot ≡ Some m
@@ -63,7 +63,7 @@ module _ (index : Index) (slots : List (Option Message)) (has : HasSlots index s
         let item = item_of s first.0.1 in
         ap (λ k. Some k) (rank-of s item.item item.is)
 
-    -- a slot that has the key has a rank
+    -- the first slot of the key is one of the ranked slots
     pub in_ranks : (start slot : ℕ) → IsFirst (has_key cmp keyed key) start (Some slot)
         → slot < length index.ranks
     in_ranks start slot first =
@@ -71,7 +71,7 @@ module _ (index : Index) (slots : List (Option Message)) (has : HasSlots index s
         omega (arith, inside slots slot item.item item.is, slots-len)
 
     module _ (queue : List Message) (items : kept slots ≡ queue) where
-      -- the rank of the first slot is the first place
+      -- the rank of the key's first slot is the first place that passes its test
       pub place_first : (found : Option ℕ) → IsFirst (has_key cmp keyed key) 0 found
           → option_map (λ s. sum (take s index.ranks)) found ≡ position (test key) queue
       place_first found first =
@@ -79,7 +79,8 @@ module _ (index : Index) (slots : List (Option Message)) (has : HasSlots index s
           ∙ found_first (test key) slots found (passes_first 0 found first)
           ∙ ap (position (test key)) items
 
-      -- from a place on
+      -- in a search from a place on, the rank of the key's first slot from there is the first
+      -- place that passes
       pub place_from : (start place : ℕ) (found : Option ℕ) → get_or index.ranks start 0 ≡ 1
           → sum (take start index.ranks) ≡ place → IsFirst (has_key cmp keyed key) start found
           → option_map (λ s. sum (take s index.ranks)) found

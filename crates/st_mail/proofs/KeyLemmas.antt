@@ -1,5 +1,5 @@
--- Each set of keys follows the slots: a message that comes brings its own keys, and a slot that is
--- emptied loses them.
+-- A message that comes brings its own keys, and one that leaves its slot takes them along, so each
+-- set of keys follows the slots.
 use Rattle.std.proofs.Common.{◌≡◌, ℕ, Bool, true, false, not, ◌==◌, ◌&&◌, ◌||◌, List, [], ◌∷◌, ◌++◌}
 use Rattle.std.proofs.Common.{length, set, Option, Some, None, refl, sym, ap, ◌∙◌}
 use Rattle.std.proofs.lemmas.Bool.{eqb-true}
@@ -19,7 +19,7 @@ use Rattle.st_mail.proofs.SlotLemmas.{passes-push, passes-set}
 
 -- THE KEYS OF A MESSAGE
 
--- the tests that the message passes are those of this key
+-- `key` is the key of the message: the message passes just the tests of that key
 abbrev pub IsKeyOf : {K : Type 0} → (K → K → Ordering) → (K → Message → Bool) → K → Message → Type 0
 IsKeyOf {K} cmp test key m = (k : K) → is_eq (cmp key k) ≡ test k m
 
@@ -58,7 +58,7 @@ gone false c is = rw is refl
 module _ {K : Type 0} (cmp : K → K → Ordering) (test : K → Message → Bool) where
   module _ (slots : List (Option Message)) (m : Message) (own : K → Bool)
       (same : (k : K) → own k ≡ test k m) where
-    -- a message comes with its keys
+    -- after a message gets the next slot and its keys, each slot has its own message's keys
     pub keyed-push : (old new : KeyedSlots K) (slot : ℕ) → slot ≡ length slots
         → (is_kept old ≡ true → (k : K) (s : ℕ)
         → has_key cmp new k s ≡ (own k && slot == s || has_key cmp old k s))
@@ -68,7 +68,7 @@ module _ {K : Type 0} (cmp : K → K → Ordering) (test : K → Message → Boo
         let was : is_kept old ≡ true = sym stays ∙ on in
         is was k s ∙ rw (same k, at, kept was k s) (sym (passes-push (test k) slots m s))
 
-    -- it leaves with them
+    -- after a slot is emptied and loses its keys, each slot has its own message's keys
     pub keyed-set : (slot : ℕ) → item_at slots slot ≡ Some m → (old new : KeyedSlots K)
         → ((k : K) (s : ℕ) → has_key cmp new k s
         ≡ (not (own k && slot == s) && has_key cmp old k s))

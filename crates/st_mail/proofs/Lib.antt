@@ -3,7 +3,7 @@ mod SlotLemmas
 mod Searches
 mod KeyLemmas
 mod IndexLemmas
--- The lemmas; what upper crates may cite is in `ForCallers`.
+-- The lemmas; `ForCallers` has those that proofs of the crates above may cite.
 mod Picks
 mod Fits
 mod Finders

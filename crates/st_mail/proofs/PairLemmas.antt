@@ -1,5 +1,5 @@
--- The slots of one key are together in the order of the pairs and rise there, so the first pair
--- from (key, start) on has the least slot of the key, or another key if the key has none.
+-- Pairs are ordered by key and then slot. So the first pair from (key, start) on has the key's
+-- least slot, or another key if the key has no slot there.
 use Rattle.std.proofs.Common.{◌≡◌, ℕ, ◌≤◌, Bool, true, false, cond, not, ◌==◌, ◌&&◌, ◌||◌}
 use Rattle.std.proofs.Common.{List, [], ◌∷◌, Option, Some, None, refl, sym, ap, subst, ◌∙◌, arith}
 use Rattle.std.specs.declared.cmp.Ordering.{Ordering}
@@ -21,7 +21,7 @@ use Rattle.st_mail.specs.KeyedSlots.{pair_cmp, has_key, IsFirst}
 pub nat_cmp-is_eq : (a b : ℕ) → is_eq (nat_cmp a b) ≡ (a == b)
 nat_cmp-is_eq a b = grind (arith, nat_tests)
 
--- pairs are equal if both parts are
+-- two pairs are equal if both parts are
 pub both_equal : (o : Ordering) (a b : ℕ)
     → is_eq (ordering_then o (nat_cmp a b)) ≡ (is_eq o && a == b)
 both_equal Less a b = refl
@@ -36,7 +36,7 @@ pub cond_and : (b c d : Bool) → b ≡ d → cond b false c ≡ (not d && c)
 cond_and true c d e = rw (← e) refl
 cond_and false c d e = rw (← e) refl
 
--- what is neither equal nor greater is less
+-- if the keys differ and a pair isn't greater, its key is less
 less_else : (o p : Ordering) → is_eq o ≡ false → is_gt (ordering_then o p) ≡ false → o ≡ Less
 less_else Less p e h = refl
 less_else Equal p e h = absurd (cc)
@@ -50,7 +50,7 @@ not_gt a b h = grind (arith, nat_tests)
 module _ {K : Type 0} (cmp : K → K → Ordering) (keyed : KeyedSlots K) (set : BTreeSet (K × ℕ))
     (is : keyed.pairs ≡ Some set)
   where
-    -- a slot has those of the set
+    -- if keys are kept, a slot has the keys that the set says
     pub kept_keys : (k : K) (s : ℕ) → has_key cmp keyed k s ≡ contains (pair_cmp cmp) set (k, s)
     kept_keys k s =
         ap (λ (o : Option (BTreeSet (K × ℕ))).
@@ -73,25 +73,25 @@ module _ {K : Type 0} (cmp : K → K → Ordering) (total : IsTotalOrder cmp) wh
     abbrev in_set : ℕ → Bool
     in_set k = contains (pair_cmp cmp) set (key, k)
 
-    -- the pairs from (key, start) on
+    -- `pairs` are the pairs of the set from (key, start) on
     abbrev pub AreFrom : List (K × ℕ) → Type 0
     AreFrom pairs = IsKeyRangeOf (pair_cmp cmp) (Included (key, start)) Unbounded set pairs
 
-    -- each slot of the key from start on is one of them
+    -- each slot of the key from `start` on comes at or after (key, start)
     in_from : (k : ℕ) → start ≤ k → is_gt (pair_cmp cmp (key, start) (key, k)) ≡ false
     in_from k after = rw (tied_itself total key) (not_gt start k after)
 
-    -- without a pair the key has no slot there
+    -- if there are no such pairs, the key has no slot from `start` on
     pub none_from : (pairs : List (K × ℕ)) → pairs ≡ [] → AreFrom pairs → IsFirst in_set start None
     none_from pairs none from = (tt, λ k after. from.5 none (key, k) (in_from k after, tt))
 
-    -- so the first is at most as far as each
+    -- the first such pair comes at or before that of each slot of the key
     up_to : (x : K × ℕ) (rest : List (K × ℕ)) → AreFrom (x ∷ rest) → (k : ℕ) → start ≤ k
         → in_set k ≡ true
         → is_gt (pair_cmp cmp x (key, k)) ≡ false
     up_to x rest from k after there = from.2 (key, k) (in_from k after, tt) there
 
-    -- if the first has the key
+    -- if the first pair has the key, its slot is the key's first
     pub first_from : (pairs : List (K × ℕ)) (x : K × ℕ) (rest : List (K × ℕ)) → pairs ≡ x ∷ rest
         → AreFrom pairs
         → is_eq (cmp x.0 key) ≡ true → IsFirst in_set start (Some x.1)
@@ -121,7 +121,7 @@ module _ {K : Type 0} (cmp : K → K → Ordering) (total : IsTotalOrder cmp) wh
           tt,
         )
 
-    -- if it has another
+    -- if the first pair has another key, the key has no slot from `start` on
     pub none_first : (pairs : List (K × ℕ)) (x : K × ℕ) (rest : List (K × ℕ)) → pairs ≡ x ∷ rest
         → AreFrom pairs
         → is_eq (cmp x.0 key) ≡ false → IsFirst in_set start None

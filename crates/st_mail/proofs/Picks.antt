@@ -1,6 +1,6 @@
--- If a pattern doesn't ask for a place, the message that pick gives is at the first position that
--- passes a test, and if it does, at that place: so a search by the test finds the place, and what
--- is there is what pick gives.
+-- A pattern that asks for a place picks the message there, and any other pattern picks the first
+-- message that passes a test. So a search by the test finds the place, and the message there is
+-- the one picked.
 use Rattle.std.proofs.Common.{◌≡◌, ℕ, ◌+◌, ◌<◌, ◌≤◌, suc, ◌==◌, Bool, true, false, cond, nat_lt}
 use Rattle.std.proofs.Common.{List, [], ◌∷◌, length, Option, Some, None, option_map, position}
 use Rattle.std.proofs.Common.{slice_get, refl, sym, ◌∙◌, ap, arith}
@@ -15,21 +15,21 @@ use Rattle.st_core.specs.declared.types.Want.TheVariants as want
 use Rattle.st_core.specs.Pick.{matches, pick_from, pick}
 use Rattle.st_core.proofs.ForCallers.{pick_found}
 
--- the place of what pick gives, in a queue whose first place is n
+-- the place of the message that the pattern picks, if the places of the queue begin at n
 abbrev place_from : ℕ → Want → List Message → Option ℕ
 place_from n w ms = option_map (λ f. f.0) (pick_from n w ms)
 
--- the same in a whole queue
+-- the place of the message that the pattern picks
 abbrev pub place_picked : Want → List Message → Option ℕ
 place_picked w ms = option_map (λ f. f.0) (pick w ms)
 
--- k, if it is below the length
+-- k, if k is below `len`
 abbrev pub below : ℕ → ℕ → Option ℕ
 below k len = cond (nat_lt k len) (Some k) None
 
 -- A PATTERN THAT DOESN'T ASK FOR A PLACE
 
--- the pattern is this test
+-- the pattern matches a message at any place if and only if it passes the test
 abbrev pub IsTest : Want → (Message → Bool) → Type 0
 IsTest w test = (k : ℕ) (m : Message) → matches w k m ≡ test m
 
@@ -76,18 +76,18 @@ placed_from n k (m ∷ ms) h =
         rw (e, lt_true k (n + suc (length ms)) (omega arith)) (ap Some same)
     by false e rest = rw e (rest (past n k h e))
 
--- the pattern of a place
+-- a pattern by place picks the message at that place, if there is one
 pub placed : (k : ℕ) (ms : List Message) → below k (length ms) ≡ place_picked (want.Place k) ms
 placed k ms = ap (below k) (omega arith) ∙ sym (placed_from 0 k ms (omega arith))
 
--- the pattern of the first
+-- the pattern for the first message picks the message at place 0, if there is one
 pub firsts : (ms : List Message) → below 0 (length ms) ≡ place_picked want.First ms
 firsts [] = refl
 firsts (m ∷ ms) = rw (lt_true 0 (suc (length ms)) (omega arith)) refl
 
 -- WHAT STANDS THERE
 
--- what is at the place that pick gives is the message that it gives
+-- the pattern picks the message at place k
 pub record IsPicked (w : Want) (ms : List Message) (k : ℕ) : Type 0 where
   pub message : Message
   pub stands : slice_get ms k ≡ Some message
@@ -108,7 +108,7 @@ picked_at w ms k e = by (pick w ms) refl e
           given = is ∙ ap (λ j. Some (j, found.1)) at;
         }
 
--- so a message that is at its place is the one that it gives
+-- so the pattern picks the message found at the place that it picks
 pub given_at : (w : Want) (ms : List Message) (k : ℕ) (m : Message)
     → place_picked w ms ≡ Some k → slice_get ms k ≡ Some m → Some (k, m) ≡ pick w ms
 given_at w ms k m e there =

@@ -1,5 +1,5 @@
--- The first slot from some slot on that passes a test has the first item that passes it, from that
--- slot's place on.
+-- Slots are in the order of their items, so the first slot from some slot on that passes a test
+-- has the first item from that slot's place on that passes it.
 use Rattle.std.proofs.Common.{◌≡◌, ℕ, zero, suc, ◌+◌, ◌-◌, ◌≤◌, Bool, true, false, cond, List, []}
 use Rattle.std.proofs.Common.{◌∷◌, drop, length}
 use Rattle.std.proofs.Common.{Option, Some, None, option_map, position, refl, sym, ap, ◌∙◌, arith}
@@ -9,7 +9,7 @@ use Rattle.st_mail.specs.KeyedSlots.{IsFirst}
 use Rattle.st_mail.specs.Slots.{item_at, passes}
 use Rattle.st_arena.specs.Queue.{kept, before}
 
--- what is first after slot 0, as slots are counted from slot 1 on
+-- `behind` is the first slot among those behind slot 0, which are numbered one less there
 record Shift (test : ℕ → Bool) (start : ℕ) (found : Option ℕ) : Type 0 where
   behind : Option ℕ
   is : found ≡ option_map suc behind
@@ -44,11 +44,11 @@ module _ {T : Type 0} (test : T → Bool) where
   abbrev passes_in : List (Option T) → ℕ → Bool
   passes_in slots s = passes test (item_at slots s)
 
-  -- the places of slots, in a queue whose first place is n
+  -- the place of a slot, if the places of the queue begin at n
   abbrev place_of : ℕ → List (Option T) → Option ℕ → Option ℕ
   place_of n slots found = option_map (λ s. n + before slots s) found
 
-  -- one slot more in front
+  -- an empty slot in front moves each slot by one, and no place
   past_empty : (n : ℕ) (slots : List (Option T)) (behind : Option ℕ)
       → place_of n slots behind ≡ place_of n (None ∷ slots) (option_map suc behind)
   past_empty n slots None = refl
@@ -78,7 +78,7 @@ module _ {T : Type 0} (test : T → Bool) where
   here item slots (Some (suc s)) first is =
       absurd (cc (first.0.2 0 (omega arith) (omega arith), is))
 
-  -- the item in front passes, or the search goes on after it
+  -- the item in front passes the test, or the search goes on behind it
   by_test : (b : Bool) (n : ℕ) (item : T) (slots : List (Option T)) (found : Option ℕ)
       → test item ≡ b
       → IsFirst (passes_in (Some item ∷ slots)) 0 found
@@ -131,7 +131,7 @@ module _ {T : Type 0} (test : T → Bool) where
       ∙ past_item n item slots behind.behind
       ∙ ap (place_of n (Some item ∷ slots)) (sym behind.is))
 
-  -- in a search from the front, the place of the first slot is the position
+  -- the place of the first slot that passes is the first position that passes
   pub found_first : (slots : List (Option T)) (found : Option ℕ) → IsFirst (passes_in slots) 0 found
       → option_map (before slots) found ≡ position test (kept slots)
   found_first slots found first =
@@ -142,7 +142,7 @@ module _ {T : Type 0} (test : T → Bool) where
       plain None = refl
       plain (Some s) = ap (λ k. Some k) (omega arith)
 
-  -- in a search from a place on
+  -- counting the places from n more on adds n to each position
   shifted : (i n : ℕ) (items : List T)
       → position_from test (i + n) items ≡ option_map (λ k. n + k) (position_from test i items)
   shifted i n [] = refl

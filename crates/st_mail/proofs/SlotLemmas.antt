@@ -1,5 +1,5 @@
--- A test of a slot's item asks no other slot, so a new slot or an emptied one changes its answer
--- there alone.
+-- A test of a slot's item asks no other slot, so a new or emptied slot changes the test's result
+-- only there.
 use Rattle.std.proofs.Common.{◌≡◌, ℕ, zero, suc, ◌<◌, Bool, true, false, not, ◌==◌, ◌&&◌, ◌||◌}
 use Rattle.std.proofs.Common.{List, [], ◌∷◌, ◌++◌, length, set, slice_get, Option, Some, None, refl}
 use Rattle.std.proofs.Common.{ap, arith}
@@ -40,7 +40,7 @@ module _ {T : Type 0} where
   inside (o ∷ slots) zero item is = omega arith
   inside (o ∷ slots) (suc slot) item is = omega (arith, inside slots slot item is)
 
-  -- two ways to say it
+  -- a slot's item is what the list has at the slot
   pub item-get : (slots : List (Option T)) (slot : ℕ) (item : T) → item_at slots slot ≡ Some item
       → slice_get slots slot ≡ Some (Some item)
   item-get [] slot item is = absurd (cc)
@@ -65,7 +65,7 @@ module _ {T : Type 0} where
       by None is h = absurd (cc)
       by (Some item) is h = record { item = item; is = is }
 
-  -- a test at one slot more
+  -- after a push, the new slot passes if its item does, and the other slots as before
   pub passes-push : (test : T → Bool) (slots : List (Option T)) (item : T) (s : ℕ)
       → passes test (item_at (slots ++ Some item ∷ []) s)
       ≡ (test item && length slots == s || passes test (item_at slots s))
@@ -74,7 +74,7 @@ module _ {T : Type 0} where
   passes-push test (o ∷ slots) item zero = rw suc_zero (neither (test item) (passes test o))
   passes-push test (o ∷ slots) item (suc s) = rw same_suc (passes-push test slots item s)
 
-  -- at all slots but one
+  -- after a slot is emptied, it doesn't pass, and the other slots pass as before
   pub passes-set : (test : T → Bool) (slots : List (Option T)) (slot s : ℕ)
       → passes test (item_at (set slots slot None) s)
       ≡ (not (slot == s) && passes test (item_at slots s))

@@ -1,4 +1,4 @@
--- The actor's part of an act, by what the actor keeps for tracing and its queue.
+-- The actor's part of an act, in terms of the actor's tracing state and queue.
 use Rattle.std.specs.Prelude.{◌≡◌, ℕ, Bool, true, false, List, Some, None, All}
 use Rattle.st_core.specs.declared.types.Pid.{Pid}
 use Rattle.st_core.specs.declared.types.Message.{Message}
@@ -9,15 +9,15 @@ use Rattle.st_core.specs.State.{LocalState, Process}
 use Rattle.st_core.specs.Step.{Acted, acted}
 use Rattle.st_mail.specs.declared.outcome.Outcome.{Outcome as Told}
 
--- a process of these three parts
+-- the process with the pid p, the tracing state l and the queue
 abbrev pub process_of : Pid → LocalState → List Message → Process
 process_of p l queue = record { pid = p; local = l; queue = queue }
 
--- each token in the queue can be met
+-- the process can meet each token in the queue
 abbrev pub QueueFits : ℕ → List Message → Type 0
 QueueFits top queue = All (λ m. IsMeetable top m.token) queue
 
--- the act touches its actor alone and leaves all queues
+-- the act touches only its actor, and no queue
 abbrev pub is_inner : Act → Bool
 is_inner (act.Send p q v) = false
 is_inner (act.Receive p w) = false
@@ -25,12 +25,12 @@ is_inner (act.Reset p) = false
 is_inner (act.Tracer p b) = false
 is_inner a = true
 
--- the act is a send, which takes memory for its message
+-- the act is a send, which needs memory for its message
 abbrev pub is_send_act : Act → Bool
 is_send_act (act.Send p q v) = true
 is_send_act a = false
 
--- the actor's part of an act that tells this and leaves these parts
+-- the actor's part of an act that returns `told` and leaves the tracing state l and the queue
 abbrev pub part_of : Told → LocalState → List Message → Acted
 part_of told l queue = record {
   local = l;
@@ -40,11 +40,12 @@ part_of told l queue = record {
   place = told.place;
 }
 
--- whatever lies in its queue, p has this part of the act, which leaves the queue
+-- whatever the queue of p, the act returns `told`, takes the tracing state of p from `old` to
+-- `new` and leaves its queue
 abbrev pub ActsOutside : ℕ → Act → Pid → LocalState → LocalState → Told → Type 0
 ActsOutside top a p old new told =
     (queue : List Message) → acted top (process_of p old queue) a ≡ Some (part_of told new queue)
 
--- whatever lies in its queue, p has no part of the act
+-- whatever the queue of p, the act can't be made
 abbrev pub HasNoPart : ℕ → Act → Pid → LocalState → Type 0
 HasNoPart top a p l = (queue : List Message) → acted top (process_of p l queue) a ≡ None

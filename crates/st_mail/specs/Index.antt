@@ -1,4 +1,4 @@
--- An index of a queue: its slots, and the keys that it finds.
+-- An index of a queue: its slots, and the keys by which it finds messages.
 use Rattle.std.specs.Prelude.{◌≡◌, ◌==◌, ◌&&◌, ◌-◌, ℕ, Bool, true, false, List, Option, Some, None}
 use Rattle.std.specs.Prelude.{length}
 use Rattle.std.specs.declared.cmp.Ordering.{Ordering}
@@ -14,12 +14,12 @@ use Rattle.st_mail.specs.KeyedSlots.{has_key, is_kept}
 use Rattle.st_mail.specs.Slots.{item_at, passes}
 use Rattle.st_arena.specs.Queue.{kept, AreRanksOf}
 
--- the token has this from, and this as its own count
+-- the token has the from `from` and the own count `this`
 abbrev pub bears_stamp : Pid → ℕ → Option Token → Bool
 bears_stamp from this None = false
 bears_stamp from this (Some t) = pid_eq t.from from && t.serial.this == this
 
--- what is asked of a message by each key
+-- the test of a message by each key
 
 abbrev pub is_of_value : ℕ → Message → Bool
 is_of_value value m = m.value == value
@@ -33,18 +33,18 @@ is_of_both key m = pid_eq m.from key.0 && m.value == key.1
 abbrev pub bears_key : Pid × ℕ → Message → Bool
 bears_key key m = bears_stamp key.0 key.1 m.token
 
--- pids with a number, by pid and then number
+-- pairs of a pid and a count are ordered by pid and then count
 abbrev pub pid_count_cmp : Pid × ℕ → Pid × ℕ → Ordering
 pid_count_cmp a b = ordering_then (pid_cmp a.0 b.0) (nat_cmp a.1 b.1)
 
--- if keys are kept, a slot has a key exactly if a message is there that passes the key's test
+-- if keys are kept, a slot has a key if and only if it has a message that passes the key's test
 abbrev pub IsKeyedBy : {K : Type 0} → (K → K → Ordering) → (K → Message → Bool) → KeyedSlots K
     → List
     (Option Message) → Type 0
 IsKeyedBy {K} cmp test keyed slots = is_kept keyed ≡ true →
     (k : K) (s : ℕ) → has_key cmp keyed k s ≡ passes (test k) (item_at slots s)
 
--- by which keys the index finds messages
+-- the keys by which the index finds messages
 abbrev pub keys_of : Index → Keys
 keys_of index = record {
   value = is_kept index.values;
@@ -53,11 +53,12 @@ keys_of index = record {
   stamp = is_kept index.stamps;
 }
 
--- how many slots are left for messages that come
+-- how many more messages the index has slots for
 abbrev pub room : Index → ℕ
 room index = length index.ranks - index.used
 
--- the index has its messages in these slots
+-- the slots that the index has given out are `slots`, each with its message, or empty after the
+-- message left
 pub record HasSlots (index : Index) (slots : List (Option Message)) : Type 0 where
   pub used : index.used ≡ length slots
   pub ranks : AreRanksOf index.ranks slots
@@ -66,7 +67,7 @@ pub record HasSlots (index : Index) (slots : List (Option Message)) : Type 0 whe
   pub pairs : IsKeyedBy pid_count_cmp is_of_both index.pairs slots
   pub stamps : IsKeyedBy pid_count_cmp bears_key index.stamps slots
 
--- the index is one of this queue
+-- the index is one of the queue
 pub record IsIndexOf (index : Index) (queue : List Message) : Type 0 where
   pub slots : List (Option Message)
   pub has_slots : HasSlots index slots

@@ -1,6 +1,6 @@
-//! The actor's part of an act: its tracing state and its queue. Nothing
-//! here knows of other processes: a send's message goes to its receiver by the caller's hand, and
-//! what a reset or a tracer change does to a process is `st_core`'s.
+//! The actor's part of an act: what it does to the actor's tracing state and queue. The caller
+//! puts a send's message into its receiver's queue. What a reset or a tracer change does to a
+//! process is in `st_core`.
 
 ghost use Rattle.std.specs.Prelude.{◌≡◌, ◌<◌, true, length, set, IfOk, OnErr};
 ghost use Rattle.std.specs.Result.{result_ok};
@@ -15,7 +15,7 @@ ghost use Rattle.st_mail.specs.Mail.{queue_in};
 use crate::{Mailboxes, Outcome};
 use st_core::{Act, ClockFull, Event, Kind, Label, Local, Pid, Reply, Token, Want};
 
-/// An outcome of a reply alone.
+/// Returns an outcome that has only a reply.
 pub fn answer(reply: Reply) -> Outcome
     ensures { result ≡ record { reply = reply; report = None; place = None } }
 {
@@ -26,8 +26,8 @@ pub fn answer(reply: Reply) -> Outcome
     }
 }
 
-/// The event of a token in force, if the process is traced and the kind's flag is set (`seq_trace`
-/// manual page; that a process is traced is own profile).
+/// Returns the event of the token in force, if the process is traced and the flag of the event's
+/// kind is set (`seq_trace` manual page; that the process must be traced is own profile).
 pub fn event(
     traced: bool,
     kind: Kind,
@@ -57,8 +57,8 @@ pub fn event(
     }
 }
 
-/// Stamps a send or a print if the process has a token. Fails if the clock is
-/// at `TOP`.
+/// Returns the tracing state after the stamp of a send or a print, which is unchanged if the
+/// process has no token. Fails if the clock is at `TOP`.
 pub fn stamp<const TOP: u64>(me: Pid, local: &Local<TOP>) -> Result<Local<TOP>, ClockFull>
     ensures stamp { result_ok result ≡ stamp_any TOP me local.now }
     ensures fit { IfOk result (λ l. IsMeetable TOP l.token) }
@@ -71,7 +71,7 @@ pub fn stamp<const TOP: u64>(me: Pid, local: &Local<TOP>) -> Result<Local<TOP>, 
     Ok(local)
 }
 
-/// A print: the stamp, with the flag or without, and its event.
+/// Prints. If there is a token it is stamped, even if its flag for prints isn't set.
 fn print<const TOP: u64>(me: Pid, local: &mut Local<TOP>, value: u64) -> Result<Outcome, ClockFull>
     ensures acted { IfOk result (ActsOutside TOP (Act.Print me value) me local.old local.new) }
     ensures full { OnErr result (HasNoPart TOP (Act.Print me value) me local.old) }
@@ -89,7 +89,7 @@ fn print<const TOP: u64>(me: Pid, local: &mut Local<TOP>, value: u64) -> Result<
     })
 }
 
-/// A print if the token has this label, and else nothing.
+/// Prints if the token has the label, and otherwise does nothing.
 fn print_at<const TOP: u64>(
     me: Pid,
     local: &mut Local<TOP>,
@@ -107,8 +107,8 @@ fn print_at<const TOP: u64>(
     }
 }
 
-/// An act that leaves all queues: no send, receive, reset or tracer change. Fails if the clock is
-/// at `TOP` and the act stamps.
+/// Makes an act that leaves all queues: no send, receive, reset or tracer change. Fails if the act
+/// stamps and the clock is at `TOP`.
 pub fn inner<const TOP: u64>(
     me: Pid,
     local: &mut Local<TOP>,
@@ -131,8 +131,8 @@ pub fn inner<const TOP: u64>(
     }
 }
 
-/// A receive from the mailbox of this number. Each token that lies in it is one that the process
-/// can meet.
+/// Receives from the mailbox with the number `mailbox`, in which each token must be one that the
+/// process can meet.
 pub fn receive<const TOP: u64>(
     me: Pid,
     local: &mut Local<TOP>,

@@ -1,5 +1,5 @@
-//! How the messages of one queue are found: by a walk, or by an index of what long walks looked
-//! for.
+//! How the messages of one queue are found: by a walk, or by an index of the keys that long walks
+//! looked for.
 
 ghost use Rattle.std.specs.Prelude.{◌≡◌, ◌≤◌, ◌↔◌, ◌++◌, [], ◌∷◌, List, Some, IfSome, length};
 ghost use Rattle.std.specs.Prelude.{remove, true, slice_get};
@@ -12,40 +12,40 @@ use st_arena::Lists;
 use st_core::{Message, Want};
 use std::alloc::{AllocError, Global};
 
-/// A walk past fewer messages isn't counted: it takes no longer than what an index costs each
-/// message that joins and leaves the queue.
+/// The least number of messages passed at which a walk counts: a shorter walk costs no more than
+/// an index does for each message that joins and leaves the queue.
 const SHORT_WALK: u64 = 256;
 
-/// The messages that walks pass, for each one of the queue, before an index is made: to make it
-/// takes about as long.
+/// An index is made after walks have passed this many times as many messages as the queue has,
+/// since making it takes about as long.
 const WALKS_AN_INDEX: u64 = 16;
 
-/// A walk that looked for a message by this key.
+/// A walk through a queue in search of a message.
 #[derive(Clone, Copy)]
 pub(crate) struct Walk {
-    /// The question to each message.
+    /// The key of the search.
     pub(crate) key: SearchKey,
-    /// How many messages it passed.
+    /// The number of messages that the walk passed.
     pub(crate) passed: u64,
 }
 
-/// How a message is searched for before a receive takes it.
+/// How the message of a receive was searched for.
 #[derive(Clone, Copy)]
 pub(crate) enum Search {
-    /// Not at all.
+    /// Without a search.
     Nothing,
-    /// From the front, by this key.
+    /// By the key, from the front.
     Front(SearchKey),
-    /// By the stamp of its token, if it has one, from the front.
+    /// By the stamp of the message's token, if it has one, from the front.
     StampFromFront,
-    /// By the stamp of its token, if it has one, from both ends at once.
+    /// By the stamp of the message's token, if it has one, from both ends at once.
     StampFromEnds,
 }
 
 impl Search {
-    /// The search of a receive with this pattern. One that takes a message by its place may have
-    /// asked for it by its stamp before: from both ends (`place_of_one`), or from the front once
-    /// messages were wiped (`place_of`).
+    /// Returns the search before a receive with this pattern. A receive by place may follow a
+    /// search for the stamp: from both ends (`place_of_one`), or from the front after messages
+    /// were wiped (`place_of`).
     pub(crate) fn of(want: &Want, was_wiped: bool) -> Search
         ensures { result ≡ Search.Nothing ↔ want.now ≡ Want.First }
     {
@@ -59,7 +59,8 @@ impl Search {
         }
     }
 
-    /// A walk to the message that lay at this place of a queue of this length.
+    /// Returns the walk to a message that was at `place` of a queue with `others` other messages,
+    /// if the search walked.
     fn to_place(self, place: u64, others: u64, message: &Message) -> Option<Walk>
         ensures { IfSome result (λ walk. walk.passed ≤ place) }
     {
@@ -75,7 +76,8 @@ impl Search {
         Some(Walk { key, passed })
     }
 
-    /// The walk through a queue of this length that found nothing.
+    /// Returns the walk through a queue of length `len` that found nothing, if the search walked
+    /// from the front.
     pub(crate) fn to_end(self, len: u64) -> Option<Walk>
         ensures { IfSome result (λ walk. walk.passed ≡ len) }
     {
@@ -86,7 +88,7 @@ impl Search {
     }
 }
 
-/// How many messages long walks have passed, by what they looked for.
+/// The numbers of messages that long walks have passed, by the key of the search.
 #[derive(Clone, Copy, Default)]
 struct Walks {
     value: u64,
@@ -96,7 +98,7 @@ struct Walks {
 }
 
 impl Walks {
-    /// Counts a walk, and returns how many messages those by its key have passed.
+    /// Adds a walk, and returns how many messages the walks with its key have passed.
     fn count(&mut self, walk: Walk) -> u64
         ensures { walk.passed ≤ result }
     {
@@ -115,8 +117,8 @@ impl Walks {
 #[derive(Drop)]
 pub(crate) struct Finder {
     walks: Walks,
-    // An index of the queue by the keys for which walks have been long, if there are any. Few
-    // queues have one, so it lies on the heap.
+    // An index of the queue by the keys of long walks, if there were enough of them. Few queues
+    // have one, so it lies on the heap.
     index: Option<Box<Index>>,
 }
 
@@ -125,7 +127,7 @@ impl Finder {
     ghost use Rattle.st_mail.specs.Keys.{has};
     ghost use Rattle.st_mail.specs.Found.{Finds, IsFinder};
 
-    /// Finds the messages of a queue in which nobody has walked yet.
+    /// Returns the finder of a queue in which no walk was counted yet.
     pub(crate) fn new() -> Finder
         ensures { (queue : List Message) → Finds result queue }
     {
@@ -135,7 +137,7 @@ impl Finder {
         }
     }
 
-    /// An index of the queue, if there is one by this key.
+    /// Returns the index of the queue, if there is one by `key`.
     pub(crate) fn index_by(&self, key: SearchKey) -> Option<&Index>
         ensures kept { IfSome result (λ index. has (keys_of index.now) key ≡ true) }
         ensures index { IfSome result (λ index. (queue : List Message) → Finds self.now queue →
@@ -147,8 +149,8 @@ impl Finder {
         }
     }
 
-    /// Makes the index anew, by these keys, unless memory runs out. Then it is tried again after as
-    /// many walks as before, so that the tries take no longer than the walks.
+    /// Makes a new index by `keys`. If memory runs out, the queue has no index and its walks are
+    /// counted from 0 again, so failed tries take no longer than the walks.
     fn make_index(&mut self, alloc: Global, lists: &Lists<Message>, list: usize, keys: Keys)
         requires { list < length lists.now.lists }
         ensures { Finds self.new (list_at lists.now list) }
@@ -159,8 +161,8 @@ impl Finder {
         }
     }
 
-    /// Follows a list that the message has joined at its end. An index that runs out of memory is
-    /// given up, and one that is full is made anew.
+    /// Adds a message that has joined the list at its end. An index that runs out of memory is
+    /// dropped, and a full one is made anew.
     pub(crate) fn push(
         &mut self,
         alloc: Global,
@@ -184,8 +186,8 @@ impl Finder {
         }
     }
 
-    /// Follows a list that the message at this place has left, and which a search walked before. An
-    /// empty queue needs no memory.
+    /// Removes the message that has left `place` of the list, and counts the walk that searched
+    /// for it. An empty list loses its index, since it needs none.
     pub(crate) fn remove(
         &mut self,
         alloc: Global,
@@ -213,7 +215,8 @@ impl Finder {
         }
     }
 
-    /// Counts a walk in the list, unless an index has spared it, and makes an index if it is due.
+    /// Counts a long walk in the list by a key that no index has, and makes an index if enough
+    /// messages were passed.
     pub(crate) fn count_walk(
         &mut self,
         alloc: Global,
@@ -241,7 +244,8 @@ impl Finder {
 ghost use Rattle.std.specs.Prelude.{◌<◌, IfOk};
 ghost use Rattle.st_mail.specs.Index.{IsIndexOf};
 
-// An index of this list by these keys, with room for as many messages again.
+// Makes an index of the list by `keys`, with room for at least as many more messages as the list
+// has.
 fn index_over(
     alloc: Global,
     lists: &Lists<Message>,

@@ -12,17 +12,16 @@ use st_arena::Ranks;
 use st_core::{Message, Pid, Token};
 use std::alloc::{AllocError, Global};
 
-/// An index of one queue of messages. Its place in a contract: it is one of a queue (`IsIndexOf`),
+/// An index of one queue of messages. A contract says of which queue it is an index (`IsIndexOf`),
 /// as a list of messages from the oldest on.
 #[derive(Drop)]
 pub struct Index {
-    // A message gets the next slot when it comes, which is live until it leaves: so its place is
-    // its slot's rank.
+    // A message gets the next slot when it joins the queue, and the slot is live until it leaves.
+    // So the message's place is its slot's rank.
     ranks: Ranks,
-    // How many slots were given out.
+    // The number of slots given out.
     used: usize,
-    // The slots by what their messages show: the value, the sender, both, and the stamp. Each is
-    // kept or not.
+    // The slots by their messages' value, sender, both, and stamp, so far as these keys are kept.
     values: KeyedSlots<u64>,
     senders: KeyedSlots<Pid>,
     pairs: KeyedSlots<(Pid, u64)>,
@@ -32,8 +31,8 @@ pub struct Index {
 impl Index {
     ghost use Rattle.st_mail.specs.Index.{IsIndexOf, IsIndex, room, bears_stamp, keys_of};
 
-    /// Makes an index of the empty queue by these keys, with room for at least this many messages.
-    /// Fails if memory runs out.
+    /// Makes an index of the empty queue by `keys`, with room for at least `slots` messages. Fails
+    /// if memory runs out.
     pub fn new(alloc: Global, slots: usize, keys: Keys) -> Result<Index, AllocError>
         ensures empty { IfOk result (λ index. IsIndexOf index []) }
         ensures keys { IfOk result (λ index. keys_of index ≡ keys) }
@@ -50,7 +49,7 @@ impl Index {
         })
     }
 
-    /// The keys by which it finds messages.
+    /// Returns the keys by which the index finds messages.
     pub fn keys(&self) -> Keys
         ensures { result ≡ keys_of self.now }
     {
@@ -62,8 +61,7 @@ impl Index {
         }
     }
 
-    /// For how many more messages there is room: each that is pushed takes one slot, and none comes
-    /// back.
+    /// Returns how many more messages fit: each push uses a slot, and no slot is used twice.
     pub fn room(&self) -> usize
         requires { IsIndex self.now }
         ensures { result ≡ room self.now }
@@ -71,8 +69,8 @@ impl Index {
         self.ranks.len() - self.used
     }
 
-    /// Follows a queue that this message joins at its end. Fails if memory runs out, and the index
-    /// is of no use from then on.
+    /// Adds a message that joins the queue at its end. Fails if memory runs out, and then the
+    /// index is of no more use.
     pub fn push(&mut self, message: &Message) -> Result<(), AllocError>
         requires index { IsIndex self.old }
         requires room { 0 < room self.old }
@@ -86,15 +84,15 @@ impl Index {
         self.senders.insert(message.from, slot)?;
         self.pairs.insert((message.from, message.value), slot)?;
         insert_stamp(&mut self.stamps, &message.token, slot)?;
-        // That the number of slots is a `usize` is known where it is read, and so that of used ones
-        // stays within its type.
+        // Reads the number of slots: only then is it known to be a `usize`, so that `used + 1`
+        // fits.
         let _slot_count = self.ranks.len();
         self.ranks.mark_live(slot);
         self.used += 1;
         Ok(())
     }
 
-    /// Follows a queue that the message at this place leaves.
+    /// Removes the message at `place`, which leaves the queue.
     pub fn remove(&mut self, place: u64, message: &Message)
         requires { IsIndex self.old }
         ensures removed { (queue : List Message) → IsIndexOf self.old queue →
@@ -112,7 +110,7 @@ impl Index {
         remove_stamp(&mut self.stamps, &message.token, slot);
     }
 
-    /// The least place with a message from this process.
+    /// Returns the least place of a message from the process `from`.
     pub fn find_from(&self, from: Pid) -> Option<u64>
         requires index { IsIndex self.now }
         requires kept { (keys_of self.now).sender ≡ true }
@@ -123,7 +121,7 @@ impl Index {
         Some(self.ranks.rank(slot))
     }
 
-    /// The least place with a message of this value.
+    /// Returns the least place of a message with the value.
     pub fn find_value(&self, value: u64) -> Option<u64>
         requires index { IsIndex self.now }
         requires kept { (keys_of self.now).value ≡ true }
@@ -134,7 +132,7 @@ impl Index {
         Some(self.ranks.rank(slot))
     }
 
-    /// The least place with a message from this process and of this value.
+    /// Returns the least place of a message from the process `from` with the value.
     pub fn find_both(&self, from: Pid, value: u64) -> Option<u64>
         requires index { IsIndex self.now }
         requires kept { (keys_of self.now).both ≡ true }
@@ -145,8 +143,8 @@ impl Index {
         Some(self.ranks.rank(slot))
     }
 
-    /// The least place from `start` on whose message has a token with this from, and this as its
-    /// own count.
+    /// Returns the least place from `start` on whose message's token has the from `from` and the
+    /// own count `this`.
     pub fn find_stamp(&self, from: Pid, this: u64, start: u64) -> Option<u64>
         requires index { IsIndex self.now }
         requires kept { (keys_of self.now).stamp ≡ true }
@@ -164,7 +162,7 @@ ghost use Rattle.std.specs.Prelude.{◌||◌, not};
 ghost use Rattle.st_mail.specs.Index.{bears_stamp, pid_count_cmp};
 ghost use Rattle.st_mail.specs.KeyedSlots.{has_key, is_kept};
 
-// Gives the slot the stamp of the token, if there is one. Fails if memory runs out.
+// Gives the slot the stamp of the token, if there is a token. Fails if memory runs out.
 fn insert_stamp(
     stamps: &mut KeyedSlots<(Pid, u64)>,
     token: &Option<Token>,
@@ -182,7 +180,7 @@ fn insert_stamp(
     Ok(())
 }
 
-// Takes the stamp of the token from the slot, if there is one.
+// Takes the stamp of the token from the slot, if there is a token.
 fn remove_stamp(stamps: &mut KeyedSlots<(Pid, u64)>, token: &Option<Token>, slot: usize)
     ensures removed { (from : Pid) (this s : ℕ) → has_key pid_count_cmp stamps.new (from, this) s
         ≡ (not (bears_stamp from this token.now && slot == s)

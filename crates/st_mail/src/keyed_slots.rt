@@ -7,15 +7,15 @@ ghost use Rattle.st_mail.specs.KeyedSlots.{has_key, is_kept, IsFirst};
 use std::alloc::{AllocError, Global};
 use std::collections::BTreeSet;
 
-/// Pairs of a key and a slot that has it, in order of key and then slot: so the slots of one key
-/// are together and rise. If the keys of this sort aren't kept, there is none.
+/// Pairs of a key and a slot that has it, ordered by key and then slot, so that the slots of a key
+/// are neighbours and rise. If keys of this sort aren't kept, there are no pairs.
 #[derive(Drop)]
 pub struct KeyedSlots<K: Ord> {
     pairs: Option<BTreeSet<(K, usize)>>,
 }
 
 impl<K: Ord + Copy> KeyedSlots<K> {
-    /// No slot has a key, and from now on keys are kept or not.
+    /// Makes a set in which no slot has a key. It keeps keys only if `keeps` is true.
     pub(crate) fn new(alloc: Global, keeps: bool) -> KeyedSlots<K>
         ensures none { (k : K) (s : ℕ) → has_key K.cmp result k s ≡ false }
         ensures kept { is_kept result ≡ keeps }
@@ -34,8 +34,7 @@ impl<K: Ord + Copy> KeyedSlots<K> {
         self.pairs.is_some()
     }
 
-    /// Gives the slot this key, if keys are kept. It fails if memory runs out, and then nothing has
-    /// changed.
+    /// Gives the slot the key, if keys are kept. Fails if memory runs out.
     pub(crate) fn insert(&mut self, key: K, slot: usize) -> Result<(), AllocError>
         ensures inserted { OnOk result (is_kept self.old ≡ true → (k : K) (s : ℕ) →
             has_key K.cmp self.new k s
@@ -50,7 +49,7 @@ impl<K: Ord + Copy> KeyedSlots<K> {
         Ok(())
     }
 
-    /// Takes this key from the slot.
+    /// Takes the key from the slot.
     pub(crate) fn remove(&mut self, key: K, slot: usize)
         ensures removed { (k : K) (s : ℕ) → has_key K.cmp self.new k s
             ≡ (not (is_eq (K.cmp key k) && slot == s) && has_key K.cmp self.old k s) }
@@ -61,7 +60,7 @@ impl<K: Ord + Copy> KeyedSlots<K> {
         }
     }
 
-    /// The least slot from `start` on that has this key.
+    /// Returns the least slot from `start` on that has the key.
     pub(crate) fn first(&self, key: K, start: usize) -> Option<usize>
         ensures { IsFirst (has_key K.cmp self.now key) start result }
     {

@@ -3,20 +3,20 @@
 ghost use Rattle.std.specs.Prelude.{◌≡◌};
 ghost use Rattle.st_mail.specs.Keys.{has, with_key};
 
-/// The question that a search asks of a message.
+/// What a search asks of a message.
 #[derive(Clone, Copy, Debug, PartialEq, Eq)]
 pub enum SearchKey {
-    /// Its value.
+    /// The message's value.
     Value,
-    /// Its sender.
+    /// The message's sender.
     Sender,
-    /// Its sender and its value.
+    /// The message's sender and value.
     Both,
-    /// The from and the own count of its token.
+    /// The stamp of the message's token: its from and its own count.
     Stamp,
 }
 
-/// For each key, whether an index finds messages by it; by default for none.
+/// The keys by which an index finds messages; none by default.
 #[derive(Clone, Copy, Debug, Default, PartialEq, Eq)]
 pub struct Keys {
     /// By value.
@@ -30,7 +30,7 @@ pub struct Keys {
 }
 
 impl Keys {
-    /// Whether this key is among them.
+    /// Returns whether the key is one of these keys.
     pub fn has(self, key: SearchKey) -> bool
         ensures { result ≡ has self key }
     {
@@ -42,7 +42,7 @@ impl Keys {
         }
     }
 
-    /// These keys and this one.
+    /// Returns these keys and `key`.
     pub fn with(self, key: SearchKey) -> Keys
         ensures { result ≡ with_key key self }
     {

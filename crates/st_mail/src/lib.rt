@@ -1,11 +1,10 @@
-//! Mailboxes: the queues of many processes, held together; and what an act does to its actor.
+//! Mailboxes: the queues of many processes in one place, and what an act does to its actor.
 //!
-//! A contract sees k queues, as lists of messages from the oldest on, and a number, `spare`: for
-//! how many more messages there is room without more memory. A message that one queue gives up
-//! leaves its room to the next put on any queue. [`actor`] has the part of one step that is its
-//! actor's own, for the crates that keep many processes: it knows nothing of the others. This crate
-//! may use the lists of `st_arena`, and the types and local steps of `st_core`. Beside a
-//! long queue it keeps an [`Index`].
+//! A contract sees a list of queues, each a list of messages from the oldest on, and `spare`, the
+//! number of messages for which there is room already. A message that leaves a queue leaves its
+//! room to the next put on any queue. A long queue gets an [`Index`]. [`actor`] has the part of a
+//! step that is its actor's own, for the crates that keep many processes. This crate may use the
+//! lists of `st_arena`, and the types and local steps of `st_core`.
 #![tactic(auto)]
 
 pub mod actor;

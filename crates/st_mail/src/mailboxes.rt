@@ -1,4 +1,4 @@
-//! The mailboxes. Each call is on one of them by its number, and leaves all others as they are.
+//! The mailboxes. A call on one of them, by its number, leaves the others as they are.
 
 ghost use Rattle.std.specs.Prelude.{◌≡◌, ◌<◌, ◌≤◌, ◌+◌, ◌==◌, ◌&&◌, if◌then◌else◌, is_some, nat_lt};
 ghost use Rattle.std.specs.Prelude.{[], ◌∷◌, ◌++◌, length, map, option_map, position, replicate};
@@ -20,9 +20,9 @@ use std::marker::Model;
 pub struct Mailboxes {
     queues: Queues,
 
-    // How many messages at the front of each mailbox were wiped: what is stored of them may still
-    // have its token, which counts for nothing. A wipe is of all that lie there, so it leaves no
-    // gap.
+    // How many messages at the front of each mailbox were wiped. They may still be stored with
+    // their tokens, which count for nothing. A wipe takes all tokens in the mailbox, so the wiped
+    // messages are those at the front.
     wiped: Vec<u64>,
 
     // Whether messages of any mailbox were wiped.
@@ -53,8 +53,7 @@ fn without_token(message: Message) -> Message
 }
 
 impl Mailboxes {
-    /// As many empty mailboxes as `count`, with room for no message yet. Fails if memory runs
-    /// out.
+    /// Makes `count` empty mailboxes, without room for messages. Fails if memory runs out.
     pub fn new(alloc: Global, count: usize) -> Result<Mailboxes, AllocError>
         ensures empty { IfOk result (λ mail. mail.boxes ≡ replicate count []) }
         ensures spare { IfOk result (λ mail. mail.spare ≡ 0) }
@@ -68,8 +67,8 @@ impl Mailboxes {
         })
     }
 
-    /// Makes room for `count` more messages, in any mailboxes. If there is room already, nothing
-    /// changes. Fails if memory runs out.
+    /// Makes room for `count` more messages, in any mailboxes, and changes nothing if there is
+    /// room already. Fails if memory runs out.
     pub fn reserve(&mut self, count: usize) -> Result<(), AllocError>
         ensures room { OnOk result (count ≤ self.new.spare) }
         ensures succeeds { count ≤ self.old.spare → IsOk result }
@@ -80,7 +79,7 @@ impl Mailboxes {
         self.queues.reserve(count)
     }
 
-    /// How many messages lie in the mailbox.
+    /// Returns how many messages are in the mailbox.
     pub fn len(&self, mailbox: usize) -> u64
         requires { mailbox < length self.now.boxes }
         ensures { result ≡ length (queue_in self.now.boxes mailbox) }
@@ -88,7 +87,7 @@ impl Mailboxes {
         self.queues.len(mailbox)
     }
 
-    /// The message at this place of the mailbox, the oldest at place 0.
+    /// Returns the message at `place` of the mailbox, in which the oldest is at place 0.
     pub fn get(&self, mailbox: usize, place: u64) -> Option<Message>
         requires { mailbox < length self.now.boxes }
         ensures { result ≡ slice_get (queue_in self.now.boxes mailbox) place }
@@ -116,7 +115,7 @@ impl Mailboxes {
         Ok(())
     }
 
-    /// Puts a message at the end of the mailbox, which has room for it.
+    /// Puts a message at the end of the mailbox, for which there must be room.
     pub fn put_reserved(&mut self, mailbox: usize, message: Message)
         requires within { mailbox < length self.old.boxes }
         requires room { 0 < self.old.spare }
@@ -127,8 +126,8 @@ impl Mailboxes {
         self.queues.push_reserved(mailbox, message);
     }
 
-    /// The place of the message that a receive with this pattern takes. A pattern by place, and one
-    /// for the first, are tested without a walk.
+    /// Returns the place of the message that a receive with this pattern takes, if there is one. A
+    /// pattern by place, or for the first message, needs no walk.
     pub fn find(&self, mailbox: usize, want: &Want) -> Option<u64>
         requires { mailbox < length self.now.boxes }
         ensures { result ≡ option_map (λ found. found.0)
@@ -170,7 +169,6 @@ impl Mailboxes {
         self.queues.find_value(mailbox, value)
     }
 
-    /// The least place with a message from this process and of this value.
     fn find_both(&self, mailbox: usize, from: Pid, value: u64) -> Option<u64>
         requires { mailbox < length self.now.boxes }
         ensures { result ≡ position (λ m. pid_eq m.from from && m.value == value)
@@ -179,8 +177,8 @@ impl Mailboxes {
         self.queues.find_both(mailbox, from, value)
     }
 
-    /// Takes the message that a receive with this pattern takes, and returns its place and itself.
-    /// Its room is there for the next put on any mailbox.
+    /// Removes the message that a receive with this pattern takes, and returns its place and the
+    /// message. Its room serves the next put on any mailbox.
     pub fn take(&mut self, mailbox: usize, want: &Want) -> Option<(u64, Message)>
         requires { mailbox < length self.old.boxes }
         ensures took { result ≡ pick want.now (queue_in self.old.boxes mailbox) }
@@ -202,8 +200,8 @@ impl Mailboxes {
         Some((place, without_token(message)))
     }
 
-    /// The least place of the mailbox whose message has a token with this from, and this as its own
-    /// count.
+    /// Returns the least place of the mailbox whose message's token has the from `from` and the
+    /// own count `this`.
     pub fn place_of(&self, mailbox: usize, from: Pid, this: u64) -> Option<u64>
         requires { mailbox < length self.now.boxes }
         ensures { result ≡ position (λ m. bears_stamp from this m.token)
@@ -213,9 +211,9 @@ impl Mailboxes {
             .find_stamp(mailbox, from, this, self.wiped[mailbox])
     }
 
-    /// Finds what `place_of` finds, if no two messages of the mailbox have this stamp. It looks
-    /// from both ends at once, so that a reply at the end of a long queue is found as soon as the
-    /// oldest message.
+    /// Returns what `place_of` does, if no two messages of the mailbox have the stamp. Unless
+    /// messages of the mailbox were wiped, it searches from both ends at once, so that a reply at
+    /// the end of a long queue is found as soon as the oldest message.
     pub fn place_of_one(&self, mailbox: usize, from: Pid, this: u64) -> Option<u64>
         requires within { mailbox < length self.now.boxes }
         requires one { PassesOnce (λ m. bears_stamp from this m.token)
@@ -229,8 +227,8 @@ impl Mailboxes {
         self.queues.find_one_stamp(mailbox, from, this)
     }
 
-    /// Takes the tokens of the messages in the mailbox away. The messages stay. It takes no longer
-    /// for many than for none.
+    /// Takes the tokens from the messages in the mailbox, and leaves the messages. It takes the
+    /// same time for any number of messages.
     pub fn wipe_tokens(&mut self, mailbox: usize)
         requires { mailbox < length self.old.boxes }
         ensures boxes { self.new.boxes

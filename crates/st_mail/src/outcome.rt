@@ -1,14 +1,14 @@
-//! The outcome of an act, without its changes. A plain value.
+//! The outcome of an act, as a plain value.
 
 use st_core::{Event, Reply};
 
-/// The outcome of an act.
+/// What an act returns and reports, without what it changes.
 #[derive(Clone, Copy, Debug, PartialEq, Eq)]
 pub struct Outcome {
     /// The reply to the actor.
     pub reply: Reply,
-    /// The event that the system tracer gets, if the act is reported.
+    /// The event for the system tracer, if the act is reported.
     pub report: Option<Event>,
-    /// The place in its queue from which a receive took its message, the oldest at place 0.
+    /// The place from which a receive took its message; the oldest in the queue is at place 0.
     pub place: Option<u64>,
 }

@@ -1,4 +1,4 @@
-//! The stored queues. One in which calls have walked far has an index.
+//! The stored queues. A queue in which calls have walked far has an index.
 
 ghost use Rattle.std.specs.Prelude.{◌≡◌, ◌+◌, ◌<◌, ◌≤◌, ◌==◌, ◌&&◌, ◌++◌, [], ◌∷◌, true, IfNone};
 ghost use Rattle.std.specs.Prelude.{IfOk, IfSome, IsOk, OnOk, OnErr, OnSome, drop, length};
@@ -19,13 +19,13 @@ use st_core::{Message, Pid, Token};
 use std::alloc::{AllocError, Global};
 use std::marker::Model;
 
-/// The lists of messages of all queues. A contract sees them as those of `st_arena`: what finds
-/// their messages isn't seen.
+/// The queues' lists of messages. A contract sees the lists of `st_arena`, and not how their
+/// messages are found.
 #[derive(Drop)]
 pub(crate) struct Queues {
     alloc: Global,
     lists: Lists<Message>,
-    // For each list, how its messages are found.
+    // How the messages of each list are found.
     finders: Vec<Finder>,
 }
 
@@ -41,7 +41,7 @@ impl Model for Queues {
     ghost invariant = { λ a. AllFound a.finders.items a.lists.lists };
 }
 
-/// Whether the token has this from, and this as its own count.
+/// Returns whether the token has the from `from` and the own count `this`.
 fn is_stamp(from: Pid, this: u64, token: &Option<Token>) -> bool
     ensures { result ≡ bears_stamp from this token.now }
 {
@@ -52,7 +52,7 @@ fn is_stamp(from: Pid, this: u64, token: &Option<Token>) -> bool
 }
 
 impl Queues {
-    /// As many empty queues, with room for no message yet. Fails if memory runs out.
+    /// Makes `count` empty queues, without room for messages. Fails if memory runs out.
     pub(crate) fn new(alloc: Global, count: usize) -> Result<Queues, AllocError>
         ensures empty { IfOk result (λ queues. queues.lists ≡ replicate count []) }
         ensures spare { IfOk result (λ queues. queues.spare ≡ 0) }
@@ -69,8 +69,8 @@ impl Queues {
         })
     }
 
-    /// Makes room for `count` more messages, in any queues. If there is room already, nothing
-    /// changes. Fails if memory runs out.
+    /// Makes room for `count` more messages, in any queues, and changes nothing if there is room
+    /// already. Fails if memory runs out.
     pub(crate) fn reserve(&mut self, count: usize) -> Result<(), AllocError>
         ensures room { OnOk result (count ≤ self.new.spare) }
         ensures succeeds { count ≤ self.old.spare → IsOk result }
@@ -88,7 +88,7 @@ impl Queues {
         self.lists.len(queue)
     }
 
-    /// The message at this place of the queue, if it is that long.
+    /// Returns the message at `place` of the queue, if the queue is that long.
     pub(crate) fn get(&self, queue: usize, place: u64) -> Option<&Message>
         requires { queue < length self.now.lists }
         ensures { option_copied result ≡ slice_get (list_at self.now queue) place }
@@ -96,8 +96,7 @@ impl Queues {
         self.lists.get(queue, place)
     }
 
-    /// Adds the message at the end of the queue. Fails only if there is no room and memory runs
-    /// out.
+    /// Adds a message at the end of the queue. Fails only if there is no room and memory runs out.
     pub(crate) fn push_back(&mut self, queue: usize, message: Message) -> Result<(), AllocError>
         requires { queue < length self.old.lists }
         ensures pushed { OnOk result (
@@ -112,7 +111,7 @@ impl Queues {
         Ok(())
     }
 
-    /// Adds the message at the end of the queue, which has room for it.
+    /// Adds a message at the end of the queue, for which there must be room.
     pub(crate) fn push_reserved(&mut self, queue: usize, message: Message)
         requires in_range { queue < length self.old.lists }
         requires room { 0 < self.old.spare }
@@ -124,8 +123,8 @@ impl Queues {
         self.finders[queue].push(self.alloc, &self.lists, queue, &message);
     }
 
-    /// Takes the message at this place, which was searched for, out of the queue, if it is that
-    /// long. Its room is there for the next one, in any queue.
+    /// Removes the message at `place` of the queue and returns it, if the queue is that long.
+    /// `search` is how the message was found. Its room serves the next message of any queue.
     pub(crate) fn take_at(&mut self, queue: usize, place: u64, search: Search) -> Option<Message>
         requires { queue < length self.old.lists }
         ensures value { result ≡ slice_get (list_at self.old queue) place }
@@ -140,8 +139,8 @@ impl Queues {
         Some(message)
     }
 
-    /// Counts the walk of a search through the whole queue that found nothing, after enough of
-    /// which the queue gets an index.
+    /// Counts the walk of a search that passed the whole queue and found nothing. After enough
+    /// such walks the queue gets an index.
     pub(crate) fn count_miss(&mut self, queue: usize, search: Search)
         requires { queue < length self.old.lists }
         ensures { self.new ≡ self.old }
@@ -151,7 +150,7 @@ impl Queues {
         }
     }
 
-    /// An index of the queue, if there is one by this key.
+    /// Returns the index of the queue, if there is one by `key`.
     #[inline]
     fn index_of(&self, queue: usize, key: SearchKey) -> Option<&Index>
         requires { queue < length self.now.lists }
@@ -188,7 +187,6 @@ impl Queues {
         self.lists.find_first(queue, &matches)
     }
 
-    /// The least place with a message from this process and of this value.
     pub(crate) fn find_both(&self, queue: usize, from: Pid, value: u64) -> Option<u64>
         requires { queue < length self.now.lists }
         ensures { result ≡ position (λ m. pid_eq m.from from && m.value == value)
@@ -203,8 +201,8 @@ impl Queues {
         self.lists.find_first(queue, &matches)
     }
 
-    /// The least place from `start` on whose message has a token with this from, and this as its
-    /// own count.
+    /// Returns the least place from `start` on whose message's token has the from `from` and the
+    /// own count `this`.
     pub(crate) fn find_stamp(&self, queue: usize, from: Pid, this: u64, start: u64) -> Option<u64>
         requires { queue < length self.now.lists }
         ensures { result ≡ option_map (λ k. start + k)
@@ -218,8 +216,8 @@ impl Queues {
         Some(start + place as u64)
     }
 
-    /// The place whose message has such a token, if one message at most has. Without an index it is
-    /// looked for from both ends at once.
+    /// Returns the place of the message with the stamp, of which the queue has at most one.
+    /// Without an index it searches from both ends at once.
     pub(crate) fn find_one_stamp(&self, queue: usize, from: Pid, this: u64) -> Option<u64>
         requires within { queue < length self.now.lists }
         requires one { PassesOnce (λ m. bears_stamp from this m.token) (list_at self.now queue) }

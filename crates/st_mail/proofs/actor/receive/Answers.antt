@@ -1,4 +1,5 @@
--- The message that is taken can be met, since it lay in the queue, and what is left lay there too.
+-- The message taken and the messages left were all in the queue, so the process can meet their
+-- tokens.
 use Rattle.std.proofs.Common.{◌≡◌, List, [], sym, ◌∙◌, ap, arith}
 use Rattle.std.proofs.lemmas.List.{get_or-set_same}
 use Rattle.st_core.specs.declared.types.Message.{Message}

@@ -1,4 +1,4 @@
--- The walk gives the list, message by message, and each is pushed.
+-- The walk yields the list's messages in order, and each is pushed.
 use Rattle.std.proofs.Common.{◌∙◌, arith}
 use Rattle.std.proofs.lemmas.Iterator.Consumers.{YieldsList-from_first, YieldsList-turn}
 use Rattle.std.proofs.lemmas.Iterator.Consumers.{YieldsList-end}

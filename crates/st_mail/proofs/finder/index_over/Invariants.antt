@@ -1,4 +1,4 @@
--- The index is one of the messages so far, and has room for those that are left.
+-- The index so far is one of the messages passed, and has room for those left.
 use Rattle.std.proofs.Common.{◌+◌, ◌≤◌, length, map}
 use Rattle.st_arena.specs.Arena.{list_at}
 use Rattle.st_mail.specs.Index.{IsIndexOf, room}

@@ -1,4 +1,4 @@
--- A stamp is a key.
+-- A stamp is a pair of a pid and a count.
 use Rattle.std.proofs.Common.{Bool, not, ◌==◌, ◌&&◌, sym, ap, ◌∙◌}
 use Rattle.st_mail.specs.Index.{bears_stamp, pid_count_cmp}
 use Rattle.st_mail.specs.KeyedSlots.{has_key}

@@ -1,4 +1,4 @@
--- From the slot of the place on, the first slot that has the key has the first place.
+-- From the slot of the place on, the rank of the first slot that has the key is the first place.
 use Rattle.std.proofs.Common.{ℕ, Option, Some, option_map, take, sym, ap, subst, ◌∙◌}
 use Rattle.std.specs.List.{sum}
 use Rattle.st_mail.specs.Index.{bears_key, pid_count_cmp}

@@ -1,4 +1,4 @@
--- The first slot that has the key has the place.
+-- The rank of the first slot that has the key is the place.
 use Rattle.std.proofs.Common.{ℕ, Option, Some, option_map, take, sym, ap, subst, ◌∙◌}
 use Rattle.std.specs.List.{sum}
 use Rattle.std.specs.Ordering.{nat_cmp}

@@ -1,4 +1,4 @@
--- The message has the next slot, and each set of keys gets its own.
+-- The message gets the next slot, and its own key is put into each set of keys.
 use Rattle.std.proofs.Common.{◌≡◌, ◌+◌, ℕ, Some, List, [], ◌∷◌, ◌++◌, length, set, refl, ap, ◌∙◌}
 use Rattle.std.proofs.Common.{arith}
 use Rattle.std.proofs.lemmas.List.{length_push}

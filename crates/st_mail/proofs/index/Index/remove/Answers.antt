@@ -1,4 +1,4 @@
--- The slot at the place is the message's, and it loses its keys.
+-- The slot at the place is the message's, and loses the message's keys.
 use Rattle.std.proofs.Common.{◌≡◌, ◌<◌, Some, None, List, length, set, slice_get, remove, refl, sym}
 use Rattle.std.proofs.Common.{ap, ◌∙◌, arith}
 use Rattle.std.proofs.lemmas.List.{length-set}

@@ -1,4 +1,4 @@
--- No more slots were given out than there are.
+-- No more slots were given out than the index has.
 use Rattle.std.proofs.Common.{arith}
 use Rattle.st_mail.proofs.IndexLemmas.{slots-len}
 use Rattle.st_mail.proofs.index.Index.room.Goals as goal

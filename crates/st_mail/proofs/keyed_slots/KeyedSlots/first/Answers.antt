@@ -1,4 +1,4 @@
--- The first pair from (key, start) on is the key's, or the key has no slot there.
+-- The first pair from (key, start) on has the key, or the key has no slot there.
 use Rattle.std.proofs.Common.{None, Some, sym, ap, ◌∙◌}
 use Rattle.std.specs.Ordering.{is_eq}
 use Rattle.st_mail.proofs.PairLemmas.{kept_first, none_from, first_from, none_first}

@@ -1,4 +1,4 @@
--- The pair that was put in is there, and of the others those that were.
+-- The set has the new pair, and of the other pairs those that it had.
 use Rattle.std.proofs.Common.{Bool, ◌==◌, ◌&&◌, ◌||◌, sym, ap, ◌∙◌}
 use Rattle.std.specs.Ordering.{is_eq}
 use Rattle.st_mail.proofs.PairLemmas.{both_equal, cond_or, kept_keys}

@@ -1,4 +1,4 @@
--- The pair that was taken out is not there, and of the others those that were.
+-- The set doesn't have the removed pair, and has the others as before.
 use Rattle.std.proofs.Common.{Bool, not, ◌==◌, ◌&&◌, sym, ap, ◌∙◌}
 use Rattle.std.specs.Ordering.{is_eq}
 use Rattle.st_mail.proofs.PairLemmas.{both_equal, cond_and, kept_keys}

@@ -1,4 +1,4 @@
--- Each pattern is looked for by its test, or tested at its place.
+-- Each pattern is searched for by its test, or tested at its place.
 use Rattle.std.proofs.Common.{◌==◌, ◌&&◌, List, refl, sym, ◌∙◌, ap}
 use Rattle.st_core.specs.declared.types.Message.{Message}
 use Rattle.st_core.specs.declared.types.Want.{Want}

@@ -1,4 +1,4 @@
--- The test looks at no token, so it finds the same place in what is stored.
+-- The test looks at no token, so it finds the same place in the stored list.
 use Rattle.std.proofs.Common.{refl, ap, ◌∙◌}
 use Rattle.st_core.specs.declared.types.Message.{Message}
 use Rattle.st_core.specs.Pid.{pid_eq}

@@ -1,4 +1,5 @@
--- A message of the wiped front is answered without its token, and each other as it is stored.
+-- A message of the wiped front is returned without its token, and each other message as it is
+-- stored.
 use Rattle.std.proofs.Common.{Some, option_copied, refl, ap, sym, ◌∙◌, arith}
 use Rattle.st_mail.proofs.Boxes.{in_stored, in_counts, read_count, get_none, get_front, get_behind}
 use Rattle.st_mail.proofs.mailboxes.Mailboxes.get.Goals as goal

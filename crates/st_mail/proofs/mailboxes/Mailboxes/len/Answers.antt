@@ -1,4 +1,4 @@
--- A queue is as long as its list.
+-- A mailbox has as many messages as its stored list.
 use Rattle.std.proofs.Common.{refl, ap, ◌∙◌}
 use Rattle.st_mail.proofs.Boxes.{in_stored, len_is}
 use Rattle.st_mail.proofs.mailboxes.Mailboxes.len.Goals as goal

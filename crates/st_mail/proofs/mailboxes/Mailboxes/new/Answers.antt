@@ -1,4 +1,4 @@
--- No message has lost its token.
+-- No message is wiped, and each stored list is empty.
 use Rattle.st_mail.proofs.Boxes.{empty_fronts, empty_boxes}
 use Rattle.st_mail.proofs.mailboxes.Mailboxes.new.Goals as goal
 

@@ -1,4 +1,4 @@
--- In the wiped front no token is left to be found, and after it lies what is stored.
+-- In the wiped front no message has a token, and behind it the messages are as they are stored.
 use Rattle.std.proofs.Common.{refl, ap, sym, ◌∙◌, arith}
 use Rattle.st_mail.specs.Mail.{bears_stamp}
 use Rattle.st_mail.proofs.Boxes.{in_stored, in_counts, read_count, found_behind}

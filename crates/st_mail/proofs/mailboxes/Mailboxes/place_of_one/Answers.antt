@@ -1,4 +1,4 @@
--- If nothing was wiped, what is stored is the mailbox.
+-- If no message was wiped, the stored list is the mailbox.
 use Rattle.std.proofs.Common.{◌≡◌, ℕ, ap, sym, ◌∙◌, arith, position, subst}
 use Rattle.st_core.specs.declared.types.Message.{Message}
 use Rattle.st_arena.specs.Calls.{PassesOnce}

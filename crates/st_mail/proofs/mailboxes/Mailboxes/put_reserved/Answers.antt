@@ -1,4 +1,4 @@
--- A message comes after the wiped front, as it comes after what is stored.
+-- A message joins the mailbox behind the wiped front, as it joins the stored list.
 use Rattle.std.proofs.Common.{refl, ap, ◌∙◌}
 use Rattle.st_mail.specs.Wiped.{fronts_wiped}
 use Rattle.st_mail.proofs.Boxes.{in_stored, pushed, pushed_fronts}

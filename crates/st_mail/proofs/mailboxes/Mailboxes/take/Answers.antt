@@ -1,5 +1,5 @@
--- `find` returns the place that pick gives. The message stored there is the one that pick gives but
--- for its token, which is gone if the place lies in the wiped front.
+-- `find` returns the place of the picked message. The message stored there is the picked one,
+-- except that its token is gone if the place is in the wiped front.
 use Rattle.std.proofs.Common.{◌≡◌, ◌-◌, List, Some, refl, sym, ◌∙◌, ap, arith}
 use Rattle.st_core.specs.declared.types.Message.{Message}
 use Rattle.st_mail.specs.Mail.{queue_in}

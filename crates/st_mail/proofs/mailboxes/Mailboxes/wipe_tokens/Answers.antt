@@ -1,4 +1,4 @@
--- All messages that lie in the mailbox are its front now.
+-- After a wipe the wiped front is all messages in the mailbox.
 use Rattle.std.proofs.Common.{◌≡◌, refl, sym, ap, length, ◌∙◌, arith}
 use Rattle.st_mail.specs.Mail.{queue_in}
 use Rattle.st_mail.proofs.Boxes.{in_counts, len_is, wiped, wiped_fronts}

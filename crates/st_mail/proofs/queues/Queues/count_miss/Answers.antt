@@ -1,4 +1,4 @@
--- The lists stay, and the finder of this one still finds its messages.
+-- The lists stay, and the queue's new finder still finds its messages.
 use Rattle.std.proofs.Common.{◌<◌, length, refl, sym, ap, arith}
 use Rattle.st_mail.proofs.Finders.{in_finders, finder_of, kept_found}
 use Rattle.st_mail.proofs.queues.Queues.count_miss.Goals as goal

@@ -1,4 +1,4 @@
--- The index is one of the list, and so is the walk.
+-- Both the index and the walk search the list from `start` on.
 use Rattle.std.proofs.Common.{◌≡◌, ◌+◌, rules, tests, option_map, position, drop, sym, ap, ◌∙◌}
 use Rattle.std.proofs.lemmas.Iterator.Adapters.{YieldsList-from_skip}
 use Rattle.std.proofs.lemmas.Iterator.Consumers.{YieldsList-from_first}

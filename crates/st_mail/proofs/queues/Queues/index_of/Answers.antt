@@ -1,4 +1,4 @@
--- The finder of the queue has the index, so it is one of what lies in the queue.
+-- The finder of the queue has the index, so it is an index of the queue.
 use Rattle.std.proofs.Common.{sym, ap, arith}
 use Rattle.std.proofs.lemmas.Option.{IfSome_then}
 use Rattle.st_mail.proofs.Finders.{in_finders, finder_of, some_index}

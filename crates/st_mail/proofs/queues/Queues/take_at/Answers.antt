@@ -1,4 +1,4 @@
--- The finder follows its list, and all others stay.
+-- The finder follows its list, and the other lists and finders stay.
 use Rattle.std.proofs.Common.{◌≡◌, ◌<◌, List, [], length, remove, refl, sym, ap, ◌∙◌, arith}
 use Rattle.std.proofs.lemmas.List.{get_or-set_same}
 use Rattle.st_core.specs.declared.types.Message.{Message}
