@@ -1,5 +1,5 @@
--- An act of one process on the rows, once that process was made ready: it reads there what the
--- state has of its actor, and what it writes there is written in the state.
+-- After a process is made ready for its act, its row has what the state has of the actor, so what
+-- the act reads and writes there is read and written in the state.
 use Rattle.std.proofs.Common.{◌≡◌, ◌≢◌, ℕ, ◌<◌, List, [], length, get_or, set, Some, Ok, Err}
 use Rattle.std.proofs.Common.{Result, IfOk, OnErr, position, refl, sym, ◌∙◌, ap, subst, arith}
 use Rattle.std.proofs.lemmas.List.{get_or-set_same, get_or-set_other, length-set}
@@ -17,15 +17,15 @@ use Rattle.st_world.proofs.Kept.{listed_after, marked_at, marked_rows, same_flag
 use Rattle.st_world.proofs.Marks.{acted_mark}
 use Rattle.st_world.proofs.RowLemmas.{number_within}
 
--- an act that leaves all queues leaves the mark
+-- an act that touches no queue leaves the mark
 pub inner_mark : {E : Type 0} (top : ℕ) (a : Act) (p : Pid) (l l2 : LocalState) (r : Result Told E)
     → IfOk r (ActsOutside top a p l l2) → OnErr r (l2 ≡ l) → l2.traced ≡ l.traced
 inner_mark top a p l l2 (Ok told) acts err =
     acted_mark top (process_of p l []) a (part_of told l2 []) (acts [])
 inner_mark top a p l l2 (Err e) acts err = ap (λ (x : LocalState). x.traced) err
 
--- the process p, of number i, was made ready for its act: it keeps l1, which is what it kept with
--- its mark
+-- the process p with the number i is ready for its act: it is listed, and its row is `l1`, the old
+-- row with its node's mark
 pub record Started (top : ℕ) (ps : List Pid) (g : Groups) (raw : List LocalState)
     (bs : List (List Message))
     (h : Groups) (p : Pid) (i : ℕ) (l1 : LocalState) : Type 0 where
@@ -60,7 +60,7 @@ started {l} kept places same others at here is_was put =
       put = put;
     }
 
--- another process was listed too
+-- a ready process stays ready when another process is listed
 pub touched : {top : ℕ} {ps : List Pid} {g : Groups} {raw : List LocalState} {bs : List
     (List Message)} {h : Groups}
     {p : Pid} {i : ℕ} {l1 : LocalState} {h2 : Groups}
@@ -88,7 +88,7 @@ module _ {top : ℕ} {ps : List Pid} {g : Groups} {raw : List LocalState} {bs : 
   within : i < length raw
   within = omega (arith, number_within ps p i s.at, s.kept.locals_len)
 
-  -- what is read there afterwards
+  -- the actor's row, read after it was made ready, is the old row with its node's mark
   read_is : (x : LocalState) → x ≡ get_or (set raw i l1) i x
       → x ≡ record (s.was) { traced = traced_at g i }
   read_is x e = e ∙ get_or-set_same raw i l1 x within ∙ s.put
@@ -102,7 +102,7 @@ module _ {top : ℕ} {ps : List Pid} {g : Groups} {raw : List LocalState} {bs : 
   pub read_mark : (x : LocalState) → x ≡ get_or (set raw i l1) i x → x.traced ≡ traced_at g i
   read_mark x e = ap (λ (y : LocalState). y.traced) (read_is x e)
 
-  -- the rows while nothing but the mark is written, and afterwards
+  -- the state's tracing states if only the mark was written, and after the act
   pub ready_rows : flagged (are_traced h) (set raw i l1) ≡ flagged (are_traced g) raw
   ready_rows =
       ap (λ fs. flagged fs (set raw i l1)) (same_flags g h s.places s.same)
@@ -115,7 +115,7 @@ module _ {top : ℕ} {ps : List Pid} {g : Groups} {raw : List LocalState} {bs : 
       ap (λ fs. flagged fs (set (set raw i l1) i l2)) (same_flags g h s.places s.same)
       ∙ written_rows top ps g raw bs s.kept p i s.at s.was s.is_was l1 l2 mark
 
-  -- the processes are clean or listed, with the queue of that number written too
+  -- if only the row and queue of number i were written, each process is clean or listed
   act_listed : (raw2 : List LocalState) (bs2 : List (List Message))
       → ((j : ℕ) → j ≢ i → get_or raw2 j zero_local ≡ get_or raw j zero_local)
       → ((j : ℕ) → j ≢ i → get_or bs2 j [] ≡ get_or bs j [])
@@ -135,7 +135,7 @@ module _ {top : ℕ} {ps : List Pid} {g : Groups} {raw : List LocalState} {bs : 
   act_len : (l2 : LocalState) → length (set (set raw i l1) i l2) ≡ length raw
   act_len l2 = length-set (set raw i l1) i l2 ∙ length-set raw i l1
 
-  -- the world afterwards, by its rows and its lists
+  -- the new rows and lists are those of a world
   kept_after : (raw2 : List LocalState) (bs2 : List (List Message)) (ls2 : List LocalState)
       → length raw2 ≡ length raw → flagged (are_traced h) raw2 ≡ ls2 → AreRows top ps ls2 bs2
       → ((j : ℕ) → j < length ps → IsCleanOrListed h raw2 bs2 j) → AreKept top ps h raw2 bs2
@@ -146,7 +146,7 @@ module _ {top : ℕ} {ps : List Pid} {g : Groups} {raw : List LocalState} {bs : 
     listed = listed;
   }
 
-  -- if nothing but the mark is written
+  -- if only the mark was written
   pub ready_kept : (bs2 : List (List Message)) → bs2 ≡ bs → AreKept top ps h (set raw i l1) bs2
   ready_kept bs2 is =
       let ls = flagged (are_traced g) raw in
@@ -155,7 +155,7 @@ module _ {top : ℕ} {ps : List Pid} {g : Groups} {raw : List LocalState} {bs : 
       (act_listed (set raw i l1) bs2 ready_other
       (λ j other. ap (λ (y : List (List Message)). get_or y j []) is))
 
-  -- if it keeps l2 then, and its queue alone may be another
+  -- if the actor's row became `l2`, and only its queue may have changed
   pub acted_kept : (l2 : LocalState) (bs2 : List (List Message)) → l2.traced ≡ traced_at g i
       → AreRows top ps (set (flagged (are_traced g) raw) i l2) bs2
       → ((j : ℕ) → j ≢ i → get_or bs2 j [] ≡ get_or bs j [])
@@ -164,7 +164,7 @@ module _ {top : ℕ} {ps : List Pid} {g : Groups} {raw : List LocalState} {bs : 
       kept_after (set (set raw i l1) i l2) bs2 (set (flagged (are_traced g) raw) i l2) (act_len l2)
       (act_rows l2 mark) rows (act_listed (set (set raw i l1) i l2) bs2 (act_other l2) queues)
 
-  -- if it keeps l2 then, and the queue of a process that is listed may be another
+  -- if the actor's row became `l2`, and only the queue of a listed process may have changed
   pub sent_kept : (l2 : LocalState) (bs2 : List (List Message)) (k : ℕ) → IsListed h k
       → l2.traced ≡ traced_at g i → AreRows top ps (set (flagged (are_traced g) raw) i l2) bs2
       → ((j : ℕ) → j ≢ k → get_or bs2 j [] ≡ get_or bs j [])

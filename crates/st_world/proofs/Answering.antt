@@ -1,6 +1,6 @@
--- A part of `step` returns a step by its definition: an outcome is the definition's and keeps each
--- process sound, and each refusal comes if the definition has no step, or none that memory was
--- there for.
+-- A part of `step` returns a step as the definition has it: an outcome is the definition's and
+-- leaves each process sound, and a refusal comes only if the definition has no step, or if memory
+-- for it ran out.
 use Rattle.std.proofs.Common.{◌≡◌, ◌⊎◌, ℕ, true, List, length, Option, Some, None, Ok, Err, IsSome}
 use Rattle.std.proofs.Common.{All, IfSome}
 use Rattle.std.proofs.Common.{Result, IfOk, OnErr, position, get_or, set, refl, ◌∙◌, ap, inl, inr}
@@ -22,7 +22,7 @@ use Rattle.st_world.specs.Rows.{state_of, AreRows}
 use Rattle.st_world.specs.World.{outcome_to, AreOrdered, AreStamped, IsStep, Rises}
 use Rattle.st_world.proofs.Steps.{step_inner}
 
--- the counts of a sound process
+-- a sound process has ordered counts
 pub ordered : (top : ℕ) (s : State) (p : Pid)
     → All (IsSound top) s → IfSome (process s p) (λ r. AreOrdered top r.local)
 ordered top s p sound = by (process s p) refl
@@ -33,7 +33,7 @@ ordered top s p sound = by (process s p) refl
         let one = process_holds (IsSound top) s p r e sound in
         record { last = one.ordered; clock = one.within }
 
--- the queue of a sound process
+-- a sound process has a queue of stamped messages
 pub stamped : (top : ℕ) (s : State) (p : Pid)
     → All (IsSound top) s → IfSome (process s p) (λ r. AreStamped top r.queue)
 stamped top s p sound = by (process s p) refl
@@ -47,7 +47,7 @@ rising None rises = tt
 rising (Some e) rises = rises e refl
 
 module _ (top : ℕ) (s : State) (a : Act) where
-  -- an act of which the actor or the receiver isn't there
+  -- an act is refused if the actor or the receiver isn't in the state
   pub refused_unknown : (process s (actor a) ≡ None) ⊎ (process s (receiver a) ≡ None)
       → IsStep top s a (Err fault.Unknown) s
   refused_unknown gone = record {
@@ -60,7 +60,7 @@ module _ (top : ℕ) (s : State) (a : Act) where
     memory = λ e. absurd (cc);
   }
 
-  -- an act whose stamp has no value
+  -- an act is refused if its stamp has no value
   pub refused_full : (new : State) → new ≡ s
       → IsSome (process s (actor a)) → IsSome (process s (receiver a)) → step top s a ≡ None
       → IsStep top s a (Err fault.ClockFull) new
@@ -73,7 +73,7 @@ module _ (top : ℕ) (s : State) (a : Act) where
     memory = λ e. absurd (cc);
   }
 
-  -- a send for whose message there is no memory
+  -- a send is refused if there is no memory for its message
   pub refused_memory : (new : State) → new ≡ s → is_send_act a ≡ true → IsSome (step top s a)
       → IsStep top s a (Err fault.Memory) new
   refused_memory new same send some = record {
@@ -85,7 +85,7 @@ module _ (top : ℕ) (s : State) (a : Act) where
     memory = λ e. send;
   }
 
-  -- an outcome
+  -- an act that has a step returns its outcome
   pub answered : (told : Told) (new : State) → All (IsSound top) s
       → step top s a ≡ Some (outcome_to told new)
       → IsStep top s a (Ok told) new
@@ -98,7 +98,7 @@ module _ (top : ℕ) (s : State) (a : Act) where
     memory = λ e. absurd (cc);
   }
 
--- the rows after a step
+-- the rows after a step are the rows of a world
 pub rows_after
     : (top : ℕ) (ps : List Pid) (ls ls2 : List LocalState) (bs bs2 : List (List Message)) (a : Act)
     (told : Told)
@@ -115,7 +115,7 @@ rows_after top ps ls ls2 bs bs2 a told rows locals queues steps = record {
       rows.sound).processes;
 }
 
--- the rows after an act that leaves all queues, and after its refusal
+-- so are the rows after an act that touches no queue, and after its refusal
 pub rows_after_inner : {E : Type 0} (top : ℕ) (ps : List Pid) (ls : List LocalState)
     (bs : List (List Message))
     → (a : Act) (i : ℕ) (l l2 : LocalState) (r : Result Told E)

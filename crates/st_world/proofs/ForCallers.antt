@@ -1,2 +1,2 @@
--- The lemma that proofs of the crates above may cite: functions that agree map alike.
+-- The lemma that proofs of the crates above may cite: two functions that agree map a list alike.
 pub use Rattle.st_world.proofs.States.{map_agree}

@@ -1,6 +1,6 @@
--- A write to one node leaves each process on its node, if that node keeps its range, and a write to
--- one slot of a node lies in no other node's list, since nodes have ranges of their own. So a
--- process stays listed when another is.
+-- Nodes have ranges of their own. So a write to one node leaves each process on its node if that
+-- node keeps its range, a write to one slot of a node is in no other node's list, and a process
+-- stays listed when another is listed.
 use Rattle.std.proofs.Common.{◌≡◌, ◌≢◌, ℕ, ◌+◌, ◌<◌, ◌≤◌, ◌==◌, zero, suc, false, if◌then◌else◌}
 use Rattle.std.proofs.Common.{List, [], ◌∷◌}
 use Rattle.std.proofs.Common.{length, get_or, set, map, refl, sym, ◌∙◌, ap, subst, arith, inl, inr}
@@ -15,21 +15,21 @@ use Rattle.st_world.specs.Nodes.{IsListedFrom, IsListed, AreGroups, IsPlaced}
 
 -- ONE ELEMENT OF A LIST
 
--- what holds of the new element and of the old ones holds after the write
+-- a property of the new element and of each old one holds of each after the write
 set_any : {X : Type 0} (P : X → Type 0) (xs : List X) (k i : ℕ) (y d : X)
     → P y → P (get_or xs i d) → P (get_or (set xs k y) i d)
 set_any P (x ∷ xs) zero zero y d new old = new
 set_any P (x ∷ xs) (suc k) (suc i) y d new old = set_any P xs k i y d new old
 set_any P xs k i y d new old = old
 
--- a part that the write leaves is as it was
+-- if the write keeps a part of the element, each element keeps it
 set_part : {X A : Type 0} (f : X → A) (xs : List X) (k i : ℕ) (y d : X)
     → f y ≡ f (get_or xs k d) → f (get_or (set xs k y) i d) ≡ f (get_or xs i d)
 set_part f (x ∷ xs) zero zero y d same = same
 set_part f (x ∷ xs) (suc k) (suc i) y d same = set_part f xs k i y d same
 set_part f xs k i y d same = refl
 
--- a part of one element, among that part of each
+-- a part of an element is the element of the list of parts
 pub at_map : {X A : Type 0} (f : X → A) (xs : List X) (i : ℕ) (d : X)
     → get_or (map f xs) i (f d) ≡ f (get_or xs i d)
 at_map f [] i d = refl
@@ -41,7 +41,7 @@ at_map f (x ∷ xs) (suc i) d = at_map f xs i d
 below_other : (m n : ℕ) → m < n → (m == n) ≡ false
 below_other m n h = grind (arith, nat_tests)
 
--- a full list has each process of the node, at the slot of its number
+-- in a full list each slot stands for the process with its number
 pub full_in : (slots : List ℕ) (n : Node) (t : ℕ) → n.listed ≡ n.end → process_in slots n t ≡ t
 full_in slots n t full = rw (eq-eqb n.listed n.end full) refl
 
@@ -58,14 +58,14 @@ full_list first slots n i full from below = record {
   is = full_in slots n i full;
 }
 
--- the node with one more process in its list
+-- the node with one more slot in its list
 abbrev pub one_more : Node → Node
 one_more n = record { start = n.start; end = n.end; listed = n.listed + 1; traced = n.traced }
 
 module _ (slots : List ℕ) (n : Node) (number : ℕ) (from : n.start ≤ n.listed)
     (part : n.listed < n.end)
     (within : n.end ≤ length slots) where
-  -- the process that was put in
+  -- the process put into the next slot is listed
   list_put : n.start ≤ number → number < n.end
       → IsListedFrom n.start (set slots n.listed number) (one_more n) number
   list_put first last = elim (cases_eq (n.listed + 1) n.end) [
@@ -80,7 +80,7 @@ module _ (slots : List ℕ) (n : Node) (number : ℕ) (from : n.start ≤ n.list
     }
   ]
 
-  -- those that were listed before
+  -- the processes listed before are still listed
   list_kept : (i : ℕ) → n.start ≤ i → i < n.end
       → IsListedFrom n.start slots n i
       → IsListedFrom n.start (set slots n.listed number) (one_more n) i
@@ -98,7 +98,7 @@ module _ (slots : List ℕ) (n : Node) (number : ℕ) (from : n.start ≤ n.list
     }
   ]
 
--- a write to a slot that isn't in the list
+-- a write to a slot outside a node's range leaves its list
 list_apart : (slots : List ℕ) (m : Node) (slot number i : ℕ) → m.listed ≤ m.end
     → ((t : ℕ) → m.start ≤ t → t < m.end → t ≢ slot)
     → IsListedFrom m.start slots m i → IsListedFrom m.start (set slots slot number) m i
@@ -115,7 +115,7 @@ list_apart slots m slot number i listed apart old = record {
 
 -- ONE NODE
 
--- n is the node of the process `number`, at its place k
+-- n is the node of the process `number`, at the place k
 module _ (g : Groups) (number k : ℕ) (n : Node) (inv : AreGroups g) (h : number < length g.places)
     (at : k ≡ get_or g.places number k) (is : n ≡ get_or g.nodes k n) where
   pub place_is : k ≡ get_or g.places number 0
@@ -134,11 +134,11 @@ module _ (g : Groups) (number k : ℕ) (n : Node) (inv : AreGroups g) (h : numbe
   traced_is = ap (λ (m : Node). m.traced) node_is ∙ sym
       (at_map (λ (m : Node). m.traced) g.nodes (get_or g.places number 0) no_node)
 
-  -- with another node there, and other slots
+  -- the nodes with n2 in place of n, and with other slots
   abbrev With : Node → List ℕ → Groups
   With n2 slots = record { places = g.places; nodes = set g.nodes k n2; slots = slots }
 
-  -- what the node is then
+  -- the processes at the place k are then on n2
   new_node : (n2 : Node) (slots : List ℕ) (i : ℕ) → get_or g.places i 0 ≡ k
       → node_at (With n2 slots) i ≡ n2
   new_node n2 slots i e =
@@ -149,7 +149,7 @@ module _ (g : Groups) (number k : ℕ) (n : Node) (inv : AreGroups g) (h : numbe
       → node_at (With n2 slots) i ≡ node_at g i
   old_node n2 slots i other = get_or-set_other g.nodes k (get_or g.places i 0) n2 no_node other
 
-  -- whether nodes are traced
+  -- if n2 is traced as n was, the same nodes are traced
   pub tracers_kept : (n2 : Node) → n2.traced ≡ n.traced
       → map (λ (m : Node). m.traced) (set g.nodes k n2) ≡ tracers g
   tracers_kept n2 same =
@@ -219,7 +219,7 @@ module _ (g : Groups) (number k : ℕ) (n : Node) (inv : AreGroups g) (h : numbe
   listed_elsewhere n2 slots i other old =
       subst (λ (m : Node). IsListedFrom m.start slots m i) (sym (old_node n2 slots i other)) old
 
-  -- an emptied list leaves those of other nodes
+  -- an emptied list leaves the lists of other nodes
   pub listed_apart : (n2 : Node) (i : ℕ) → get_or g.places i 0 ≢ get_or g.places number 0
       → IsListed g i → IsListed (With n2 g.slots) i
   listed_apart n2 i other old = listed_elsewhere n2 g.slots i (λ e. other (e ∙ place_is)) old
@@ -229,7 +229,7 @@ module _ (g : Groups) (number k : ℕ) (n : Node) (inv : AreGroups g) (h : numbe
   emptied n2 empty = subst (λ (m : Node). m.listed ≡ m.start)
       (sym (new_node n2 g.slots number (sym place_is))) empty
 
-  -- the range of the node, by the fields that were read
+  -- the range and the list of the node that was read
   starts : n.start ≤ number
   starts = omega (arith, (inv.placed number h).start, ap (λ (m : Node). m.start) node_is)
 
@@ -250,7 +250,7 @@ module _ (g : Groups) (number k : ℕ) (n : Node) (inv : AreGroups g) (h : numbe
   pub lists_to : n.listed ≤ n.end
   lists_to = rw node_is (inv.placed number h).listed
 
-  -- a full list
+  -- in a full list the process is listed
   pub listed_full : n.end ≤ n.listed → IsListed (With n g.slots) number
   listed_full full =
       subst (λ (m : Node). IsListedFrom m.start g.slots m number)
@@ -258,7 +258,7 @@ module _ (g : Groups) (number k : ℕ) (n : Node) (inv : AreGroups g) (h : numbe
       (full_list n.start g.slots n number (omega (arith, lists_to)) starts ends)
 
   module _ (part : n.listed < n.end) where
-    -- the node's next slot, which lies in its own range
+    -- the node's next slot is in its own range
     own_slot : get_or g.places n.listed 0 ≡ get_or g.places number 0
     own_slot =
         let old = inv.placed number h in

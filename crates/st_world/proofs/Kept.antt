@@ -1,6 +1,7 @@
--- The row of a process differs from its record in the state by the mark traced alone, which is its
--- node's. So a write of what an act leaves is the same write in the state, if the mark was put in
--- first; and with its actor listed, each process is clean or listed after it.
+-- The row of a process differs from its record in the state only in the mark `traced`, which in
+-- the state is its node's. So if a row has its node's mark, writing what an act leaves there
+-- writes it in the state; and since the actor is listed, each process is clean or listed after the
+-- act.
 use Rattle.std.proofs.Common.{◌≡◌, ◌≢◌, ℕ, ◌<◌, ◌==◌, zero, suc, Bool, true, false, if◌then◌else◌}
 use Rattle.std.proofs.Common.{List, [], ◌∷◌, length, map, get_or, set, drop, replicate, slice_get}
 use Rattle.std.proofs.Common.{Some, None, inl, inr, position, refl, sym, ◌∙◌, ap, arith}
@@ -30,7 +31,7 @@ length-flagged [] (l ∷ ls) e = absurd (omega arith)
 length-flagged (f ∷ fs) [] e = refl
 length-flagged (f ∷ fs) (l ∷ ls) e = ap suc (length-flagged fs ls (omega arith))
 
--- a write with the process's mark
+-- a tracing state with its node's mark, written to the rows, is written in the state
 pub flagged_set : (fs : List Bool) (ls : List LocalState) (i : ℕ) (l : LocalState)
     → get_or fs i l.traced ≡ l.traced → flagged fs (set ls i l) ≡ set (flagged fs ls) i l
 flagged_set [] ls i l e = refl
@@ -40,7 +41,7 @@ flagged_set (f ∷ fs) (x ∷ ls) zero l e =
 flagged_set (f ∷ fs) (x ∷ ls) (suc i) l e =
     ap (λ ys. let y : LocalState = record x { traced = f } in y ∷ ys) (flagged_set fs ls i l e)
 
--- a mark that is put in
+-- writing a mark to the rows changes nothing in the state
 pub flagged_put : (fs : List Bool) (ls : List LocalState) (i : ℕ) (l : LocalState) (b : Bool)
     → l ≡ get_or ls i l → flagged fs (set ls i (record l { traced = b })) ≡ flagged fs ls
 flagged_put [] ls i l b e = refl
@@ -50,7 +51,7 @@ flagged_put (f ∷ fs) (x ∷ ls) zero l b e =
 flagged_put (f ∷ fs) (x ∷ ls) (suc i) l b e =
     ap (λ ys. let y : LocalState = record x { traced = f } in y ∷ ys) (flagged_put fs ls i l b e)
 
--- what a process keeps in the state
+-- a row with its node's mark is what the state has
 pub flagged_at : (fs : List Bool) (ls : List LocalState) (i : ℕ) (l : LocalState) (b : Bool)
     → length fs ≡ length ls → i < length fs → b ≡ get_or fs i b → l ≡ get_or ls i l
     → record l { traced = b } ≡ get_or (flagged fs ls) i (record l { traced = b })
@@ -59,7 +60,7 @@ flagged_at (f ∷ fs) (x ∷ ls) (suc i) l b len h mark e =
     flagged_at fs ls i l b (omega arith) (omega arith) mark e
 flagged_at fs ls i l b len h mark e = absurd (omega arith)
 
--- the mark of a process is its node's
+-- the mark of a process in the state is its node's
 pub flag_at : (g : Groups) (i : ℕ) (d : Bool) → i < length g.places
     → get_or (are_traced g) i d ≡ traced_at g i
 flag_at g i d h =
@@ -78,7 +79,8 @@ same_flags g h places same =
 
 -- LISTS
 
--- all but process i are as they were, and i is listed now
+-- if only the row and queue of process i have changed and i is listed, each process is clean or
+-- listed
 pub listed_after
     : (count : ℕ) (g h : Groups) (ls ls2 : List LocalState) (bs bs2 : List (List Message)) (i : ℕ)
     → ((j : ℕ) → j ≢ i → get_or ls2 j zero_local ≡ get_or ls j zero_local)
@@ -111,7 +113,7 @@ module _ (top : ℕ) (ps : List Pid) (g : Groups) (raw : List LocalState) (bs : 
     pub within_places : i < length g.places
     within_places = omega (arith, number_within ps p i at, kept.by_node.len)
 
-    -- what it keeps in the state
+    -- the tracing state that the state has of the process
     abbrev pub Marked : LocalState
     Marked = record l { traced = traced_at g i }
 
@@ -122,7 +124,7 @@ module _ (top : ℕ) (ps : List Pid) (g : Groups) (raw : List LocalState) (bs : 
         (omega (arith, within_places, length-flags g))
         (sym (flag_at g i (traced_at g i) within_places)) el
 
-    -- with the mark put in, and then written with the same mark
+    -- writing the mark changes nothing in the state
     pub marked_rows : flagged (are_traced g) (set raw i (record l { traced = traced_at g i }))
         ≡ flagged (are_traced g) raw
     marked_rows = flagged_put (are_traced g) raw i l (traced_at g i) el
@@ -135,7 +137,7 @@ module _ (top : ℕ) (ps : List Pid) (g : Groups) (raw : List LocalState) (bs : 
 
 -- WHOLE WORLDS
 
--- at the start
+-- the rows at the start are the zero state
 pub flagged_zero : (ts : List Bool) (ks : List ℕ) (n : ℕ) → length ks ≡ n
     → ((k : ℕ) → get_or ts k false ≡ false)
     → flagged (map (λ k. get_or ts k false) ks) (replicate n zero_local) ≡ replicate n zero_local
@@ -145,11 +147,11 @@ flagged_zero ts (k ∷ ks) (suc n) e none =
     rw (none k, rest) refl
 flagged_zero ts ks n e none = absurd (omega arith)
 
--- the process with this mark
+-- the process with the mark `b`
 abbrev with_mark : Bool → Process → Process
 with_mark b r = process_of r.pid (record r.local { traced = b }) r.queue
 
--- a reset asks for no mark, and leaves it
+-- a reset looks at no mark, and leaves it
 reset_mark : (me : Pid) (b : Bool) (r : Process)
     → with_mark b (reached (act.Reset me) None r) ≡ reached (act.Reset me) None (with_mark b r)
 reset_mark me b r = by (r.pid.node == me.node)
@@ -180,7 +182,7 @@ reset_flagged me (p ∷ ps) (f ∷ fs) (l ∷ ls) (l2 ∷ ls2) (q ∷ bs) (q2 �
     rw (ap (with_mark f) first ∙ reset_mark me f (process_of p l q), rest) refl
 reset_flagged me ps fs ls ls2 bs bs2 a b c d e is = absurd (omega arith)
 
--- a tracer change sets the marks of the node
+-- a tracer change sets the marks of the processes on the node
 pub trace_flagged : (me : Pid) (on : Bool) (ps : List Pid) (fs fs2 : List Bool)
     (ls : List LocalState)
     → (bs : List (List Message)) → length fs ≡ length ps → length fs2 ≡ length ps

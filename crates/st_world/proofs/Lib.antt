@@ -1,4 +1,4 @@
--- The lemmas; what upper crates may cite is in `ForCallers`.
+-- The lemmas; `ForCallers` has those that proofs of the crates above may cite.
 mod Pids
 mod States
 pub mod ForCallers

@@ -1,5 +1,5 @@
--- The nodes are made in the order of the pids: each pid is on the last node that was made, or is
--- the first on a node of its own, since the processes of a node are neighbours.
+-- The nodes are made in the order of the pids. Each pid is on the node made last or is the first
+-- on a new node, since the processes of a node are neighbours.
 use Rattle.std.proofs.Common.{◌≡◌, ℕ, ◌+◌, ◌-◌, ◌<◌, ◌≤◌, zero, suc, false, List, [], ◌∷◌, ◌++◌}
 use Rattle.std.proofs.Common.{length, get_or, map, inl, inr, refl, sym, ◌∙◌, ap, subst, arith}
 use Rattle.std.proofs.lemmas.Bool.{cases_eq}
@@ -16,7 +16,7 @@ use Rattle.st_world.proofs.Pids.{cases_lt}
 abbrev on : List ℕ → List Node → ℕ → Node
 on places nodes i = get_or nodes (get_or places i 0) no_node
 
--- the places of the first n processes, whose nodes end where the last of them does
+-- the first n processes have their places, and the last node made ends at `after`
 pub record AreMade (pids : List Pid) (n after : ℕ) (places : List ℕ) (nodes : List Node) : Type 0
   where
     pub len : length places ≡ n
@@ -41,7 +41,7 @@ upto P n below last i h = elim (cases_eq i n) [
   | inr other ↦ below i (omega (arith, other))
 ]
 
--- a process of the node is in its range
+-- each process of the node is in its range
 inside : (m : ℕ) (pids : List Pid) (start end i : ℕ) (d : Pid) → IsNodeRange m pids start end
     → i < length pids
     → node_of (get_or pids i d) ≡ m → (start ≤ i) × (i < end)
@@ -66,7 +66,7 @@ module _ (pids : List Pid) (n after : ℕ) (places : List ℕ) (nodes : List Nod
   new_place : get_or (places ++ k ∷ []) n 0 ≡ k
   new_place = get_or_push places k 0 n made.len
 
-  -- process i is on the node of process r, one of those before
+  -- process i is on the node of an earlier process
   record IsWith (i : ℕ) : Type 0 where
     process : ℕ
     below : process < n
@@ -80,7 +80,7 @@ module _ (pids : List Pid) (n after : ℕ) (places : List ℕ) (nodes : List Nod
       | inr other ↦ omega (arith, other)
     ]
 
-    -- the process is on the last node, as the one before it
+    -- the process is on the node made last, as the process before it is
     is_with : IsWith n
     is_with =
         let b : ℕ = n - 1 in
@@ -160,7 +160,7 @@ untraced_push [] x new old (suc k) = refl
 untraced_push (y ∷ ys) x new old zero = old 0
 untraced_push (y ∷ ys) x new old (suc k) = untraced_push ys x new (λ j. old (suc j)) k
 
--- the first process on a node
+-- the process is the first on its node
 pub more_new : (pids : List Pid) (n : ℕ) (places : List ℕ) (nodes : List Node) (k start end : ℕ)
     → AreMade pids n n places nodes → n < length pids → k ≡ length nodes
     → ((d : Pid) → IsNodeRange (node_of (get_or pids n d)) pids start end)

@@ -1,4 +1,4 @@
--- Its own part of an act leaves a process's mark traced: only what a tracer change does to each
+-- The actor's part of an act leaves the actor's mark: only what a tracer change does to each
 -- process sets it.
 use Rattle.std.proofs.Common.{◌≡◌, ℕ, ◌+◌, nat_lt, Bool, true, false, if◌then◌else◌, Option, Some}
 use Rattle.std.proofs.Common.{None, option_map, option_and_then, refl, sym, ◌∙◌, ap}
@@ -46,7 +46,7 @@ stamp_any_mark top p l m h = by (is_some l.token) h
     by true h = stamp_mark top p l m h
     by false h = ap (λ (x : LocalState). x.traced) (sym (same_Some l m h))
 
--- what an act makes of a stamp
+-- an act that stamps leaves the mark if it does so after every stamp
 after_stamp : (f : LocalState → Acted) (o : Option LocalState) (done : Acted) (mark : Bool)
     → ((m : LocalState) → o ≡ Some m → (f m).local.traced ≡ mark)
     → option_map f o ≡ Some done → done.local.traced ≡ mark

@@ -1,6 +1,6 @@
--- An act on a node is the definition's: a reset changes what it finds in the rows, where each other
--- process of the node is clean, and a tracer change sets the mark of each process whose node has
--- that place.
+-- An act on a node is the definition's: a reset changes the listed processes of the node, and its
+-- others are clean; a tracer change sets the mark of the node, which is that of each of its
+-- processes.
 use Rattle.std.proofs.Common.{◌≡◌, ◌≢◌, ℕ, ◌<◌, ◌==◌, Bool, true, false, if◌then◌else◌, List}
 use Rattle.std.proofs.Common.{length, map, get_or, Some}
 use Rattle.std.proofs.Common.{None, inl, inr, position, refl, sym, ◌∙◌, ap, subst, arith}
@@ -27,7 +27,7 @@ use Rattle.st_world.proofs.Kept.{reset_flagged, same_flags, trace_flagged}
 use Rattle.st_world.proofs.RowLemmas.{number_within}
 use Rattle.st_world.proofs.Steps.{step_node}
 
--- the outcome of an act on a node
+-- the outcome of an act on a node, which has only a reply
 abbrev pub told_of : Reply → Told
 told_of y = record { reply = y; report = None; place = None }
 
@@ -44,7 +44,7 @@ module _ (top : ℕ) (ps : List Pid) (g : Groups) (raw : List LocalState) (bs : 
   pub within : i < length ps
   within = number_within ps me i at
 
-  -- the mark of the actor, in the state
+  -- the actor's row in the state, read with itself as the default
   pub actor_at : get_or (flagged (are_traced g) raw) i zero_local
       ≡ get_or (flagged (are_traced g) raw) i (get_or (flagged (are_traced g) raw) i zero_local)
   actor_at =
@@ -95,7 +95,7 @@ module _ (top : ℕ) (ps : List Pid) (g : Groups) (raw : List LocalState) (bs : 
       listed = listed;
     }
 
-  -- each process is clean or listed afterwards
+  -- after the reset, each process is clean or listed
   pub reset_listed : (ls2 : List LocalState) (bs2 : List (List Message))
       → ((j : ℕ) → j < length g.places → get_or g.places j 0 ≡ get_or g.places i 0
       → IsCleanOrListed g raw bs j → IsClean ls2 bs2 j)

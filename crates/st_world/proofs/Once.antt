@@ -1,5 +1,5 @@
--- A message with a stamp that occurs once in a queue is the only one that a search for it can find;
--- and while no act is a reset, each stamp does.
+-- If a stamp occurs once in a queue, a search can find only one message by it; and each stamp
+-- occurs once as long as no act is a reset.
 use Rattle.std.proofs.Common.{◌≡◌, ℕ, ◌==◌, zero, suc, true, false, List, [], ◌∷◌, Option, Some}
 use Rattle.std.proofs.Common.{None, IfSome, Result, Ok, Err, slice_get, refl, sym, ◌∙◌, ap, subst}
 use Rattle.std.specs.List.{AllByRecursion}
@@ -20,7 +20,7 @@ use Rattle.st_mail.specs.declared.outcome.Outcome.{Outcome as Told}
 use Rattle.st_world.specs.declared.outcome.StepFault.{StepFault}
 use Rattle.st_world.specs.World.{IsStep, outcome_to}
 
--- the token of a message that bears the stamp
+-- the message has a token with the from `from` and the own count `this`
 record Bears (from : Pid) (this : ℕ) (m : Message) : Type 0 where
   token : Token
   has : m.token ≡ Some token
@@ -42,7 +42,7 @@ bears from this m h = elim m.token as (λ o. m.token ≡ o → bears_stamp from 
           }
     ] refl h
 
--- two that are apart don't bear one stamp
+-- two messages whose stamps differ don't both have one stamp
 never_both : (from : Pid) (this : ℕ) (m n : Message) → AreApart m n
     → bears_stamp from this m.token ≡ true
     → bears_stamp from this n.token ≡ true → ⊥
@@ -70,7 +70,7 @@ stands_once from this (m ∷ ms) once (suc i) zero x y at_x at_y p q =
 stands_once from this (m ∷ ms) once (suc i) (suc j) x y at_x at_y p q =
     ap suc (stands_once from this ms once.1 i j x y at_x at_y p q)
 
--- so it is in each queue of a state in which they do
+-- so at most one message of each queue has the stamp, if stamps occur once in the state
 pub one_in : (s : State) (p from : Pid) (this : ℕ) → HasStampsOnce s
     → IfSome (process s p) (λ r. PassesOnce (λ (m : Message). bears_stamp from this m.token)
     r.queue)
@@ -85,7 +85,7 @@ no_reset : (a : Act) → ((p : Pid) → a ≡ act.Reset p → ⊥) → is_reset 
 no_reset (act.Reset p) other = absurd (other p refl)
 no_reset a other = refl
 
--- and no act but a reset changes that, whether it is refused or not
+-- stamps still occur once after any act but a reset, whether it is refused or not
 pub kept_once : (top : ℕ) (s : State) (a : Act) (r : Result Told StepFault) (new : State)
     → IsStep top s a r new
     → ((p : Pid) → a ≡ act.Reset p → ⊥) → HasStampsOnce s → HasStampsOnce new

@@ -1,5 +1,5 @@
--- Pids that rise strictly occur once and by rising node, since the order goes by node first: so a
--- search for where a test on nodes changes its answer finds the processes of a node.
+-- Pids that rise strictly occur once and by rising node, since their order goes by node first. So
+-- the places at which tests on nodes change their result bound the range of a node.
 use Rattle.std.proofs.Common.{◌≡◌, ℕ, ◌<◌, ◌≤◌, ◌+◌, zero, suc, Bool, true, false, List, [], ◌∷◌}
 use Rattle.std.proofs.Common.{length, get_or, take, cond, position, ltb, leb, refl, sym, ◌∙◌, ap}
 use Rattle.std.proofs.Common.{subst, arith, inl, inr, ◌⊎◌, Some, None, slice_get}
@@ -20,7 +20,7 @@ use Rattle.st_core.specs.Pid.{pid_eq, IsBelow, IsRising}
 use Rattle.st_core.proofs.ForCallers.{pid_eq-same, pid_eq-swap, IsBelow-apart, rising_at}
 use Rattle.st_world.specs.Rows.{IsNodeRange}
 
--- what is below another is not the same
+-- a pid below another one differs from it
 pub below_apart : (p q : Pid) → IsBelow p q → pid_eq q p ≡ false
 below_apart p q below = pid_eq-swap q p ∙ IsBelow-apart p q below
 
@@ -32,7 +32,7 @@ node_by Less rest m n is h = omega (arith, is)
 node_by Equal rest m n is h = omega (arith, is)
 node_by Greater rest m n is h = absurd (cc)
 
--- nodes do not fall
+-- a lower pid has no higher node
 below_node : (p q : Pid) → IsBelow p q → p.node ≤ q.node
 below_node p q below =
     let nodes = ranked p.node q.node (nat_cmp p.node q.node) refl in
@@ -48,7 +48,7 @@ nodes_rise ps rising i j d le h =
 
 -- THE NUMBERS OF PIDS
 
--- a pid that is at a place is at no earlier one
+-- a pid is at no place before its own
 pub number_at : (ps : List Pid) (i : ℕ) (p : Pid) → IsRising ps → slice_get ps i ≡ Some p
     → Some i ≡ position (λ q. pid_eq q p) ps
 number_at ps i p rising at =
@@ -71,7 +71,7 @@ absent (p ∷ ps) (suc i) d rising h =
     let below : IsBelow p (get_or ps i d) = All-from_recursion (IsBelow p) ps rising.0 i d at in
     rw (below_apart p (get_or ps i d) below) (absent ps i d rising.1 at)
 
--- the next of pids that rise is new to a set of those before
+-- the next of the rising pids is not among those before, so it joins their set at its end
 pub insert_next : (ps : List Pid) (i : ℕ) (d : Pid)
     → IsRising ps → i < length ps → insert_key pid_eq (take i ps) (get_or ps i d) ≡ take (i + 1) ps
 insert_next ps i d rising h = rw (absent ps i d rising h) (sym (take_more ps i d h))
@@ -85,7 +85,7 @@ cases_lt m n = by (ltb m n) refl
     by true e = inl (ltb-true m n e)
     by false e = inr (omega (arith, ltb-false m n e))
 
--- where the tests of two binary searches change their answer
+-- the places at which the tests of two binary searches change their result bound the node's range
 pub range_from_points : (node : ℕ) (ps : List Pid) (start end : ℕ) → start ≤ length ps
     → end ≤ length ps
     → IsPartitionPoint (λ p. ltb p.node node ≡ true) (λ p. ltb p.node node ≡ false) ps start

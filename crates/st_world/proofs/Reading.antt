@@ -1,5 +1,5 @@
--- A process is read so: the row at the number of its pid is what the state has of it, but for the
--- mark, which its node has; and each process of the state is sound.
+-- The row at a pid's number is what the state has of the process, except for the mark, which is
+-- the node's; and each process of the state is sound.
 use Rattle.std.proofs.Common.{◌≡◌, ℕ, ◌<◌, List, [], length, Some, None, IfSome, position, get_or}
 use Rattle.std.proofs.Common.{subst, arith}
 use Rattle.std.proofs.lemmas.List.{get_or_default}
@@ -15,18 +15,18 @@ use Rattle.st_world.proofs.Answering.{ordered, stamped}
 use Rattle.st_world.proofs.Kept.{marked_at}
 use Rattle.st_world.proofs.RowLemmas.{unknown, stands, number_within}
 
--- these rows make the state
+-- the rows and lists make the state
 module _ {top : ℕ} {ps : List Pid} {g : Groups} {raw : List LocalState} {bs : List
     (List Message)} {state : State}
     (kept : AreKept top ps g raw bs) (is : state_of ps (flagged (are_traced g) raw) bs ≡ state)
     (p : Pid) where
-  -- a pid without a number has no process
+  -- the state has no process for a pid without a number
   pub read_nothing : position (λ q. pid_eq q p) ps ≡ None → process state p ≡ None
   read_nothing at =
       subst (λ (s : State). process s p ≡ None) is
       (unknown ps (flagged (are_traced g) raw) bs kept.rows.aligned p at)
 
-  -- the process of number i, of which the row keeps l
+  -- the process with the number i is its row with its node's mark
   pub read_kept : (i : ℕ) (l : LocalState) → position (λ q. pid_eq q p) ps ≡ Some i
       → l ≡ get_or raw i l
       → process state p ≡ Some (process_of p (record l { traced = traced_at g i }) (get_or bs i []))
@@ -36,7 +36,7 @@ module _ {top : ℕ} {ps : List Pid} {g : Groups} {raw : List LocalState} {bs : 
       (stands ps (flagged (are_traced g) raw) bs kept.rows.aligned p i at marked
       (marked_at top ps g raw bs kept p i at l el)).found
 
-  -- the same, by its queue
+  -- the process with the number i, by its place in the state's rows
   pub read_queue : (i : ℕ) → position (λ q. pid_eq q p) ps ≡ Some i
       → process state p
       ≡ Some (process_of p (get_or (flagged (are_traced g) raw) i zero_local) (get_or bs i []))

@@ -1,6 +1,6 @@
--- The number of a pid among the pids is the place of its process in the state, since the rows are
--- of one length and pids that rise occur once: so look-ups and writes at one number of the rows are
--- those at one place of the state.
+-- The number of a pid is the place of its process in the state, since the rows are of one length
+-- and rising pids occur once. So a look-up or a write at a number of the rows is one at that place
+-- of the state.
 use Rattle.std.proofs.Common.{◌≡◌, ℕ, ◌+◌, ◌<◌, ◌≤◌, nat_lt, zero, suc, Bool, true, false, cond}
 use Rattle.std.proofs.Common.{List, [], ◌∷◌, length, get_or, set, replicate, Some, None, position}
 use Rattle.std.proofs.Common.{slice_get, refl, sym, ◌∙◌, ap, arith}
@@ -19,7 +19,7 @@ use Rattle.st_world.specs.Rows.{state_of, AreAligned}
 use Rattle.st_world.proofs.Pids.{below_apart}
 use Rattle.st_world.proofs.States.{AreApart, StandsAt}
 
--- the number of q among the pids
+-- the place of the pid q, or the number of pids if q isn't among them
 abbrev pub number_in : List Pid → Pid → ℕ
 number_in ps q = position_or_len (λ p. pid_eq p q) ps
 
@@ -35,7 +35,7 @@ length-rows ps ls bs e f = absurd (omega arith)
 next : (n : ℕ) → suc n ≡ 1 + n
 next n = omega arith
 
--- the first pid that passes, and the first process that does
+-- the process with the pid q is the one at the number of q
 place_rows : (ps : List Pid) (ls : List LocalState) (bs : List (List Message)) (q : Pid)
     → length ls ≡ length ps → length bs ≡ length ps
     → process (state_of ps ls bs) q ≡ slice_get (state_of ps ls bs) (number_in ps q)
@@ -63,7 +63,7 @@ at_rows (x ∷ ps) (y ∷ ls) (z ∷ bs) (suc i) p l b e f h ep el eb =
     at_rows ps ls bs i p l b (omega arith) (omega arith) (omega arith) ep el eb
 at_rows ps ls bs i p l b e f h ep el eb = absurd (omega arith)
 
--- a write at one number of the two rows that change is a write there of the process
+-- writing a tracing state and a queue at one number writes the process there
 pub set_rows : (ps : List Pid) (ls : List LocalState) (bs : List (List Message)) (i : ℕ)
     → (p : Pid) (l : LocalState) (b : List Message)
     → length ls ≡ length ps → length bs ≡ length ps → i < length ps → p ≡ get_or ps i p
@@ -81,14 +81,14 @@ apart_rows_from (x ∷ ps) (y ∷ ls) (z ∷ bs) p all =
     (below_apart p x all.0, apart_rows_from ps ls bs p all.1)
 apart_rows_from ps ls bs p all = tt
 
--- pids that rise occur once
+-- in the state of rising pids no pid occurs twice
 pub apart_rows : (ps : List Pid) (ls : List LocalState) (bs : List (List Message))
     → IsRising ps → AreApart (state_of ps ls bs)
 apart_rows (x ∷ ps) (y ∷ ls) (z ∷ bs) rising =
     (apart_rows_from ps ls bs x rising.0, apart_rows ps ls bs rising.1)
 apart_rows ps ls bs rising = tt
 
--- the rows of a new world
+-- the rows of a new world are the zero state
 pub zero_rows : (ps : List Pid)
     → state_of ps (replicate (length ps) zero_local) (replicate (length ps) []) ≡ zero_state ps
 zero_rows [] = refl
@@ -100,7 +100,7 @@ cond_none : (b : Bool) (n : ℕ) → cond b (Some n) None ≡ None → b ≡ fal
 cond_none true n h = absurd (cc)
 cond_none false n h = refl
 
--- the place of a pid is within the rows
+-- the number of a pid is below the number of pids
 pub number_within : (ps : List Pid) (q : Pid) (i : ℕ) → position (λ p. pid_eq p q) ps ≡ Some i
     → i < length ps
 number_within ps q i h = (position-Some (λ p. pid_eq p q) ps i q h).0
@@ -108,7 +108,7 @@ number_within ps q i h = (position-Some (λ p. pid_eq p q) ps i q h).0
 module _ (ps : List Pid) (ls : List LocalState) (bs : List (List Message))
     (aligned : AreAligned ps ls bs)
     (q : Pid) where
-  -- a pid that is nowhere is unknown
+  -- a pid without a number is unknown
   pub unknown : position (λ p. pid_eq p q) ps ≡ None → process (state_of ps ls bs) q ≡ None
   unknown h =
       let place : ℕ = number_in ps q in
@@ -119,7 +119,7 @@ module _ (ps : List Pid) (ls : List LocalState) (bs : List (List Message))
       ∙ slice_get_past (state_of ps ls bs) place past
 
   module _ (i : ℕ) (at : position (λ p. pid_eq p q) ps ≡ Some i) where
-    -- its process is there, where it keeps l
+    -- the process of a pid stands at its number
     pub stands : (l : LocalState) → l ≡ get_or ls i l
         → StandsAt (state_of ps ls bs) q i (process_of q l (get_or bs i []))
     stands l el =
@@ -141,7 +141,7 @@ module _ (ps : List Pid) (ls : List LocalState) (bs : List (List Message))
           own = refl;
         }
 
-    -- a write of both
+    -- writing both rows writes the process
     pub set_stands : (l : LocalState) (b : List Message)
         → state_of ps (set ls i l) (set bs i b) ≡ set (state_of ps ls bs) i (process_of q l b)
     set_stands l b =
@@ -149,13 +149,13 @@ module _ (ps : List Pid) (ls : List LocalState) (bs : List (List Message))
         let own : q ≡ get_or ps i q = sym (pid_eq-true (get_or ps i q) q facts.1) in
         set_rows ps ls bs i q l b aligned.locals_len aligned.queues_len facts.0 own
 
-    -- a write of what the process keeps alone
+    -- writing its tracing state writes the process
     pub set_local : (l : LocalState)
         → state_of ps (set ls i l) bs ≡ set (state_of ps ls bs) i (process_of q l (get_or bs i []))
     set_local l = ap (state_of ps (set ls i l)) (sym (set-get_or bs i []))
         ∙ set_stands l (get_or bs i [])
 
-    -- a write of its queue alone
+    -- writing its queue writes the process
     pub set_queue : (l : LocalState) (b : List Message) → l ≡ get_or ls i l
         → state_of ps ls (set bs i b) ≡ set (state_of ps ls bs) i (process_of q l b)
     set_queue l b el =

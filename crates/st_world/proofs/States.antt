@@ -1,6 +1,6 @@
--- In a state in which no pid occurs twice, the definition's step changes the actor's record alone,
--- at its place, before the act reaches others: a map that leaves all records but one is a write at
--- that one's place.
+-- If no pid occurs twice in a state, the definition's step changes only the actor's record, at its
+-- place, before the act reaches other processes; and a map that changes only one record is a write
+-- at its place.
 use Rattle.std.proofs.Common.{◌≡◌, ℕ, zero, suc, false, if◌then◌else◌, List, [], ◌∷◌, map, set}
 use Rattle.std.proofs.Common.{Some, None, slice_get}
 use Rattle.std.proofs.Common.{option_map, option_and_then, refl, sym, ◌∙◌, ap, subst}
@@ -20,7 +20,7 @@ abbrev pub AreApart : State → Type 0
 AreApart [] = Unit {0}
 AreApart (r ∷ s) = AllByRecursion (λ x. pid_eq x.pid r.pid ≡ false) s × AreApart s
 
--- the record of p is r, which is at place i
+-- the process with the pid p is r, at the place i
 pub record StandsAt (s : State) (p : Pid) (i : ℕ) (r : Process) : Type 0 where
   pub at : slice_get s i ≡ Some r
   pub found : process s p ≡ Some r
@@ -36,14 +36,14 @@ map_agree f g (x ∷ xs) same = rw (same x, map_agree f g xs same) refl
 pub map_same : {A : Type 0} (f : A → A) (xs : List A) → ((x : A) → f x ≡ x) → map f xs ≡ xs
 map_same f xs same = map_agree f (λ x. x) xs same ∙ map-id xs
 
--- to write what is there changes nothing
+-- writing what is there changes nothing
 pub set_back : {A : Type 0} (xs : List A) (i : ℕ) (x : A) → slice_get xs i ≡ Some x
     → set xs i x ≡ xs
 set_back [] i x h = refl
 set_back (z ∷ xs) zero x h = ap (λ w. w ∷ xs) (sym (same_Some z x h))
 set_back (z ∷ xs) (suc i) x h = ap (λ ys. z ∷ ys) (set_back xs i x h)
 
--- a function leaves each record but those of q
+-- the function changes no process but q
 abbrev pub LeavesRest : Pid → (Process → Process) → Type 0
 LeavesRest q f = (x : Process) → pid_eq x.pid q ≡ false → f x ≡ x
 
@@ -52,7 +52,7 @@ map_rest : (s : State) (q : Pid) (f : Process → Process)
 map_rest [] q f others same = refl
 map_rest (x ∷ s) q f others same = rw (same x others.0, map_rest s q f others.1 same) refl
 
--- a change of one record alone is a write at its place
+-- if a function changes only one record, mapping it is a write at the record's place
 pub map_one : (s : State) (i : ℕ) (r : Process) (f : Process → Process)
     → AreApart s → slice_get s i ≡ Some r → LeavesRest r.pid f → map f s ≡ set s i (f r)
 map_one [] i r f apart at same = absurd (cc)
@@ -68,7 +68,7 @@ map_one (x ∷ s) (suc i) r f apart at same =
 
 -- THE STEP
 
--- an act's step in two parts: the actor's own, and what reaches each process
+-- an act's step has two parts: the actor's own, and then what reaches each process
 pub step_own : (top : ℕ) (s : State) (a : Act) (i : ℕ) (r q : Process) (done : Acted)
     (own : Process)
     → AreApart s → StandsAt s (actor a) i r → process s (receiver a) ≡ Some q
@@ -94,7 +94,7 @@ step_own top s a i r q done own apart stands there acts is =
     sym (map-map (reached a token) mine s) ∙ ap (map (reached a token)) written in
     rw (stands.found, there, acts) (rw after refl)
 
--- if the actor's part has no value, the act has no step
+-- if the actor's own part has no value, the act has no step
 pub step_full : (top : ℕ) (s : State) (a : Act) (r : Process)
     → process s (actor a) ≡ Some r → acted top r a ≡ None → step top s a ≡ None
 step_full top s a r found full =

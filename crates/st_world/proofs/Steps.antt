@@ -1,6 +1,5 @@
--- For each kind of act the definition's step over the rows of a world is what the code writes at
--- one or two numbers of them, since an act of one process changes its record alone, and a send one
--- queue besides.
+-- An act of one process changes only its record, and a send also one queue. So for each kind of
+-- act the definition's step is what the code writes at one or two numbers of the rows.
 use Rattle.std.proofs.Common.{IsSome, ◌≡◌, ℕ, ◌<◌, true, false, List, [], ◌∷◌, ◌++◌, map, length}
 use Rattle.std.proofs.Common.{get_or, set, All}
 use Rattle.std.proofs.Common.{Option, Some, None, position, refl, sym, ◌∙◌, ap, arith}
@@ -33,7 +32,7 @@ use Rattle.st_world.proofs.States.{step_own, step_full}
 use Rattle.st_world.proofs.RowLemmas.{apart_rows, stands, number_within, set_stands, set_local}
 use Rattle.st_world.proofs.RowLemmas.{set_queue}
 
--- an act that reaches no queue
+-- an act that touches no queue reaches no process
 reached_inner : (a : Act) (t : Option Token) (x : Process) → is_inner a ≡ true → reached a t x ≡ x
 reached_inner (act.Send p q v) t x h = absurd (cc)
 reached_inner (act.Receive p w) t x h = absurd (cc)
@@ -52,7 +51,7 @@ receiver_inner a h = refl
 abbrev pub mail : Pid → ℕ → LocalState → Message
 mail p v l = record { from = p; value = v; token = l.token }
 
--- what a send reaches
+-- a send adds its message to the receiver's queue, and reaches nothing else
 reached_send : (s : State) (p q : Pid) (v : ℕ) (t : Option Token) (j : ℕ) (r : Process) → AreApart s
     → StandsAt s q j r
     → map (reached (act.Send p q v) t) s
@@ -76,11 +75,11 @@ stamped_fits top p (Some t) stamped = (stamped t refl).within
 
 module _ (top : ℕ) (ps : List Pid) (ls : List LocalState) (bs : List (List Message))
     (aligned : AreAligned ps ls bs) where
-  -- q is at number i
+  -- q has the number i
   abbrev IsAt : Pid → ℕ → Type 0
   IsAt q i = position (λ p. pid_eq p q) ps ≡ Some i
 
-  -- a process that is there
+  -- a process that has a number is in the state
   is_found : (q : Pid) (i : ℕ) → IsAt q i → (r : Process) × (process (state_of ps ls bs) q ≡ Some r)
   is_found q i at =
       let within : i < length ls = omega (arith, number_within ps q i at, aligned.locals_len) in
@@ -91,7 +90,7 @@ module _ (top : ℕ) (ps : List Pid) (ls : List LocalState) (bs : List (List Mes
   pub is_there : (q : Pid) (i : ℕ) → IsAt q i → IsSome (process (state_of ps ls bs) q)
   is_there q i at = rw (is_found q i at).1 refl
 
-  -- in a queue of sound processes each token can be met
+  -- a sound process can meet each token in its queue
   pub queue_fits : All (IsSound top) (state_of ps ls bs)
       → (q : Pid) (i : ℕ) (l : LocalState) → IsAt q i → l ≡ get_or ls i l
       → QueueFits top (get_or bs i [])
@@ -103,7 +102,7 @@ module _ (top : ℕ) (ps : List Pid) (ls : List LocalState) (bs : List (List Mes
       All-weaker stamped (λ m. IsMeetable top m.token)
       (λ m is. stamped_fits top m.from m.token is) (get_or bs i []) whole.queued
 
-  -- the actor's part has no value
+  -- if the actor's part has no value, the act has no step
   pub full_act : (a : Act) (i : ℕ) (l : LocalState) → IsAt (actor a) i → l ≡ get_or ls i l
       → acted top (process_of (actor a) l (get_or bs i [])) a ≡ None
       → step top (state_of ps ls bs) a ≡ None
@@ -111,7 +110,7 @@ module _ (top : ℕ) (ps : List Pid) (ls : List LocalState) (bs : List (List Mes
       let here = stands ps ls bs aligned (actor a) i at l el in
       step_full top (state_of ps ls bs) a (process_of (actor a) l (get_or bs i [])) here.found full
 
-  -- an act that reaches no process besides its actor: what is written at its number
+  -- the step of an act that reaches only its actor, written at the actor's number
   step_alone : (a : Act) (i : ℕ) (l : LocalState) (told : Told) (l2 : LocalState)
       (b2 : List Message)
       → receiver a ≡ actor a → ((t : Option Token) (x : Process) → reached a t x ≡ x)
@@ -130,7 +129,7 @@ module _ (top : ℕ) (ps : List Pid) (ls : List LocalState) (bs : List (List Mes
       ∙ ap (λ (x : State). Some (outcome_to told x))
       (map_same (reached a l2.token) (set s i new) (none l2.token))
 
-  -- an act that leaves all queues
+  -- the step of an act that touches no queue
   pub step_inner : (a : Act) (i : ℕ) (l : LocalState) (told : Told) (l2 : LocalState)
       → is_inner a ≡ true → IsAt (actor a) i → l ≡ get_or ls i l
       → ActsOutside top a (actor a) l l2 told
@@ -142,7 +141,7 @@ module _ (top : ℕ) (ps : List Pid) (ls : List LocalState) (bs : List (List Mes
       ∙ ap (λ (x : State). Some (outcome_to told x))
       (sym (set_local ps ls bs aligned (actor a) i at l2))
 
-  -- a receive
+  -- the step of a receive
   pub step_receive : (p : Pid) (w : Want) (i : ℕ) (l : LocalState) (told : Told) (l2 : LocalState)
       (b2 : List Message)
       → IsAt p i → l ≡ get_or ls i l
@@ -154,13 +153,13 @@ module _ (top : ℕ) (ps : List Pid) (ls : List LocalState) (bs : List (List Mes
       ∙ ap (λ (x : State). Some (outcome_to told x))
       (sym (set_stands ps ls bs aligned p i at l2 b2))
 
-  -- a send whose stamp has no value
+  -- a send whose stamp has no value has no step
   pub full_send : (p q : Pid) (v : ℕ) (i : ℕ) (l : LocalState)
       → IsAt p i → l ≡ get_or ls i l → stamp_any top p l ≡ None
       → step top (state_of ps ls bs) (act.Send p q v) ≡ None
   full_send p q v i l at el full = full_act (act.Send p q v) i l at el (rw full refl)
 
-  -- an act of a node
+  -- the step of an act on a node
   pub step_node : (a : Act) (i : ℕ) (l : LocalState) (y : Reply)
       → receiver a ≡ actor a → ((t : Option Token) (x : Process) → reached a t x ≡ reached a None x)
       → IsAt (actor a) i → l ≡ get_or ls i l
@@ -188,7 +187,7 @@ module _ (top : ℕ) (ps : List Pid) (ls : List LocalState) (bs : List (List Mes
       ∙ ap (λ (x : State). Some (record { reply = y; report = None; place = None; after = x }))
       after
 
--- what a send tells
+-- the outcome of a send
 abbrev pub told_of_send : Pid → ℕ → LocalState → LocalState → Told
 told_of_send q v l l2 = record {
   reply = reply.Done;
@@ -196,7 +195,7 @@ told_of_send q v l l2 = record {
   place = None;
 }
 
--- a send: the actor's part, and then its message at the end of the receiver's queue
+-- the step of a send: the actor's part, and then the message at the end of the receiver's queue
 pub step_send
     : (top : ℕ) (ps : List Pid) (ls : List LocalState) (bs : List (List Message))
     (aligned : AreAligned ps ls bs)

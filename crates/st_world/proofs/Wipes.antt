@@ -1,6 +1,5 @@
--- A wipe of one process of a node after another comes to the node's reset once each of them is
--- clean: a reset of the state makes no difference between a process and the same one wiped, and
--- leaves those that are clean.
+-- Wiping a node's processes one by one comes to the node's reset once each of them is clean, since
+-- a reset has the same result for a process and for the wiped process, and leaves clean ones.
 use Rattle.std.proofs.Common.{◌≡◌, ℕ, ◌+◌, ◌<◌, ◌≤◌, ◌==◌, zero, suc, Bool, true, false, List, []}
 use Rattle.std.proofs.Common.{◌∷◌, Some, None, ◌⊎◌, inl, inr, length, map, get_or, set, slice_get}
 use Rattle.std.proofs.Common.{refl, sym, ◌∙◌, ap, subst, arith}
@@ -28,7 +27,7 @@ untraced_again : (ms : List Message) → map untraced (map untraced ms) ≡ map 
 untraced_again [] = refl
 untraced_again (m ∷ ms) = ap (λ ns. untraced m ∷ ns) (untraced_again ms)
 
--- the process of a wipe is clean, and each that was clean stays so
+-- a wiped process is clean, and each clean process stays clean
 pub clean_here : (ls : List LocalState) (bs : List (List Message)) (n : ℕ) (l : LocalState)
     (b : List Message)
     → n < length ls → n < length bs → IsClean (set ls n (wiped l)) (set bs n (map untraced b)) n
@@ -49,7 +48,7 @@ clean_still ls bs n i l b local queue clean = elim (cases_eq i n) [
   }
 ]
 
--- what a reset does to a process elsewhere, and to one on the node
+-- a reset leaves a process on another node, and wipes one on the node
 other_reset : (me : Pid) (r : Process) → (r.pid.node == me.node) ≡ false
     → reached (act.Reset me) None r ≡ r
 other_reset me r h = rw h refl
@@ -58,7 +57,7 @@ on_reset : (me p : Pid) (l : LocalState) (b : List Message) → p.node ≡ me.no
     → reached (act.Reset me) None (process_of p l b) ≡ process_of p (wiped l) (map untraced b)
 on_reset me p l b h = rw (eq-eqb p.node me.node h) refl
 
--- a second reset changes nothing
+-- a reset has the same result for a process and for the wiped process
 reset_again : (me p : Pid) (l : LocalState) (b : List Message) → p.node ≡ me.node
     → reached (act.Reset me) None (process_of p (wiped l) (map untraced b))
     ≡ reached (act.Reset me) None (process_of p l b)
@@ -67,7 +66,7 @@ reset_again me p l b h =
     ∙ ap (process_of p (wiped l)) (untraced_again b)
     ∙ sym (on_reset me p l b h)
 
--- one that is clean if it is on the node
+-- a reset leaves a process that is clean or on another node
 fixed_if : (me p : Pid) (l : LocalState) (b : List Message) (t : Bool) → (p.node == me.node) ≡ t
     → (p.node ≡ me.node → (wiped l ≡ l) × (map untraced b ≡ b))
     → reached (act.Reset me) None (process_of p l b) ≡ process_of p l b
@@ -93,7 +92,7 @@ row_within ps ls bs i r at = absurd (cc)
 
 module _ (ps : List Pid) (ls : List LocalState) (bs : List (List Message))
     (locals_len : length ls ≡ length ps) (queues_len : length bs ≡ length ps) where
-  -- the process of a number
+  -- the process at a number of the rows
   row_at : (i : ℕ) (d : Pid) → i < length ps
       → slice_get (state_of ps ls bs) i
       ≡ Some (process_of (get_or ps i d) (get_or ls i zero_local) (get_or bs i []))
@@ -104,7 +103,7 @@ module _ (ps : List Pid) (ls : List LocalState) (bs : List (List Message))
       at_rows ps ls bs i p l b locals_len queues_len h (get_or_default ps i d p h)
       (get_or_default ls i zero_local l (omega arith)) (get_or_default bs i [] b (omega arith))
 
-  -- a wipe of one process on the node
+  -- wiping one process on the node first changes nothing in the reset
   pub wiped_one : (me : Pid) (n : ℕ) (l : LocalState) → n < length ps
       → (get_or ps n me).node ≡ me.node
       → l ≡ get_or ls n l
@@ -125,7 +124,7 @@ module _ (ps : List Pid) (ls : List LocalState) (bs : List (List Message))
       ∙ map-set_same f s n (process_of p (wiped l) (map untraced b)) r
       (reset_again me p l b on ∙ ap f (sym here))
 
-  -- a node whose processes are clean
+  -- a reset leaves a state whose processes on the node are clean
   pub clean_node : (me : Pid)
       → ((i : ℕ) → i < length ps → (get_or ps i me).node ≡ me.node → IsClean ls bs i)
       → map (reached (act.Reset me) None) (state_of ps ls bs) ≡ state_of ps ls bs
@@ -144,7 +143,7 @@ module _ (ps : List Pid) (ls : List LocalState) (bs : List (List Message))
 -- n is the node of the process `number`
 module _ (g : Groups) (number : ℕ) (n : Node) (inv : AreGroups g) (h : number < length g.places)
     (is : n ≡ node_at g number) where
-  -- each that is listed is on the node
+  -- each listed process is on the node
   pub in_node : (t : ℕ) → n.start ≤ t → t < n.listed
       → (process_in g.slots n t < length g.places)
       × (get_or g.places (process_in g.slots n t) 0 ≡ get_or g.places number 0)
@@ -170,7 +169,7 @@ module _ (g : Groups) (number : ℕ) (n : Node) (inv : AreGroups g) (h : number 
             rw (part_in g.slots n t less) (slot.within, slot.same ∙ same)
       ]
 
-  -- at the start
+  -- at the start, each process of the node is clean or listed from the first slot on
   pub all_left : (ls : List LocalState) (bs : List (List Message)) (i : ℕ)
       → get_or g.places i 0 ≡ get_or g.places number 0
       → IsCleanOrListed g ls bs i → IsClean ls bs i ⊎ IsListedFrom n.start g.slots n i
@@ -179,7 +178,7 @@ module _ (g : Groups) (number : ℕ) (n : Node) (inv : AreGroups g) (h : number 
       let node : node_at g i ≡ n = ap (λ k. get_or g.nodes k no_node) same ∙ sym is in
       inr (subst (λ (m : Node). IsListedFrom m.start g.slots m i) node listed)
 
--- one slot more
+-- after a slot's process is wiped, each is clean or listed from the next slot on
 pub fewer_left : (slots : List ℕ) (n : Node) (t i : ℕ) (ls : List LocalState)
     (bs : List (List Message))
     → (l : LocalState) (b : List Message) → process_in slots n t < length ls
@@ -206,7 +205,7 @@ fewer_left slots n t i ls bs l b local queue (inr old) = elim (cases_eq old.slot
       })
 ]
 
--- at the end
+-- after the last slot, each is clean
 pub none_left : (slots : List ℕ) (n : Node) (t i : ℕ) (ls : List LocalState)
     (bs : List (List Message))
     → n.listed ≤ t → IsClean ls bs i ⊎ IsListedFrom t slots n i → IsClean ls bs i

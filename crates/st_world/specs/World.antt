@@ -19,7 +19,7 @@ use Rattle.st_world.specs.declared.outcome.NewFault.TheVariants as new_fault
 use Rattle.st_world.specs.declared.outcome.StepFault.{StepFault}
 use Rattle.st_world.specs.declared.outcome.StepFault.TheVariants as fault
 
--- the outcome of a step that tells this and leaves the state so
+-- the step's outcome that returns `told` and leaves the state `new`
 abbrev pub outcome_to : Told → State → Outcome
 outcome_to told new = record {
   reply = told.reply;
@@ -28,29 +28,29 @@ outcome_to told new = record {
   after = new;
 }
 
--- when a new world is refused: for its pids if these don't rise, else because memory ran out
+-- why a new world is refused: for its pids if they don't rise, and otherwise for memory
 abbrev pub IsNewFault : List Pid → NewFault → Type 0
 IsNewFault pids new_fault.Memory = IsRising pids
 IsNewFault pids new_fault.NotRising = ¬ IsRising pids
 
--- when a step is refused. The cases exclude each other, and the last two exclude an outcome: so
--- each comes exactly if its case holds
+-- why a step is refused. At most one of the three cases holds, and in the last two the act has no
+-- step, so each of these two comes if and only if its case holds
 abbrev pub IsFault : ℕ → State → Act → StepFault → Type 0
 IsFault top s a fault.Memory = IsSome (step top s a)
 IsFault top s a fault.Unknown = (process s (actor a) ≡ None) ⊎ (process s (receiver a) ≡ None)
 IsFault top s a fault.ClockFull =
     IsSome (process s (actor a)) × IsSome (process s (receiver a)) × (step top s a ≡ None)
 
--- the token of p, if it is there and has one
+-- the token of p, if p is in the state and has one
 abbrev pub token_of : State → Pid → Option Token
 token_of s p = option_and_then (λ r. r.local.token) (process s p)
 
--- in the queue of p the least place whose message has a token with this from and this own count
+-- the least place of p's queue whose message's token has the from `from` and the own count `this`
 abbrev pub place_in : State → Pid → Pid → ℕ → Option ℕ
 place_in s p from this =
     option_and_then (λ r. position (λ m. bears_stamp from this m.token) r.queue) (process s p)
 
--- the last count is at most the clock, and the clock at most TOP
+-- the last count is at most the clock, and the clock at most `top`
 pub record AreOrdered (top : ℕ) (l : LocalState) : Type 0 where
   pub last : l.last ≤ l.clock
   pub clock : l.clock ≤ top
@@ -59,12 +59,12 @@ pub record AreOrdered (top : ℕ) (l : LocalState) : Type 0 where
 abbrev pub AreStamped : ℕ → List Message → Type 0
 AreStamped top queue = All (λ m. ForSome m.token (IsStamped top m.from)) queue
 
--- the serial of the event rises: what was known before is below its own count
+-- the serial of the event rises: its prev is below its own count
 abbrev pub Rises : Event → Type 0
 Rises e = e.serial.prev < e.serial.this
 
--- what a step of the act returns and leaves, from the old state to the new: the clauses of `step`
--- in one word, for the parts that it is made of
+-- what a step of the act returns and leaves, from the state `old` to `new`: all clauses of
+-- `World::step`, for the functions that it consists of
 pub record IsStep (top : ℕ) (old : State) (a : Act) (r : Result Told StepFault)
     (new : State) : Type 0 where
   pub steps : IfOk r (λ told. step top old a ≡ Some (outcome_to told new))

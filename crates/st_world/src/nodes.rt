@@ -1,6 +1,6 @@
 //! The nodes of a world: which of them are traced, and which of their processes an act has touched
-//! since the node's last reset. A reset changes no other process, so it costs no more than the acts
-//! since the one before, and a tracer change costs the same on each node.
+//! since the node's last reset. A reset wipes only touched processes, so it costs no more than the
+//! acts since the reset before. A tracer change has the same cost on each node.
 
 ghost use Rattle.std.specs.Prelude.{◌≡◌, ◌≢◌, ℕ, ◌<◌, length, false};
 ghost use Rattle.std.specs.Prelude.{slice_index_or, IfOk};
@@ -16,14 +16,14 @@ use st_mail::Mailboxes;
 use std::alloc::{AllocError, Global};
 use std::marker::Model;
 
-/// Makes the nodes of this many processes, which are known by their numbers alone.
+/// The nodes of the processes, which are known by their numbers alone.
 #[derive(Drop)]
 pub(crate) struct Nodes {
-    // The place of each process's node.
+    // For each process, the place of its node in `nodes`.
     places: Vec<usize>,
     nodes: Vec<Node>,
 
-    // The lists of all nodes: a slot for each process, which names a process of the same node.
+    // The lists of all nodes. Each process has a slot, which names a process of the same node.
     slots: Vec<usize>,
 }
 
@@ -45,7 +45,7 @@ impl Model for Nodes {
     }) };
 }
 
-/// The process that this slot of the node's list stands for.
+/// Returns the process that the slot of the node's list stands for.
 fn process_in(slots: &[usize], node: &Node, slot: usize) -> usize
     requires { slot < length slots.now }
     ensures { result ≡ process_in slots.now node.now slot }
@@ -58,8 +58,8 @@ fn process_in(slots: &[usize], node: &Node, slot: usize) -> usize
 }
 
 impl Nodes {
-    /// The nodes of these processes: none is traced, and each process counts as touched. Fails if
-    /// memory runs out.
+    /// Makes the nodes of the processes `pids`: no node is traced, and each process counts as
+    /// touched. Fails if memory runs out.
     pub fn new(alloc: Global, pids: &[Pid]) -> Result<Nodes, AllocError>
         requires { IsRising pids.now }
         ensures by_node { IfOk result (λ g. AreByNode pids.now g.places) }
@@ -91,7 +91,7 @@ impl Nodes {
         })
     }
 
-    /// Whether the node of the process is traced.
+    /// Returns whether the node of the process is traced.
     pub fn is_traced(&self, number: usize) -> bool
         requires { number < length self.now.places }
         ensures { result ≡ traced_at self.now number }
@@ -118,7 +118,8 @@ impl Nodes {
         was
     }
 
-    /// Lists the process as touched. A list that is full stays as it is.
+    /// Lists the process as touched. A full list stays as it is, since it stands for each process
+    /// of the node.
     pub fn touch(&mut self, number: usize)
         requires { number < length self.old.places }
         ensures places { self.new.places ≡ self.old.places }
@@ -134,8 +135,8 @@ impl Nodes {
         }
     }
 
-    /// Readies a process for its act: it is listed as touched, and what it keeps says whether its
-    /// node is traced.
+    /// Prepares a process for its act: lists it as touched, and sets its mark to whether its node
+    /// is traced.
     pub fn ready<const TOP: u64>(&mut self, number: usize, local: &mut Local<TOP>)
         requires { number < length self.old.places }
         ensures local { local.new ≡ record local.old { traced = traced_at self.old number } }
@@ -149,8 +150,8 @@ impl Nodes {
         self.touch(number);
     }
 
-    /// Wipes the listed processes of this one's node, and the tokens in their queues. If each of
-    /// its processes is clean or listed, that resets the node.
+    /// Wipes the listed processes of the node of process `number`, and the tokens in their queues.
+    /// If each process of the node is clean or listed, the node is reset.
     pub fn wipe<const TOP: u64>(
         &self,
         number: usize,

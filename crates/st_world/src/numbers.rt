@@ -1,9 +1,9 @@
-//! The processes of a world by number: their pids rise, and the same number is one process's in
-//! each row.
+//! The numbers of a world's processes. The pids rise with the numbers, and each row of the world
+//! has a process at its number.
 //!
-//! Each act names pids. A guess at a pid's number is tested first, and what it misses is looked up
-//! in a set that keeps the pids in their order. Whoever writes the acts chooses the pids, so the
-//! set's hashes begin with a digest of all of them.
+//! Acts name processes by pid. The number of a pid is guessed first. If the guess is wrong, the
+//! pid is looked up in a set that keeps the pids in their order. Anyone who writes acts chooses
+//! their pids, so the set's hashes begin with a digest of all pids of the world.
 
 ghost use Rattle.std.specs.Prelude.{◌≡◌, position, IfOk};
 ghost use Rattle.st_core.specs.Pid.{pid_eq, IsRising};
@@ -15,7 +15,7 @@ use st_hash::DigestState;
 use std::alloc::{AllocError, Global};
 use std::marker::Model;
 
-/// Pids that rise.
+/// Rising pids, each of which has its place as its number.
 #[derive(Drop)]
 pub(crate) struct Numbers {
     pids: IndexSet<Pid, DigestState>,
@@ -35,7 +35,7 @@ impl Model for Numbers {
 }
 
 impl Numbers {
-    /// Those of these pids.
+    /// Makes the numbers of the pids. Fails if memory runs out.
     pub(crate) fn of(alloc: Global, pids: &[Pid]) -> Result<Numbers, AllocError>
         requires { IsRising pids.now }
         ensures { IfOk result (λ numbers. numbers ≡ pids.now) }
@@ -48,7 +48,7 @@ impl Numbers {
         Ok(Numbers { pids, guesses })
     }
 
-    /// The number of the process; none if it isn't among them.
+    /// Returns the number of the process, or nothing if it has none.
     #[inline]
     pub(crate) fn number_of(&self, pid: Pid) -> Option<usize>
         ensures { result ≡ position (λ p. pid_eq p pid) self.now }
@@ -63,7 +63,7 @@ impl Numbers {
     }
 }
 
-/// A digest of the pids, on which nothing but the time of a search rests.
+/// Returns a digest of the pids, which affects only how long a search takes.
 fn digest_of(pids: &[Pid]) -> Sha256 {
     let mut digest = Sha256::new();
     for pid in pids {
@@ -73,7 +73,7 @@ fn digest_of(pids: &[Pid]) -> Sha256 {
     digest
 }
 
-/// The pids, in their order.
+/// Makes a set of the pids, in their order. Fails if memory runs out.
 fn set_of(alloc: Global, pids: &[Pid]) -> Result<IndexSet<Pid, DigestState>, AllocError>
     requires { IsRising pids.now }
     ensures { IfOk result (λ set. set.keys ≡ pids.now) }

@@ -1,5 +1,5 @@
-//! The processes of a world, and one step of them. Each call looks its processes up by pid, and
-//! leaves the rest to the functions on one process or on one node.
+//! The processes of a world, and their step. Each call looks processes up by pid, and passes their
+//! numbers to functions on one process or one node.
 
 ghost use Rattle.std.specs.Prelude.{◌≡◌, true, option_map, IfErr, IfOk, IfSome, OnOk};
 ghost use Rattle.st_core.specs.Pid.{IsRising};
@@ -21,12 +21,12 @@ use st_mail::{Mailboxes, Outcome};
 use std::alloc::Global;
 use std::marker::Model;
 
-/// All processes of the machine, whatever has happened to them.
+/// All processes of the machine, in any state that acts can leave.
 #[derive(Drop)]
 pub(crate) struct Processes<const TOP: u64> {
     pids: Numbers,
 
-    // Each but for the mark traced, which is that of the process's node.
+    // The tracing states. The node of a process says whether it is traced, and not the mark here.
     locals: Vec<Local<TOP>>,
     queues: Mailboxes,
     nodes: Nodes,
@@ -46,7 +46,8 @@ impl<const TOP: u64> Model for Processes<TOP> {
 }
 
 impl<const TOP: u64> Processes<TOP> {
-    /// These processes in their zero state.
+    /// Makes the processes in their zero state. Fails if the pids don't rise strictly or memory
+    /// runs out.
     pub fn new(alloc: Global, pids: &[Pid]) -> Result<Processes<TOP>, NewFault>
         ensures zero { IfOk result (λ w. w ≡ zero_state pids.now) }
         ensures rising { OnOk result (IsRising pids.now) }
@@ -87,7 +88,7 @@ impl<const TOP: u64> Processes<TOP> {
         Some(local)
     }
 
-    /// The token of the process.
+    /// Returns the token of the process.
     pub fn token(&self, pid: Pid) -> Option<Token>
         ensures { result ≡ token_of self.now pid }
     {
@@ -97,7 +98,7 @@ impl<const TOP: u64> Processes<TOP> {
         self.locals[number].token()
     }
 
-    /// The clock of the process.
+    /// Returns the clock of the process.
     pub fn clock(&self, pid: Pid) -> Option<u64>
         ensures value { result ≡ option_map (λ r. r.local.clock) (process self.now pid) }
         ensures ordered { IfSome (process self.now pid) (λ r. AreOrdered TOP r.local) }
@@ -108,7 +109,7 @@ impl<const TOP: u64> Processes<TOP> {
         Some(self.locals[number].clock())
     }
 
-    /// The last count of the process.
+    /// Returns the last count of the process.
     pub fn last(&self, pid: Pid) -> Option<u64>
         ensures value { result ≡ option_map (λ r. r.local.last) (process self.now pid) }
         ensures ordered { IfSome (process self.now pid) (λ r. AreOrdered TOP r.local) }
@@ -119,8 +120,8 @@ impl<const TOP: u64> Processes<TOP> {
         Some(self.locals[number].last())
     }
 
-    /// The least place of the process's queue whose message has a token with this from and this own
-    /// count.
+    /// Returns the least place of the process's queue whose message's token has the from `from`
+    /// and the own count `this`.
     pub fn place_of(&self, pid: Pid, from: Pid, this: u64) -> Option<u64>
         ensures value { result ≡ place_in self.now pid from this }
         ensures stamped { IfSome (process self.now pid) (λ r. AreStamped TOP r.queue) }
@@ -131,8 +132,8 @@ impl<const TOP: u64> Processes<TOP> {
         self.queues.place_of(number, from, this)
     }
 
-    /// Finds what `place_of` finds, if no two messages of that queue have the stamp, from the
-    /// nearer end.
+    /// Returns what `place_of` does, if no two messages of the queue have the stamp. It searches a
+    /// long queue from both ends at once.
     pub fn place_of_one(&self, pid: Pid, from: Pid, this: u64) -> Option<u64>
         requires one { IfSome (process self.now pid) (λ r.
             PassesOnce (λ m. bears_stamp from this m.token) r.queue) }
@@ -145,7 +146,7 @@ impl<const TOP: u64> Processes<TOP> {
         self.queues.place_of_one(number, from, this)
     }
 
-    /// One act, by its kind.
+    /// Makes the act, by its kind.
     pub fn step(&mut self, act: &Act) -> Result<Outcome, StepFault>
         ensures { IsStep TOP self.old act.now result self.new }
     {
@@ -163,7 +164,7 @@ impl<const TOP: u64> Processes<TOP> {
         }
     }
 
-    /// An act that touches its actor alone and leaves its queue.
+    /// Makes an act that touches only its actor, and no queue.
     fn inner(&mut self, me: Pid, act: &Act) -> Result<Outcome, StepFault>
         requires inner { is_inner act.now ≡ true }
         requires me { actor act.now ≡ me }
@@ -179,7 +180,6 @@ impl<const TOP: u64> Processes<TOP> {
         Ok(outcome)
     }
 
-    /// A receive.
     fn receive(&mut self, me: Pid, want: &Want) -> Result<Outcome, StepFault>
         ensures { IsStep TOP self.old (Act.Receive me want.now) result self.new }
     {
@@ -190,8 +190,8 @@ impl<const TOP: u64> Processes<TOP> {
         Ok(receive(me, &mut self.locals[number], &mut self.queues, number, want))
     }
 
-    /// A send. The message carries the stamped token, and memory is asked for before anything
-    /// changes.
+    /// Sends a message with the stamped token. Memory is asked for before the actor's token and
+    /// clock change.
     fn send(&mut self, me: Pid, to: Pid, value: u64) -> Result<Outcome, StepFault>
         ensures { IsStep TOP self.old (Act.Send me to value) result self.new }
     {
@@ -223,7 +223,7 @@ impl<const TOP: u64> Processes<TOP> {
         })
     }
 
-    /// A reset of the node of `me`.
+    /// Resets the node of `me`.
     fn reset(&mut self, me: Pid) -> Result<Outcome, StepFault>
         ensures { IsStep TOP self.old (Act.Reset me) result self.new }
     {
@@ -235,7 +235,7 @@ impl<const TOP: u64> Processes<TOP> {
         Ok(answer(Reply::Done))
     }
 
-    /// A tracer change on the node of `me`.
+    /// Turns tracing of the node of `me` on or off.
     fn trace(&mut self, me: Pid, on: bool) -> Result<Outcome, StepFault>
         ensures { IsStep TOP self.old (Act.Tracer me on) result self.new }
     {

@@ -1,4 +1,4 @@
-//! The rows of a world: how they are made, and at which places the processes of a node are.
+//! Rows of a new world, and the range of numbers of a node's processes.
 
 ghost use Rattle.std.specs.Prelude.{◌≡◌, nat_le, nat_lt, replicate, IfOk};
 ghost use Rattle.st_core.specs.Pid.{node_of, IsRising};
@@ -8,7 +8,7 @@ ghost use Rattle.st_world.specs.Rows.{IsNodeRange};
 use st_core::{Local, Pid};
 use std::alloc::{AllocError, Global};
 
-/// Returns the rows of this many processes at the start.
+/// Returns `count` tracing states of new processes. Fails if memory runs out.
 pub(crate) fn zeros<const TOP: u64>(
     alloc: Global,
     count: usize,
@@ -22,7 +22,7 @@ pub(crate) fn zeros<const TOP: u64>(
     Ok(locals)
 }
 
-/// From which number on and up to which the processes of the node are.
+/// Returns the first number of the node's processes, and the number after the last.
 pub(crate) fn node_range(pids: &[Pid], node: u16) -> (usize, usize)
     requires { IsRising pids.now }
     ensures { IsNodeRange node pids.now result.0 result.1 }

@@ -1,4 +1,4 @@
-//! The world: the processes, and whether they still are in one trace. The public calls are here.
+//! The world: the processes, and whether no reset was asked for. The public calls are here.
 
 ghost use Rattle.std.specs.Prelude.{◌≡◌, ◌⊎◌, true, option_map, IfErr, IfOk, IfSome, OnErr, OnOk};
 ghost use Rattle.st_core.specs.Pid.{IsRising};
@@ -17,15 +17,15 @@ use std::marker::Model;
 
 /// All processes of the machine. `TOP` is the greatest value of a clock.
 ///
-/// Tokens and clocks go by the manual page of `seq_trace`. What it is silent on is this project's
-/// own profile: a message arrives with its send, a reset reaches the actor's node, and an act can
-/// be refused.
+/// Tokens and clocks follow the manual page of `seq_trace`. Where it is silent, this project's own
+/// profile decides: for example, a message arrives with its send, a reset reaches the actor's
+/// node, and an act can be refused.
 #[derive(Drop)]
 pub struct World<const TOP: u64> {
     processes: Processes<TOP>,
 
-    // Whether no reset was asked for yet. Until then no stamp occurs twice in a queue, so that a
-    // message may be looked for from either end.
+    // Whether no reset was asked for yet. Until then no stamp occurs twice in a queue, so a search
+    // for a stamp may begin at either end.
     one_trace: bool,
 }
 
@@ -42,8 +42,9 @@ impl<const TOP: u64> Model for World<TOP> {
 }
 
 impl<const TOP: u64> World<TOP> {
-    /// A world of these processes, with no tokens, all counts at 0, empty queues and no tracer.
-    /// Pids that do not rise strictly are refused before memory is asked for.
+    /// Makes a world of the processes `pids`, without tokens or a tracer, with counts of 0 and
+    /// empty queues. Fails if the pids don't rise strictly, which is checked first, or if memory
+    /// runs out.
     pub fn new(alloc: Global, pids: &[Pid]) -> Result<World<TOP>, NewFault>
         ensures zero { IfOk result (λ w. w ≡ zero_state pids.now) }
         ensures rising { OnOk result (IsRising pids.now) }
@@ -57,22 +58,22 @@ impl<const TOP: u64> World<TOP> {
     }
 
     /// Returns the tracing state of the process: its token, its clock, its last count and whether
-    /// it is traced, looked up at once. None if the process is unknown.
+    /// it is traced. None if the process is unknown.
     pub fn local(&self, pid: Pid) -> Option<Local<TOP>>
         ensures { result ≡ option_map (λ r. r.local) (process self.now pid) }
     {
         self.processes.local(pid)
     }
 
-    /// The token of the process. None if it has none, and if the process is unknown.
+    /// Returns the token of the process. None if the process has no token or is unknown.
     pub fn token(&self, pid: Pid) -> Option<Token>
         ensures { result ≡ token_of self.now pid }
     {
         self.processes.token(pid)
     }
 
-    /// The clock of the process, which is never below its last count nor above `TOP`. None if the
-    /// process is unknown.
+    /// Returns the clock of the process, which is never below its last count nor above `TOP`. None
+    /// if the process is unknown.
     pub fn clock(&self, pid: Pid) -> Option<u64>
         ensures value { result ≡ option_map (λ r. r.local.clock) (process self.now pid) }
         ensures ordered { IfSome (process self.now pid) (λ r. AreOrdered TOP r.local) }
@@ -80,9 +81,9 @@ impl<const TOP: u64> World<TOP> {
         self.processes.clock(pid)
     }
 
-    /// The last count of the process: that of the last message with a token that it took, or its
-    /// clock if a new trace began after that. It is never above the clock. None if the process is
-    /// unknown.
+    /// Returns the last count of the process: that of the last message with a token that it
+    /// received, or its clock when a new trace began after that. It is never above the clock. None
+    /// if the process is unknown.
     pub fn last(&self, pid: Pid) -> Option<u64>
         ensures value { result ≡ option_map (λ r. r.local.last) (process self.now pid) }
         ensures ordered { IfSome (process self.now pid) (λ r. AreOrdered TOP r.local) }
@@ -90,11 +91,10 @@ impl<const TOP: u64> World<TOP> {
         self.processes.last(pid)
     }
 
-    /// In the queue of the process the least place whose message has a token with this from and
-    /// this own count: that message is from the process that stamped the token. None if there is no
-    /// such message, and if the process is unknown. Until the first reset it takes as many steps as
-    /// the place is from the nearer end of the queue (from the front in one of at most 512
-    /// messages), then as many as it is from the front.
+    /// Returns the least place of the process's queue whose message's token has the from `from`
+    /// and the own count `this`. Such a message is from the process that stamped its token. None
+    /// if there is none, or if the process is unknown. Until a reset is asked for, a queue of more
+    /// than 512 messages is searched from both ends at once.
     pub fn place_of(&self, pid: Pid, from: Pid, this: u64) -> Option<u64>
         ensures value { result ≡ place_in self.now pid from this }
         ensures stamped { IfSome (process self.now pid) (λ r. AreStamped TOP r.queue) }
@@ -106,12 +106,11 @@ impl<const TOP: u64> World<TOP> {
         }
     }
 
-    /// One act. An act has a step if its actor is there, with a send's receiver, and if its stamp,
-    /// if it has one, has a value: refusals come in this order. After a refusal the world is as
-    /// before. Only a send fails if memory runs out, for its message; what room there is for
-    /// messages is no part of the state that a contract sees. A receive that walks far, or a send
-    /// to a queue that has an index, may ask for memory too, for that index or for the ladder of a
-    /// long list, and does without it if there is none.
+    /// Makes one act. It is refused if its actor or a send's receiver is unknown, next if a clock
+    /// at `TOP` can't stamp, and last if memory for a send's message runs out. A refused act
+    /// leaves the world as it was. Room for messages is no part of the state that a contract sees.
+    /// A receive that walks far, or a send to a queue with an index, may also ask for memory, for
+    /// an index or for the ladder of a long list, and does without if there is none.
     pub fn step(&mut self, act: &Act) -> Result<Outcome, StepFault>
         ensures step { IfOk result
             (λ told. step TOP self.old act.now ≡ Some (outcome_to told self.new)) }

@@ -1,4 +1,4 @@
--- Each pid is new to the set, since pids that rise occur once: so it joins the set at its end.
+-- Rising pids occur once, so each pid is new to the set and joins it at its end.
 use Rattle.std.proofs.Common.{get_or, ◌∙◌, ap}
 use Rattle.indexmap.specs.IndexSet.{insert_key}
 use Rattle.st_core.specs.declared.types.Pid.{Pid}

@@ -1,4 +1,4 @@
--- The set has the pids so far, in their order.
+-- The set has the pids passed, in their order.
 use Rattle.std.proofs.Common.{◌≡◌, take}
 use Rattle.st_world.proofs.numbers.set_of.Given as goal
 

@@ -1,4 +1,4 @@
--- Nodes don't fall along pids that rise, so each search finds where its test changes its answer.
+-- Along rising pids nodes don't fall, so each search finds where its test changes its result.
 use Rattle.std.proofs.Common.{leb, ltb, rules}
 use Rattle.std.proofs.lemmas.List.Sorted.{IsPartitionPoint-from_clause, IsPartitionedBy-leb}
 use Rattle.std.proofs.lemmas.List.Sorted.{IsPartitionedBy-ltb}

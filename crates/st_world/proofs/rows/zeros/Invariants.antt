@@ -1,4 +1,4 @@
--- Each of the rows so far is that of a process at the start.
+-- Each row so far is that of a new process.
 use Rattle.std.proofs.Common.{◌≡◌, replicate}
 use Rattle.st_core.specs.State.{zero_local}
 use Rattle.st_world.proofs.rows.zeros.Given as goal

@@ -1,5 +1,5 @@
--- A write to one node, which keeps its range, and whether it is traced. Its list is empty then, and
--- that of each other node as it was.
+-- The write keeps the node's range and whether it is traced. Its list is empty afterwards, and the
+-- lists of other nodes stay.
 use Rattle.std.proofs.Common.{refl, arith}
 use Rattle.st_world.specs.declared.node.Node.{Node}
 use Rattle.st_world.proofs.Groups.{emptied, groups_kept, listed_apart, lists_from, lists_to}

@@ -1,4 +1,4 @@
--- Each process is the first of a node of its own, or is on the node of the one before it.
+-- Each process is the first on a new node, or is on the node of the process before it.
 use Rattle.std.proofs.Common.{◌≡◌, ℕ, ◌+◌, ◌-◌, ◌<◌, [], ◌∷◌, ◌++◌, false, length, get_or, inl, inr}
 use Rattle.std.proofs.Common.{refl, ◌∙◌, ap, subst, arith}
 use Rattle.std.proofs.lemmas.List.{get_or_append_left, get_or_default, get_or_push, length_push}

@@ -1,4 +1,4 @@
--- The nodes of the processes so far, and a slot of each.
+-- The processes so far have their nodes, and a slot each.
 use Rattle.std.proofs.Common.{◌≡◌, ℕ, ◌<◌, length, get_or}
 use Rattle.st_world.proofs.Making.{AreMade}
 use Rattle.st_world.proofs.nodes.Nodes.new.Given as goal

@@ -1,5 +1,5 @@
--- A full list has each process of its node. In another the process goes to the next slot, which is
--- of no other node.
+-- A full list has each process of its node. In any other the process gets the next slot, which is
+-- in no other node's list.
 use Rattle.std.proofs.Common.{refl}
 use Rattle.st_world.specs.declared.node.Node.{Node}
 use Rattle.st_world.proofs.Groups.{one_more, tracers_kept, groups_put, listed_put, listed_kept}

@@ -1,4 +1,4 @@
--- A write to one node, which keeps its range and its list.
+-- The write keeps the node's range and its list.
 use Rattle.std.proofs.Common.{refl}
 use Rattle.st_world.specs.declared.node.Node.{Node}
 use Rattle.st_world.proofs.Groups.{groups_kept, lists_from, lists_to, traced_is, traced_here}

@@ -1,4 +1,4 @@
--- Each listed process is on the node, and is clean from its wipe on.
+-- Each listed process is on the node, and is clean after its wipe.
 use Rattle.std.proofs.Common.{◌≡◌, ℕ, ◌<◌, List, [], length, map, get_or, refl, sym, ◌∙◌, ap, subst}
 use Rattle.std.proofs.Common.{arith}
 use Rattle.std.proofs.lemmas.List.{length-set}
@@ -14,7 +14,7 @@ use Rattle.st_world.proofs.Wipes.{in_node, all_left, fewer_left, none_left, clea
 use Rattle.st_world.proofs.Wipes.{clean_node}
 use Rattle.st_world.proofs.nodes.Nodes.wipe.Goals as goal
 
--- the groups are what is inside, and the node that was read there is that of the process `number`
+-- the groups are the fields, and the node read there is that of the process `number`
 read_in : {inside g : Groups} → inside ≡ g → AreGroups inside → (number k : ℕ) (n : Node)
     → number < length g.places
     → k ≡ get_or inside.places number k → n ≡ get_or inside.nodes k n

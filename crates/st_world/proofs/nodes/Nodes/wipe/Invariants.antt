@@ -1,6 +1,5 @@
--- Each process of the node that isn't clean yet is listed in a slot from this one on, and a reset
--- of the state would come
--- to the same as at the start.
+-- Each process of the node that was clean or listed is clean now, or listed in this slot or a
+-- later one; and a reset of the state comes to the same as at the start.
 use Rattle.std.proofs.Common.{◌≡◌, ℕ, ◌<◌, ◌⊎◌, List, length, map, get_or, None}
 use Rattle.st_core.specs.declared.types.Act.TheVariants as act
 use Rattle.st_core.specs.declared.types.Pid.{Pid}

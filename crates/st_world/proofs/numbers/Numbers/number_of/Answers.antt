@@ -1,4 +1,4 @@
--- Pids that rise occur once, so that a pid's place is its number.
+-- Rising pids occur once, so a pid's place is its number.
 use Rattle.std.proofs.Common.{◌≡◌, ◌∙◌, ap, slice_get, Some, sym}
 use Rattle.st_core.proofs.ForCallers.{pid_eq-true}
 use Rattle.st_world.proofs.Pids.{number_at}

@@ -1,5 +1,4 @@
--- An act that leaves all queues writes what its actor keeps at the actor's number, and nothing
--- else.
+-- An act that touches no queue writes only the actor's tracing state, at the actor's number.
 use Rattle.std.proofs.Common.{List, inl, set, get_or, [], IsSome, refl, sym, ◌∙◌, ap}
 use Rattle.std.proofs.lemmas.List.{set-get_or}
 use Rattle.st_core.specs.State.{LocalState, State, process}

@@ -1,5 +1,5 @@
--- The row at the number of the pid has what the process keeps, but for the mark, which its node
--- has.
+-- The row at the pid's number is the tracing state of the process, except for the mark, which is
+-- its node's.
 use Rattle.std.proofs.Common.{◌≡◌, Some, option_map, sym, ◌∙◌, ap}
 use Rattle.st_core.specs.State.{LocalState, Process}
 use Rattle.st_world.specs.Nodes.{traced_at}

@@ -1,4 +1,4 @@
--- The queue of the number of the pid is that of its process.
+-- The queue at the pid's number is that of the process.
 use Rattle.std.proofs.Common.{option_and_then, position, sym, ◌∙◌, ap}
 use Rattle.st_core.specs.State.{Process}
 use Rattle.st_mail.specs.Mail.{bears_stamp}

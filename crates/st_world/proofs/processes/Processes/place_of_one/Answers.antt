@@ -1,5 +1,4 @@
--- As for `place_of`; and that the stamp occurs once in the process's queue is said of the queue of
--- its number.
+-- The queue at the pid's number is that of the process, so the stamp occurs at most once in it.
 use Rattle.std.proofs.Common.{Option, IfSome, option_and_then, position, sym, ◌∙◌, ap, subst}
 use Rattle.st_core.specs.State.{Process}
 use Rattle.st_arena.specs.Calls.{PassesOnce}

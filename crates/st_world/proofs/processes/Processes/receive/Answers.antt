@@ -1,5 +1,5 @@
--- A receive writes what its actor keeps, and its queue, at the actor's number; each token that
--- waits there was stamped.
+-- A receive writes the actor's tracing state and queue, at the actor's number; each token in its
+-- queue was stamped, so the actor can meet it.
 use Rattle.std.proofs.Common.{◌≡◌, ◌≢◌, ℕ, List, [], Some, inl, get_or, set, length, sym, ◌∙◌, ap}
 use Rattle.std.proofs.Common.{arith}
 use Rattle.std.proofs.lemmas.List.{get_or-set_other, length-set}

@@ -1,4 +1,4 @@
--- A reset of the rows is that of the state: it changes each process of the node that is listed, and
+-- The reset of the rows is that of the state, since it wipes each listed process of the node and
 -- the others are clean.
 use Rattle.std.proofs.Common.{◌≡◌, Some, inl, position, length, sym, ◌∙◌, ap, subst}
 use Rattle.std.proofs.lemmas.List.{with_items_is}

@@ -1,4 +1,4 @@
--- A send writes what its actor keeps at the actor's number, and its message, with the stamped
+-- A send writes the actor's tracing state at the actor's number, and its message, with the stamped
 -- token, at the receiver's.
 use Rattle.std.proofs.Common.{◌≡◌, ◌≢◌, ℕ, List, Some, inl, inr, get_or, set, length, [], ◌++◌, ◌∷◌}
 use Rattle.std.proofs.Common.{refl, sym, ◌∙◌, ap}

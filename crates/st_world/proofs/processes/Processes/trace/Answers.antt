@@ -1,5 +1,5 @@
--- A tracer change of the node is that of the state, since the mark of each of its processes is the
--- node's.
+-- The tracer change of the node is that of the state, since the mark of each of its processes is
+-- the node's.
 use Rattle.std.proofs.Common.{◌≡◌, Some, inl, position, sym, ◌∙◌}
 use Rattle.st_core.specs.declared.types.Act.TheVariants as act
 use Rattle.st_core.specs.declared.types.Reply.TheVariants as reply

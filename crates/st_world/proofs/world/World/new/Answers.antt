@@ -1,4 +1,4 @@
--- In the zero state nothing is queued.
+-- In the zero state each queue is empty, so no stamp occurs twice.
 use Rattle.std.proofs.Common.{sym, subst}
 use Rattle.st_core.specs.Laws.{HasStampsOnce}
 use Rattle.st_core.proofs.ForCallers.{zero_once}

@@ -1,4 +1,4 @@
--- In one trace no stamp occurs twice in a queue.
+-- As long as no reset was asked for, no stamp occurs twice in a queue.
 use Rattle.std.proofs.Common.{arith}
 use Rattle.st_world.proofs.Once.{one_in}
 use Rattle.st_world.proofs.world.World.place_of.Goals as goal
