@@ -1,6 +1,6 @@
--- Without a reset no two queues hold one stamp: a step puts at most one message into one queue, and
--- its stamp is above its actor's clock, which all that waits anywhere is not. Else a step only
--- takes messages out.
+-- Without a reset no two queues hold the same stamp: a step puts at most one message into one
+-- queue, with a stamp above its actor's clock, and no waiting stamp of the actor's is above it.
+-- Any other step only takes messages out.
 use Rattle.std.proofs.Common.{◌≡◌, ◌≢◌, ℕ, ◌<◌, true, false, cond, List, [], ◌∷◌, ◌++◌}
 use Rattle.std.proofs.Common.{Option, Some, None, All, refl, sym, ◌∙◌, ap, subst, arith}
 use Rattle.std.specs.List.{AllByRecursion}
@@ -26,7 +26,8 @@ use Rattle.st_core.proofs.Pids.{pid_eq-true}
 use Rattle.st_core.proofs.Queues.{changed_queue, IsReceive, own_queue, queue_after, zero_queue}
 use Rattle.st_core.proofs.Once.{all_push, all_remove, all_weaker, lifted, step_once, zero_once}
 
--- a message that the act puts into p's queue: its stamp is above the clock of its process
+-- the act puts the message into p's queue, with a stamp above the clock of the process that
+-- stamped it
 record IsNew (s : State) (a : Act) (p : Pid) (n : Message) : Type 0 where
   to : receiver a ≡ p
   above : (t : Token) → n.token ≡ Some t → clock_in s t.from < t.serial.this
@@ -45,8 +46,8 @@ all_received : (P : Message → Type 0) (r : Process) (found : Option (ℕ × Me
 all_received P r None all = all
 all_received P r (Some found) all = all_remove P r.queue found.0 all
 
--- what holds of all messages of a queue before a step, and of the one that comes, holds of all
--- after it
+-- a fact holds of all messages of a queue after a step if it holds of those before the step and of
+-- the message that the step adds
 module _ (top : ℕ) (s : State) (P : Message → Type 0) (p : Pid) (r : Process)
     (is_r : process s p ≡ Some r)
     (all : AllByRecursion P r.queue) where
@@ -112,7 +113,7 @@ module _ (top : ℕ) (s : State) (P : Message → Type 0) (p : Pid) (r : Process
 
 module _ (top : ℕ) (s : State) (a : Act) (o : Outcome) (h : step top s a ≡ Some o)
     (plain : is_reset a ≡ false) where
-  -- a process before the step that it is after it
+  -- process p before the step, after which it is x
   record WasBefore (p : Pid) (x : Process) : Type 1 where
     old : Process
     is_old : process s p ≡ Some old
@@ -133,7 +134,7 @@ module _ (top : ℕ) (s : State) (a : Act) (o : Outcome) (h : step top s a ≡ S
             (left top s P p from.0 from.1 all a o h plain t new);
       }
 
-  -- a message that waits and one that comes are apart
+  -- a waiting message and a new one have different stamps
   old_new : (p : Pid) (m n : Message) → IsStampedBefore s m → IsNew s a p n → AreApart m n
   old_new p m n low new t u has_t has_u from same =
       let old = low t has_t in
@@ -154,12 +155,12 @@ module _ (top : ℕ) (s : State) (a : Act) (o : Outcome) (h : step top s a ≡ S
     abbrev other : WasBefore q y
     other = was_before q y is_y
 
-    -- a message of p's old queue, and all of q's new one
+    -- a message of p's old queue is apart from all messages of q's new queue
     from_old : (m : Message) → IsStampedBefore s m → AllByRecursion (AreApart m) other.old.queue
         → AllByRecursion (AreApart m) y.queue
     from_old m low all = other.left_all (AreApart m) all (λ n new. old_new q m n low new)
 
-    -- p's new message, and all of q's queue, which gets none then
+    -- p's new message is apart from all messages of q's queue, which then gets none
     from_new : (n : Message) → IsNew s a p n → AllByRecursion (AreApart n) y.queue
     from_new n new =
         other.left_all (AreApart n)

@@ -85,7 +85,7 @@ certificate_checked = computed top hidden_sends certificate_acts (Yes ((5, 4) �
 certificate_cut : IsVerdict top hidden_sends (take 10 certificate_acts) (Left a)
 certificate_cut = computed top hidden_sends (take 10 certificate_acts) (Left a) refl
 
--- acts that stop too early
+-- acts that stop before process b reports its events
 abbrev unfit_streams : List Stream
 unfit_streams =
     record { pid = a; events = [] } ∷ record
@@ -133,8 +133,8 @@ node_reset_leaves_other_node =
 reset_there : IsVerdict top nodes_streams (nodes_acts e) (Differs 10)
 reset_there = computed top nodes_streams (nodes_acts e) (Differs 10) refl
 
--- one process's event in a stream of another label, an act of a process that isn't there, and a
--- clock at TOP
+-- a report whose label isn't the stream's, an act of a process that isn't there, and a stamp at
+-- clock TOP
 other_label :
     IsVerdict top (record { pid = a; events = printed 18 0 1 a 7 ∷ [] } ∷ [])
     (take 3 certificate_acts) (Differs 2)
@@ -152,7 +152,7 @@ full =
     computed 1 (record { pid = a; events = [] } ∷ [])
     (act.Set a (component.Send true) ∷ act.Print a 0 ∷ act.Print a 0 ∷ []) (Stuck 2) refl
 
--- the streams of a run of p alone that begins with its tracer
+-- the stream of a run of process a alone, which begins by setting the tracer
 abbrev alone : List Act → Option (List Event)
 alone acts = option_map (λ os. stream (act.Tracer a true ∷ acts) os a)
     (run top (a ∷ []) (act.Tracer a true ∷ acts))
@@ -184,7 +184,7 @@ printat_other_label :
     ≡ Some (printed 17 0 1 a 6 ∷ [])
 printat_other_label = refl
 
--- at its own label it is a print
+-- a printat at the token's label is a print
 printat_own_label :
     alone
     (act.Set a (component.Label (label_of 17)) ∷ act.Set a (component.Print true)
@@ -210,7 +210,7 @@ self_send =
     self_acts
     (Yes ((4, 3) ∷ [])) refl
 
--- a tracer change reaches its own node alone: without one on the second node its receive isn't
+-- a tracer change reaches only its own node: without a tracer on the second node its receive isn't
 -- reported
 tracer_of_one_node :
     IsVerdict top (record { pid = d; events = [] }
@@ -225,7 +225,7 @@ tracer_of_one_node =
     ∷ act.Set d (component.Receive true) ∷ act.Send d e
     5 ∷ act.Receive e want.First ∷ []) (Left e) refl
 
--- and it replies what the actor's own mark was before
+-- a tracer change replies whether its actor was traced before
 abbrev replies_of : List Act → Option (List Reply)
 replies_of acts = option_map (map (λ (o : Outcome). o.reply)) (run top (d ∷ e ∷ []) acts)
 
@@ -291,12 +291,12 @@ reset_lowers_clock :
     ≡ Some (0 ∷ 1 ∷ 0 ∷ 0 ∷ 1 ∷ [])
 reset_lowers_clock = refl
 
--- after a receive of a low serial a send goes on from the greatest count, with the low one as its
--- prev
+-- after a receive of a low serial a send has the next count after the greatest, and the low one as
+-- its prev
 low_goes_on : GoesOnFrom (got 0 0 5 a b 5 ∷ got 0 0 3 c b 3 ∷ []) (sent 0 3 6 b a 9)
 low_goes_on = record { count = refl; prev = inl refl }
 
--- and after a new trace from the greatest count alone
+-- in a new trace a print's prev is the greatest count before it
 new_trace_goes_on : GoesOnFrom (printed 17 0 1 a 7 ∷ []) (printed 18 1 2 a 8)
 new_trace_goes_on = record { count = refl; prev = inr refl }
 
@@ -324,7 +324,7 @@ waiting n =
           Some (record (token_of 7 true true true a) { serial = record { prev = 0; this = n } });
     }
 
--- two queues with stamps of one process share none if the counts differ
+-- two queues with stamps of one process share none if all the counts differ
 queues_apart : AreAllApart (waiting 1 ∷ []) (waiting 2 ∷ [])
 queues_apart = (
   (
@@ -337,6 +337,6 @@ queues_apart = (
   tt,
 )
 
--- and they do if one count is in both
+-- two queues share a stamp if one count of a process is in both
 queues_share : ¬ AreAllApart (waiting 1 ∷ []) (waiting 2 ∷ waiting 1 ∷ [])
 queues_share apart = apart.0.1.0 _ _ refl refl refl refl

@@ -1,6 +1,6 @@
 -- In a run without a reset a clock doesn't fall, since only a reset lowers one, and a stamp lifts
 -- its process's clock to the stamp's count: so the count is above all that the clock was before. A
--- reported send or print, and a send that a reported receive follows, are stamps.
+-- reported send or print is a stamp, and so is a send that a reported receive follows.
 use Rattle.std.proofs.Common.{◌≡◌, ℕ, ◌+◌, ◌<◌, ◌≤◌, ◌≢◌, ◌&&◌, zero, suc, Bool, true, false, cond}
 use Rattle.std.proofs.Common.{nat_lt, List, [], ◌∷◌, ◌++◌, Option, Some, None, is_some, option_map}
 use Rattle.std.proofs.Common.{option_and_then, All, inl, inr, refl, sym, ◌∙◌, ap, subst, arith}
@@ -39,13 +39,13 @@ use Rattle.st_core.proofs.Zips.{AllPairs_cons}
 
 -- THE STAMP
 
--- p's stamp t, by which its clock rose from this count to t's
+-- t is p's stamp, by which p's clock rose from this count to t's
 record IsStampAbove (p : Pid) (count : ℕ) (l : LocalState) (t : Token) : Type 0 where
   from : t.from ≡ p
   above : count < t.serial.this
   reaches : l.clock ≡ t.serial.this
 
--- p's record m was l and was stamped, or has no token
+-- m is p's record l after a stamp, or has no token
 record IsGrown (p : Pid) (l m : LocalState) : Type 0 where
   least : l.clock ≤ m.clock
   token : (t : Token) → m.token ≡ Some t → IsStampAbove p l.clock m t
@@ -156,7 +156,7 @@ reached_counts (act.Tracer p on) t r plain =
     ]
 reached_counts a t r plain = same_counts r.local
 
--- the actor's are those of its part, each other's as they were
+-- the actor's counts are those of its part, and each other process keeps its own
 pub changed_counts : (a : Act) (done : Acted) (r : Process) (mine : Bool) → is_reset a ≡ false
     → pid_eq r.pid (actor a) ≡ mine
     → SameCounts (cond mine done.local r.local) (changed a done r).local
@@ -193,7 +193,7 @@ found_clock a done before (Some r) plain least same =
       | false ↦ λ is. let now = (changed_counts a done r false plain is).clock in omega arith
     ] refl
 
--- no step but a reset lowers a clock
+-- only a reset lowers a clock
 pub step_clock : (top : ℕ) (s : State) (a : Act) (o : Outcome) (p : Pid) → step top s a ≡ Some o
     → is_reset a ≡ false
     → clock_in s p ≤ clock_in o.after p
@@ -221,7 +221,7 @@ actor_clock top s a o t plain =
 
 -- A STAMP, REPORTED OR NOT
 
--- the actor's part of a stamp: its token is p's, and lifted the clock
+-- after an act that stamps, the actor's token is its stamp, which lifted its clock
 printed_stamp : (r : Process) (v : ℕ) (stamped : Option LocalState) (done : Acted) (t : Token)
     → ((m : LocalState) → stamped ≡ Some m → IsGrown r.pid r.local m)
     → option_map (prints r v) stamped ≡ Some done
@@ -267,7 +267,7 @@ never_reset : (a : Act) (t : Token) → stamps a t ≡ true → is_reset a ≡ f
 never_reset (act.Reset p) t is = absurd (false≢true is)
 never_reset a t is = refl
 
--- what reaches the actor of a stamp besides its own part leaves its token
+-- an act that stamps leaves its actor the token of the actor's own part
 own_token : (a : Act) (done : Acted) (r : Process) (t : Token) → stamps a t ≡ true
     → pid_eq r.pid (actor a) ≡ true
     → (changed a done r).local.token ≡ done.local.token
@@ -299,14 +299,16 @@ stamp_lifts top s a o r token h is there has =
 
 -- A REPORTED SEND OR PRINT
 
--- the token that such an act stamped: its actor has it afterwards, and the report its serial
+-- the token that a reported send or print stamped: its actor has it after the act, and the report
+-- has its serial
 record IsReported (a : Act) (local : LocalState) (e : Event) : Type 0 where
   token : Token
   stamped : stamps a token ≡ true
   has : local.token ≡ Some token
   serial : token.serial ≡ e.serial
 
--- a report of the actor's token, if the act stamps each token that the actor has after it
+-- a report under the actor's token is of a stamp, if the act stamps each token that the actor has
+-- after it
 told_reported : (a : Act) (l : LocalState) (traced : Bool) (k : Kind) (token : Option Token)
     (to : Option Pid) (v : ℕ)
     (e : Event) → ((t : Token) → token ≡ Some t → stamps a t ≡ true) → l.token ≡ token
@@ -387,7 +389,7 @@ acted_reported top (act.PrintAt p n v) r done e h is other =
     ] refl h
 acted_reported top a r done e h is other = silent_reported a r _ _ done e h is
 
--- and so in the state after the step
+-- after a step that reports a send or print its actor has the stamped token
 reported_stamp : (top : ℕ) (s : State) (a : Act) (o : Outcome) (e : Event) → step top s a ≡ Some o
     → o.report ≡ Some e → e.kind ≢ kind.Receive
     → (r : Process) × (process o.after (actor a) ≡ Some r) × IsReported a r.local e
@@ -411,6 +413,7 @@ reported_stamp top s a o e h is other =
 
 -- a send after which its actor has this token: the actor had one before, the token is its stamp,
 -- which lifted its clock to the token's count, and the report, if there is one, is the token's
+-- event
 pub record Sends (s : State) (p q : Pid) (v : ℕ) (o : Outcome) (token : Token) : Type 0 where
   pub had : (r : Process) → process s p ≡ Some r → is_some r.local.token ≡ true
   pub from : token.from ≡ p
@@ -458,7 +461,7 @@ sent top s p q v o r token h is has =
 
 -- RUNS
 
--- an act of a run as a step
+-- each act of a run is a step
 step_in : (top : ℕ) (s : State) (acts : List Act) (os : List Outcome) (n : ℕ) (a : Act)
     (o : Outcome)
     → run_from top s acts ≡ Some os → slice_get acts n ≡ Some a → slice_get os n ≡ Some o
@@ -510,7 +513,7 @@ pub clocks_never_fall : (top : ℕ) (pids : List Pid) (acts : List Act) (os : Li
     → NoReset acts → ClocksNeverFall os
 clocks_never_fall top pids acts os = never_fall_from top (zero_state pids) acts os
 
--- what lifts a clock in its step lifts it in the run
+-- an act that lifts a clock in its step lifts it in the run
 record LiftsFrom (s : State) (os : List Outcome) (p : Pid) (this n : ℕ) : Type 0 where
   above : clock_in s p < this
   lifts : LiftsClock os p this n
@@ -576,7 +579,7 @@ stamps_lift top pids acts os h none p n t r =
     (lifts_from top (zero_state pids) acts os p t.serial.this n r.act o h none r.at out
     lifts).lifts)
 
--- so does a stamp that is reported
+-- a reported stamp lifts its process's clock in the run
 pub reported_stamps_lift : (top : ℕ) (pids : List Pid) (acts : List Act) (os : List Outcome)
     → run top pids acts ≡ Some os → NoReset acts → (p : Pid) (n : ℕ) (e : Event)
     → Reports acts os p n e

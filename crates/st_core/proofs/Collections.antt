@@ -1,6 +1,6 @@
 -- Two lists of one length, the pids and the events of each, say the same as one list of streams: a
--- place in the one is a place in the other, so what is found, added or missing among the pids is so
--- among the streams.
+-- place in the lists is a place among the streams, so what is found, added or missing among the
+-- pids is so among the streams.
 use Rattle.std.proofs.Common.{◌≡◌, ℕ, ◌+◌, ◌<◌, zero, suc, Bool, true, false, not, ◌&&◌, ◌||◌}
 use Rattle.std.proofs.Common.{position, cond, if◌then◌else◌, List, [], ◌∷◌, ◌++◌, length, get_or}
 use Rattle.std.proofs.Common.{set, drop, Option, Some, None, is_some, slice_get, refl, sym, ◌∙◌, ap}
@@ -112,7 +112,7 @@ place_within (y ∷ xs) (suc i) x at = let rest = place_within xs i x at in omeg
 
 -- AN EVENT THAT IS ADDED
 
--- with no process p, nothing changes
+-- an event of a process below all pids isn't added
 added_missing : (ps : List Pid) (es : List (List Event)) (p : Pid) (e : Event)
     → AllByRecursion (λ q. IsBelow p q) ps
     → added (collected ps es) p e ≡ collected ps es
@@ -271,7 +271,7 @@ events_of-read ps es p i read even rising at is =
     let within : i < length es = omega arith in
     is ∙ get_or_default es i read [] within ∙ sym (events_of-found ps es p i even rising at)
 
--- the first failing of what is left, if the process at the front has none
+-- the first failing event is in the rest of the lists, if the process at the front has none
 pub first_failing-drop : (test : Event → Bool) (ps : List Pid) (es : List (List Event)) (k : ℕ)
     (read : List Event)
     → length es ≡ length ps → k < length es → read ≡ get_or es k read
@@ -292,7 +292,7 @@ with_event_pid p e x =
     ≡ x.pid)
     [ true ↦ refl | false ↦ refl ]
 
--- who is below all of these is none of them
+-- a pid that is below all of these is none of them
 pub all_apart : (ps : List Pid) (p : Pid) → AllByRecursion (IsBelow p) ps
     → AllByRecursion (λ q. pid_eq q p ≡ false) ps
 all_apart [] p all = tt

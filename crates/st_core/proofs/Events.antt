@@ -1,5 +1,4 @@
--- Two events are one exactly if the test says so: it compares each part, and says yes exactly if a
--- part is the other's.
+-- `event_eq` is true exactly if two events are equal, since it compares them part by part.
 use Rattle.std.proofs.Common.{◌≡◌, true, Option, Some, None, refl, ap}
 use Rattle.std.proofs.lemmas.Bool.{eqb-true, eq-eqb}
 use Rattle.st_core.specs.declared.types.Pid.{Pid}

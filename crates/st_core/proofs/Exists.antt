@@ -1,5 +1,5 @@
--- Streams and acts have a verdict: whether the acts up to n pass can be decided for each n, so that
--- there is a first n at which they don't, or none.
+-- Streams and acts have a verdict, since for each n it can be decided whether the first n acts
+-- pass: so there is a first act that fails, or none.
 use Rattle.std.proofs.Common.{◌≡◌, ℕ, ◌+◌, ◌≤◌, ◌⊎◌, zero, suc, Bool, true, false, cond, nat_lt}
 use Rattle.std.proofs.Common.{List, [], ◌∷◌, ◌++◌, length, take, get_or, find, Option, Some, None}
 use Rattle.std.proofs.Common.{is_some, All, refl, sym, ◌∙◌, ap, subst, arith, inl, inr}
@@ -75,7 +75,7 @@ numbers_decided d e =
     both_decided counts others (λ h. (h.prev, h.this)) (λ h. (h.label, h.value))
     (λ p q. record { label = q.0; prev = p.0; this = p.1; value = q.1 })
 
--- who and what two events are about is the same
+-- the two events have the same kind, from and to
 record SameParties (d e : Event) : Type 0 where
   kind : d.kind ≡ e.kind
   from : d.from ≡ e.from
@@ -161,7 +161,7 @@ pub none_passes : (top : ℕ) (streams : List Stream) → Passes top streams []
 none_passes top streams =
     ([], record { runs = refl; fronts = λ k d within. ((get_or streams k d).events, refl) })
 
--- the first n acts pass, or an act among them is the first to fail
+-- the first n acts pass, or some act is the first to fail
 passing_front : (top : ℕ) (streams : List Stream) (acts : List Act) (n : ℕ) → n ≤ length acts
     → Passes top streams (take n acts) ⊎ ((m : ℕ) × FailsAt top streams acts m)
 passing_front top streams acts zero within = inl (none_passes top streams)

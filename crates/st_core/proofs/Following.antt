@@ -1,6 +1,6 @@
--- Each reported receive follows the send whose message it took: the tag at the message's place
--- names an act that sent this very message, and its token is the one that its sender had after that
--- act.
+-- Each reported receive follows the send whose message it took, since the tag at the message's
+-- place names an act that sent this very message, and the message's token is the one that its
+-- sender had after that act.
 use Rattle.std.proofs.Common.{◌≡◌, ℕ, ◌+◌, ◌<◌, ◌≢◌, ◌⊎◌, ◌&&◌, List, [], ◌∷◌, ◌++◌, Option, Some}
 use Rattle.std.proofs.Common.{None, is_some, option_and_then, All, refl, sym, ◌∙◌, ap, subst, arith}
 use Rattle.std.proofs.Common.{inl, inr, if◌then◌else◌}
@@ -29,7 +29,7 @@ use Rattle.st_core.proofs.Underway.{Underway, starts, next}
 
 -- ONE RECEIVE
 
--- a reported receive and the send whose message it took
+-- a reported receive follows the send whose message it took
 receive_follows : (top : ℕ) (acts : List Act) (os : List Outcome) (n : ℕ) (s : State) (tags : Tags)
     (p : Pid) (w : Want) (o : Outcome) (t : Stepped top s (act.Receive p w) o) (found : ℕ × Message)
     → pick w t.before.queue ≡ Some found
@@ -94,7 +94,7 @@ receive_follows top acts os n s tags p w o t found is out known are e reported i
     ] in
     taken m.token refl part
 
--- the pairs of an act: one, which follows, and whose send is gone afterwards
+-- the act has one pair, whose receive follows its send, and the send is in no tags afterwards
 pub record IsPair (acts : List Act) (os : List Outcome) (n : ℕ) (later : Tags)
     (ps : List (ℕ × ℕ)) : Type 0 where
   pub send : ℕ
@@ -160,7 +160,7 @@ pair_of top acts os n s tags (act.Receive p w) o h out known are e reported =
     reported
 pair_of top acts os n s tags a o h out known are e reported = inl refl
 
--- the same if the act's report decides
+-- a reported act has no pair, or one that follows; an act that isn't reported has none
 reported_pair : (top : ℕ) (acts : List Act) (os : List Outcome) (n : ℕ) (s : State) (tags : Tags)
     (a : Act) (o : Outcome) → step top s a ≡ Some o → slice_get os n ≡ Some o → AreKnown acts n tags
     → AreTags acts os s tags

@@ -1,6 +1,6 @@
--- If every stamp and every receive of a token is reported, a process's events tell its counts:
--- nothing else moves its clock without a reset, nor its last, but for a set on no token, which
--- brings it to the clock.
+-- If every stamp and every receive of a token is reported, a process's events tell its counts,
+-- since without a reset nothing else moves its clock or its last, except a set on no token, which
+-- brings last to the clock.
 use Rattle.std.proofs.Common.{◌≡◌, ◌≢◌, ℕ, ◌+◌, ◌⊎◌, ◌&&◌, max, zero, suc, Bool, true, false, cond}
 use Rattle.std.proofs.Common.{nat_lt, List, [], ◌∷◌, ◌++◌, length, take, Option, Some, None}
 use Rattle.std.proofs.Common.{is_some, IsSome, option_map, option_and_then, option_to_list, inl}
@@ -40,7 +40,7 @@ use Rattle.st_core.proofs.Reports.{told, front}
 
 -- THE ACTOR'S PART
 
--- the counts are still, or last came to the clock
+-- the counts stay, or last becomes the clock
 record IsStill (l m : LocalState) : Type 0 where
   clock : m.clock ≡ l.clock
   last : (m.last ≡ l.last) ⊎ (m.last ≡ m.clock)
@@ -48,7 +48,7 @@ record IsStill (l m : LocalState) : Type 0 where
 unmoved : (l : LocalState) (token : Option Token) → IsStill l (record l { token = token })
 unmoved l token = record { clock = refl; last = inl refl }
 
--- the event is the stamp by which l became m
+-- the event reports the stamp by which l became m
 record IsStamp (l m : LocalState) (e : Event) : Type 0 where
   kind : e.kind ≢ kind.Receive
   prev : e.serial.prev ≡ l.last
@@ -56,13 +56,13 @@ record IsStamp (l m : LocalState) (e : Event) : Type 0 where
   clock : m.clock ≡ l.clock + 1
   last : m.last ≡ l.last
 
--- the event is the receive by which l became m
+-- the event reports the receive by which l became m
 record IsTake (l m : LocalState) (e : Event) : Type 0 where
   kind : e.kind ≡ kind.Receive
   clock : m.clock ≡ max l.clock e.serial.this
   last : m.last ≡ e.serial.this
 
--- how an act moves its actor's counts, by what it reports
+-- an act moves its actor's counts as its report, or the lack of one, says
 abbrev Moves : LocalState → LocalState → Option Event → Type 0
 Moves l m None = IsStill l m
 Moves l m (Some e) = IsStamp l m e ⊎ IsTake l m e
@@ -106,7 +106,7 @@ module _ (l : LocalState) (k : Kind) (stamps : k ≢ kind.Receive) (traced : Boo
       → Moves l m (report traced k m.token to v)
   any_moves top p m h is = any_moves_at top p m l.token refl h is
 
--- a part of an act that reports what it has to
+-- an act's part that reports what it has to moves its actor's counts as the report says
 abbrev PartMoves : Process → Acted → Bool → Type 0
 PartMoves r done moves = (moves ≡ true → IsSome done.report) → Moves r.local done.local done.report
 
@@ -186,7 +186,8 @@ acted_moves top a r done h =
 
 -- WHAT EVENTS TELL
 
--- these events of a process tell its counts
+-- the events tell the counts: the clock is their greatest, and last is what they leave, or the
+-- clock
 record AreTold (es : List Event) (l : LocalState) : Type 0 where
   clock : l.clock ≡ greatest_count es
   last : (l.last ≡ prev_after es) ⊎ (l.last ≡ l.clock)
@@ -402,7 +403,7 @@ tell_counts top pids acts os h none all p =
 
 -- THE SENDS OF RECEIVES
 
--- an act of the run as a step that is reported if it moves a token
+-- an act is a step, and is reported if it moves a token
 record StepTold (top : ℕ) (a : Act) (o : Outcome) : Type 0 where
   before : State
   steps : step top before a ≡ Some o

@@ -1,5 +1,5 @@
--- The unlisted place is the least one: the search goes through the streams, whose pids rise, in
--- order, and through the events of each in order, and passes only events that name listed pids.
+-- The unlisted place is the least one, since the search goes through the streams, whose pids rise,
+-- in order, and through the events of each in order, and passes only events that name listed pids.
 use Rattle.std.proofs.Common.{◌≡◌, ℕ, ◌<◌, ◌≤◌, Bool, true, false, not, cond, List, [], ◌∷◌, length}
 use Rattle.std.proofs.Common.{get_or, Option, Some, None, refl, sym, ◌∙◌, ap, subst, arith}
 use Rattle.std.specs.List.{slice_get, position, position_or_len, AllByRecursion}
@@ -48,7 +48,8 @@ events_there : (x : Stream) (rest : List Stream) (q : Pid) → pid_eq x.pid q �
 unfolding taken
 events_there x rest q is = ap (λ b. taken (cond b (Some x) (stream_of rest q))) is
 
--- what holds of p's events at each place, if it holds of them in the first stream and in the rest
+-- a claim about event i of q holds if it holds of the first stream's events and of those in the
+-- rest
 by_stream : (x : Stream) (rest : List Stream) (q : Pid) (i : ℕ) (e : Event) (P : Type 0)
     → (pid_eq x.pid q ≡ true → slice_get x.events i ≡ Some e → P)
     → (pid_eq x.pid q ≡ false → slice_get (events_of rest q) i ≡ Some e → P)
@@ -68,7 +69,7 @@ found_above q (x ∷ rest) p i e above at =
     (λ is _. subst (IsBelow q) (pid_eq-true x.pid p is) above.0)
     (λ _ there. found_above q rest p i e above.1 there) at
 
--- a process that has an event among streams above x isn't x's
+-- a process that has an event in streams above x isn't x's
 apart : (x : Stream) (rest : List Stream) (p : Pid) (i : ℕ) (e : Event)
     → AllByRecursion (IsBelow x.pid) (pids_of rest)
     → slice_get (events_of rest p) i ≡ Some e → pid_eq x.pid p ≡ false
@@ -76,7 +77,7 @@ apart x rest p i e above at = IsBelow-apart x.pid p (found_above x.pid rest p i 
 
 -- LEAST PLACES
 
--- the place of an event that fails the test, and none before it does
+-- event i of p fails the test, and no event before it does
 record IsLeast (test : Event → Bool) (ss : List Stream) (p : Pid) (i : ℕ) : Type 0 where
   pub event : Event
   pub at : slice_get (events_of ss p) i ≡ Some event

@@ -1,4 +1,4 @@
--- The lemmas; what upper crates may cite is in `ForCallers`, and in `Samples` for worked cases.
+-- The lemmas; upper crates may cite those in `ForCallers`, and `Samples` for worked cases.
 pub mod Bools
 pub mod Events
 pub mod Verdicts

@@ -1,5 +1,6 @@
--- Each report is its actor's own event, and names only processes that are there: a token in force
--- is from one that stamped it, and a step has its actor and a send's receiver in the state.
+-- Each report is its actor's own event and names only processes that are there, since a token in
+-- force is from a process that stamped it, and a step has its actor and a send's receiver in the
+-- state.
 use Rattle.std.proofs.Common.{◌≡◌, ℕ, Bool, true, false, cond, ◌&&◌, ◌||◌, List, [], ◌∷◌, ◌++◌, map}
 use Rattle.std.proofs.Common.{Option, Some, None}
 use Rattle.std.proofs.Common.{option_map, All, refl, sym, ◌∙◌, ap, subst, if◌then◌else◌}
@@ -51,7 +52,7 @@ process_among (x ∷ s) p r is =
 own_is : (p q : Pid) → q ≡ p → pid_eq q p ≡ true
 own_is p q same = ap (λ x. pid_eq x p) same ∙ pid_eq-same p
 
--- the event of a token in force, by its parts
+-- a report is p's own event and names only these pids, if the token in force and the receiver do
 event_among : (pids : List Pid) (p : Pid) (traced : Bool) (k : Kind) (token : Option Token)
     (to : Option Pid) (value : ℕ) → ((t : Token) → token ≡ Some t → is_of k t.from to p ≡ true)
     → ((t : Token) → token ≡ Some t → is_among pids t.from ≡ true)
@@ -67,7 +68,7 @@ event_among pids p traced k (Some t) to value own from named e is =
           named;
     })
 
--- what each queued message of a process is from is among the pids
+-- the sender of each queued message of the process is among the pids
 abbrev pub FromAmong : List Pid → Process → Type 0
 FromAmong pids r = All (λ m. is_among pids m.from ≡ true) r.queue
 
@@ -171,7 +172,7 @@ taken_among top pids p w r done (Some found) is named h =
     (receive_some top r p w done found is h)
     (All-remove (λ m. is_among pids m.from ≡ true) r.queue found.0 named)
 
--- the actor's queue after its part
+-- the actor's part leaves only messages in its queue whose senders are among the pids
 done_among : (top : ℕ) (pids : List Pid) (a : Act) (r : Process) (done : Acted) → FromAmong pids r
     → acted top r a ≡ Some done → All (λ m. is_among pids m.from ≡ true) done.queue
 done_among top pids (act.Receive p w) r done named h =
@@ -179,7 +180,7 @@ done_among top pids (act.Receive p w) r done named h =
 done_among top pids a r done named h =
     kept_among top pids a r done named (λ h. h) h
 
--- what reaches a queue is from the actor
+-- the senders in a queue stay among the pids, since a message that reaches it is from the actor
 after_among : (pids : List Pid) (a : Act) (token : Option Token) (x : Pid) (queue : List Message)
     → is_among pids (actor a) ≡ true → All (λ m. is_among pids m.from ≡ true) queue
     → All (λ m. is_among pids m.from ≡ true) (queue_after a token x queue)

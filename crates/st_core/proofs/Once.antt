@@ -1,5 +1,5 @@
--- Without a reset no stamp occurs twice in a queue: a send's new stamp is above its actor's clock,
--- and all that this process stamped before is not. A receive takes a message out, and no other act
+-- Without a reset no stamp occurs twice in a queue, since a send's new stamp is above its actor's
+-- clock, and no earlier stamp of the actor's is. A receive takes a message out, and no other act
 -- touches a queue; and clocks don't fall.
 use Rattle.std.proofs.Common.{◌≡◌, ℕ, zero, suc, true, false, cond, List, [], ◌∷◌, ◌++◌}
 use Rattle.std.proofs.Common.{Option, Some, None, All, refl, sym, ◌∙◌, ap, subst, arith}
@@ -60,7 +60,7 @@ once_remove (m ∷ ms) (suc k) once = (all_remove (AreApart m) ms k once.0, once
 
 -- A STEP
 
--- a queue with both properties
+-- the queue has no stamp twice, and none above the clock of the process that stamped it
 record IsQueueOnce (s : State) (queue : List Message) : Type 0 where
   once : StampsStandOnce queue
   before : AllByRecursion (IsStampedBefore s) queue
@@ -161,7 +161,7 @@ module _ (top : ℕ) (s : State) (a : Act) (o : Outcome) (h : step top s a ≡ S
             (received_once top s p o a h plain r (pick w r.queue) is)
       ] refl
 
--- each process's queue after a step
+-- after a step no queue has a stamp twice, or one above the clock of the process that stamped it
 queue_once : (top : ℕ) (s : State) (a : Act) (o : Outcome) (h : step top s a ≡ Some o)
     (plain : is_reset a ≡ false)
     (t : Stepped top s a o) (p : Pid) (r : Process) (is_r : process s p ≡ Some r)

@@ -1,5 +1,5 @@
--- A step is a map over the processes which keeps their pids, so the process of a pid after it is
--- that pid's changed one.
+-- A step maps each process to a changed one with the same pid, so the process of a pid after the
+-- step is the changed one of the process before.
 use Rattle.std.proofs.Common.{◌≡◌, ℕ, true, false, cond, List, [], ◌∷◌, ◌++◌, map, Option, Some}
 use Rattle.std.proofs.Common.{None, option_map, option_and_then, refl, sym, ◌∙◌, ap}
 use Rattle.std.proofs.lemmas.Option.{same_Some, none-some, option_and_then_some}
@@ -27,7 +27,7 @@ process_pid (x ∷ s) p r h =
       | false ↦ λ e h. process_pid s p r h
     ] refl h
 
--- a change that keeps the pids finds the process of p where it was
+-- if f keeps the pids, the process of p in the mapped state is f of p's process
 pub process-map : (f : Process → Process) → ((r : Process) → (f r).pid ≡ r.pid)
     → (s : State) (p : Pid)
     → process (map f s) p ≡ option_map f (process s p)
@@ -49,7 +49,7 @@ map_pids f keeps (r ∷ s) =
 
 -- STEPS
 
--- what a step is made of: the actor's process, the receiver's, and the actor's part
+-- the parts of a step: the actor's process, the receiver's, and the actor's part
 pub record Stepped (top : ℕ) (s : State) (a : Act) (o : Outcome) : Type 0 where
   pub before : Process
   pub other : Process
@@ -59,7 +59,7 @@ pub record Stepped (top : ℕ) (s : State) (a : Act) (o : Outcome) : Type 0 wher
   pub is_done : acted top before a ≡ Some done
   pub is_outcome : outcome_of s a done ≡ o
 
--- what a mapped value was made from
+-- a value of a mapped option is made from a value of the option
 pub mapped : {A B : Type 0} (f : A → B) (o : Option A) (y : B) → option_map f o ≡ Some y
     → (x : A) × (o ≡ Some x) × (f x ≡ y)
 mapped f None y h = absurd (none-some y h)
@@ -116,7 +116,7 @@ process_after top s a o t p =
 
 -- THE ACTOR
 
--- a process of the actor's pid is the actor's
+-- a process with the actor's pid is the actor
 pub actor_is : (s : State) (q p : Pid) (before r : Process) → process s q ≡ Some before
     → process s p ≡ Some r
     → pid_eq r.pid q ≡ true → before ≡ r
@@ -135,7 +135,7 @@ pub actor_after : (top : ℕ) (s : State) (a : Act) (o : Outcome) (t : Stepped t
 actor_after top s a o t =
     process_after top s a o t (actor a) ∙ ap (option_map (changed a t.done)) t.is_before
 
--- a send's actor has its own part afterwards
+-- a send's actor keeps for tracing what its own part says
 pub sent_local : (p q : Pid) (v : ℕ) (done : Acted) (r : Process) → pid_eq r.pid p ≡ true
     → (changed (act.Send p q v) done r).local ≡ done.local
 sent_local p q v done r mine =
@@ -157,7 +157,7 @@ unchanged a done p None is h = refl
 unchanged a done p (Some r) is h =
     ap (λ (x : Process). Some x) (changed_untouched a done r (ap (touches a) (is r refl) ∙ h))
 
--- a step leaves what its act doesn't touch
+-- a step leaves each process that its act doesn't touch as it was
 pub leaves_others : (top : ℕ) (s : State) (a : Act) (o : Outcome) → step top s a ≡ Some o
     → LeavesOthers a s o.after
 leaves_others top s a o h =

@@ -1,5 +1,5 @@
--- Each reported receive is in a pair: a receive that reports took a message, the number of whose
--- send lay at the same place of the tags, and no later act takes a pair away.
+-- Each reported receive is in a pair, since it took a message, whose send's number lay at the same
+-- place of the tags, and no later act takes a pair away.
 use Rattle.std.proofs.Common.{◌≡◌, ℕ, ◌+◌, ◌&&◌, zero, suc, Bool, true, false, cond, List, [], ◌∷◌}
 use Rattle.std.proofs.Common.{◌++◌, get_or, Option, Some, None, is_some, option_map}
 use Rattle.std.proofs.Common.{option_and_then, refl, sym, ◌∙◌, ap, subst, arith, if◌then◌else◌}
@@ -69,7 +69,7 @@ prints_none r v stamped done h e is receive =
     let print = report_kind r.local.traced kind.Print parts.0.token None v e reported in
     cc
 
--- no act but a receive reports one
+-- only a receive reports a receive
 acted_none : (top : ℕ) (a : Act) (r : Process) (done : Acted) → ¬ IsReceive a
     → acted top r a ≡ Some done
     → NoReceive done
@@ -88,7 +88,7 @@ acted_none top a r done other h = silent r _ _ done h
 
 -- ONE RECEIVE
 
--- the act has one pair
+-- act n has exactly one pair
 record HasPair (n : ℕ) (ps : List (ℕ × ℕ)) : Type 0 where
   pub send : ℕ
   pub is : ps ≡ (n, send) ∷ []

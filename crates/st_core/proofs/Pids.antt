@@ -115,14 +115,14 @@ IsBelow-apart p q h = elim (pid_eq p q) as (λ b. pid_eq p q ≡ b → b ≡ fal
 
 -- LISTS THAT RISE
 
--- the pid at a place of a list each of which is above q is above q
+-- if each pid of a list is above q, so is the pid at each place
 at_above : (ps : List Pid) (q l : Pid) (i : ℕ) → AllByRecursion (IsBelow q) ps
     → slice_get ps i ≡ Some l → IsBelow q l
 at_above [] q l i all at = absurd (cc)
 at_above (p ∷ ps) q l zero all at = subst (IsBelow q) (same_Some p l at) all.0
 at_above (p ∷ ps) q l (suc i) all at = at_above ps q l i all.1 at
 
--- if the last is below p, each is
+-- if the last of rising pids is below p, each of them is
 pub below_last : (ps : List Pid) (k : ℕ) (l p : Pid) → length ps ≡ suc k → IsRising ps
     → slice_get ps k ≡ Some l
     → IsBelow l p → AllByRecursion (λ r. IsBelow r p) ps
@@ -207,7 +207,7 @@ not_equal_apart p q h = elim (pid_eq p q) as (λ b. pid_eq p q ≡ b → b ≡ f
   | false ↦ λ e. refl
 ] refl
 
--- if each compares unequal, each is another pid
+-- if no pid of a list compares equal to x, none is x
 pub apart_from_unequal : (ps : List Pid) (x : Pid)
     → ((k : ℕ) (d : Pid) → k < length ps → ¬ (pid_cmp (get_or ps k d) x ≡ Equal))
     → AllByRecursion (λ p. pid_eq p x ≡ false) ps
@@ -217,7 +217,7 @@ apart_from_unequal (p ∷ ps) x h = (
   apart_from_unequal ps x (λ k d within. h (suc k) d (omega arith)),
 )
 
--- what a binary search that finds nothing shows
+-- if a binary search doesn't find x among rising pids, none of them is x
 pub missing_from_search : (ps : List Pid) (x : Pid) (r : Result ℕ ℕ) → IsRising ps
     → IsBinarySearchResult (λ y. pid_cmp y x) ps r
     → IfNone (result_ok r) (AllByRecursion (λ p. pid_eq p x ≡ false) ps)
@@ -245,7 +245,7 @@ last_place [] l h = absurd (cc)
 last_place (p ∷ ps) l h =
     (length ps, refl, subst (λ k. slice_get (p ∷ ps) k ≡ Some l) (omega arith) h)
 
--- a pid that is above the last of pids that rise is above all of them
+-- p is above all of rising pids exactly if it is above the last
 pub below_decides : (ps : List Pid) (l p : Pid) (b : Bool) → IsRising ps
     → slice_get ps (length ps - 1) ≡ Some l
     → b ≡ is_lt (pid_cmp l p)

@@ -51,7 +51,7 @@ pub record AreTags (acts : List Act) (os : List Outcome) (s : State) (tags : Tag
 
 -- QUEUES AFTER AN ACT
 
--- what reaches a queue besides the actor's own part
+-- x's queue with what reaches it besides the actor's own part
 abbrev pub queue_after : Act → Option Token → Pid → List Message → List Message
 queue_after (act.Send p q v) token x queue =
     if pid_eq x q then queue ++ record { from = p; value = v; token = token } ∷ [] else queue
@@ -83,7 +83,7 @@ reached_queue (act.Tracer p on) token r =
     ]
 reached_queue a token r = refl
 
--- a process's queue after an act: the actor's by its part, and what reaches it
+-- a process's queue after an act: the actor's by its own part, then what reaches it
 pub changed_queue : (a : Act) (done : Acted) (r : Process)
     → (changed a done r).queue
     ≡ queue_after a done.local.token r.pid (if pid_eq r.pid (actor a) then done.queue else r.queue)
@@ -112,7 +112,7 @@ printed_queue r v stamped done h =
 some_queue : (x done : Acted) → Some x ≡ Some done → done.queue ≡ x.queue
 some_queue x done h = ap (λ (y : Acted). y.queue) (sym (same_Some x done h))
 
--- the actor's part of any other act leaves its queue
+-- the actor's part of any act but a receive leaves its queue as it was
 pub acted_queue : (top : ℕ) (a : Act) (r : Process) (done : Acted) → ¬ IsReceive a
     → acted top r a ≡ Some done
     → done.queue ≡ r.queue
@@ -132,7 +132,7 @@ acted_queue top (act.PrintAt p n v) r done other h =
     ] h
 acted_queue top a r done other h = some_queue _ done h
 
--- the queue of a process after its own part of an act that is no receive
+-- unless the act is a receive, the actor's part leaves each process's queue as it was
 pub own_queue : (top : ℕ) (s : State) (a : Act) (o : Outcome) (t : Stepped top s a o) (p : Pid)
     (r : Process)
     → ¬ IsReceive a → process s p ≡ Some r
@@ -148,7 +148,7 @@ own_queue top s a o t p r other is_r =
 
 -- A SEND
 
--- the token that a send gave its message is its sender's after it
+-- the token of a send's message is its sender's after the send
 sender_token : (top : ℕ) (s : State) (p q : Pid) (v : ℕ) (o : Outcome)
     (t : Stepped top s (act.Send p q v) o) (os : List Outcome) (n : ℕ) → slice_get os n ≡ Some o
     → ForSome t.done.local.token (TokenAfter os n p)
@@ -211,7 +211,7 @@ tags_reset acts os tags p token x queue all =
 
 -- A RECEIVE
 
--- the parts of a receive that took no message, and of one that took this one
+-- the actor's part of a receive that took no message, and of one that took this message
 pub receive_none : (top : ℕ) (r : Process) (p : Pid) (w : Want) (done : Acted)
     → pick w r.queue ≡ None
     → acted top r (act.Receive p w) ≡ Some done → answers r r.local reply.Nothing ≡ done
@@ -263,7 +263,7 @@ tags_receive top acts os n s tags p w o t x r is_r all =
 
 -- EACH ACT
 
--- the tags of x's queue after the act, by the act
+-- after each act the tags of x's queue still name the sends of its messages
 tags_of_queue : (top : ℕ) (acts : List Act) (os : List Outcome) (n : ℕ) (s : State) (tags : Tags)
     (a : Act)
     (o : Outcome) (t : Stepped top s a o) → slice_get acts n ≡ Some a → slice_get os n ≡ Some o

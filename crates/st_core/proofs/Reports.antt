@@ -1,6 +1,5 @@
--- An event of a process's stream is the report of one of its acts, and each report an event, since
--- a stream is its acts' reports in their order: so of two events the earlier one is an earlier
--- act's.
+-- A stream is the reports of its process's acts in their order, so each of its events is the
+-- report of one act, each report is an event, and an earlier event comes from an earlier act.
 use Rattle.std.proofs.Common.{◌≡◌, ℕ, ◌+◌, ◌<◌, ◌≤◌, ◌⊎◌, zero, suc, Bool, true, false, List, []}
 use Rattle.std.proofs.Common.{◌∷◌, ◌++◌, length, take, drop, Option, Some, None, option_to_list}
 use Rattle.std.proofs.Common.{inl, inr, refl, sym, ◌∙◌, ap, arith, length-append, if◌then◌else◌}
@@ -18,11 +17,11 @@ use Rattle.st_core.specs.Laws.{Reports, ReportsEvent}
 use Rattle.st_core.proofs.Pids.{pid_eq-true, pid_eq-same}
 use Rattle.st_core.proofs.Runs.{stream-take}
 
--- what an act reports for p
+-- the events that an act adds to p's stream
 abbrev pub told : Pid → Act → Outcome → List Event
 told p a o = if pid_eq (actor a) p then option_to_list o.report else []
 
--- the first event is this act's report, or event i is after what this act reports
+-- event i of a stream is the first act's report, or comes after that report
 pub front : (mine : Bool) (report : Option Event) (rest : List Event) (i : ℕ) (e : Event)
     → (let here : List Event = if mine then option_to_list report else [] in
     slice_get (here ++ rest) i ≡ Some e
@@ -79,7 +78,7 @@ count_rises acts os p m n le =
     let even = ap length same in
     omega arith
 
--- an earlier event is an earlier act's
+-- an earlier event comes from an earlier act
 pub reported_in_order : (acts : List Act) (os : List Outcome) (p : Pid) (i j m n : ℕ) (d e : Event)
     → ReportsEvent acts os p i d m → ReportsEvent acts os p j e n → i < j → m < n
 reported_in_order acts os p i j m n d e first second less = elim (cases_lt m n) [
@@ -91,14 +90,14 @@ reported_in_order acts os p i j m n d e first second less = elim (cases_lt m n) 
       absurd (omega arith)
 ]
 
--- after what an earlier act reports
+-- an index past xs in xs ++ ys is an index in ys
 behind : {A : Type 0} (xs ys : List A) (i j : ℕ) → length xs + j ≡ i
     → slice_get (xs ++ ys) i ≡ slice_get ys j
 behind [] ys i j e = let same : i ≡ j = omega arith in ap (slice_get ys) same
 behind (x ∷ xs) ys zero j e = absurd (omega arith)
 behind (x ∷ xs) ys (suc i) j e = behind xs ys i j (omega arith)
 
--- each report is in its process's stream, after those of the acts before
+-- each report is in its process's stream, after the reports of earlier acts
 pub report_told : (acts : List Act) (os : List Outcome) (p : Pid) (n : ℕ) (e : Event)
     → Reports acts os p n e
     → slice_get (stream acts os p) (length (stream (take n acts) (take n os) p)) ≡ Some e

@@ -38,7 +38,7 @@ rising_from_neighbours (p ∷ q ∷ ps) each =
     rising_from_neighbours (q ∷ ps) (λ k d within. each (suc k) d (omega arith)) in
     ((below, all_above p q ps below rest.0), rest)
 
--- what `is_sorted_by` returns
+-- `is_sorted_by` returns whether the pids rise
 pub rising_from_answer : (ps : List Pid) (r : Bool)
     → IsAllAdjacentAnswer (λ x y b. b ≡ is_lt (pid_cmp x y)) ps r → IsTrue r ↔ IsRising ps
 rising_from_answer ps true is =

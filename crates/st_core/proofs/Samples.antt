@@ -32,7 +32,7 @@ sent n prev this p q v = record {
   value = v;
 }
 
--- and q received it
+-- q received what p sent
 abbrev pub got : (n prev this : ℕ) (p q : Pid) (v : ℕ) → Event
 got n prev this p q v = record (sent n prev this p q v) { kind = kind.Receive }
 

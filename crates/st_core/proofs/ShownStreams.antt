@@ -1,5 +1,5 @@
--- Streams by rising pid that acts show can be collected: each event is its process's own and names
--- only processes that are there.
+-- Streams by rising pid that acts show can be collected, since each event is its process's own and
+-- names only processes that are there.
 use Rattle.std.proofs.Common.{◌≡◌, ℕ, true, false, cond, not, ◌&&◌, ◌||◌, if◌then◌else◌, List, []}
 use Rattle.std.proofs.Common.{◌∷◌, ◌++◌, Option, Some, None, is_some, refl, ◌∙◌, ap, subst}
 use Rattle.std.specs.Prelude.{All, option_to_list}
@@ -59,7 +59,7 @@ names_among_listed streams e =
     to_same None = refl
     to_same (Some q) = lists_among streams q
 
--- each event is one that its process may report among all
+-- each event is its process's own and names only processes among these pids
 abbrev pub AreReports : List Pid → List Stream → Type 0
 AreReports pids streams = AllByRecursion (λ (x : Stream).
     AllByRecursion (IsReportAmong pids x.pid) x.events) streams

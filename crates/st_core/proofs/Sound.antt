@@ -1,5 +1,6 @@
--- Clocks and queued tokens stay sound, since an act changes them by a stamp, which lifts the clock
--- above last, by a receive of a token that was stamped, or to zero.
+-- Clocks and queued tokens stay sound, since an act changes them only by a stamp, which lifts the
+-- clock above last, by a receive of a stamped token, by a set, which brings last to the clock, or
+-- by a reset to zero.
 use Rattle.std.proofs.Common.{◌≡◌, ℕ, ◌+◌, ◌<◌, ◌≤◌, suc, Bool, true, false, cond, nat_lt, ◌&&◌}
 use Rattle.std.proofs.Common.{List, [], ◌∷◌, ◌++◌, map, Option, Some, None, is_some, option_map}
 use Rattle.std.proofs.Common.{All, refl, sym, ◌∙◌, ap, subst, arith}
@@ -36,7 +37,7 @@ use Rattle.st_core.proofs.Others.{mapped, process_pid, step_parts, run_parts}
 
 -- THE STAMP
 
--- a record that was stamped, or has no token
+-- p's record after a stamp, or without a token
 pub record IsAfterStamp (top : ℕ) (p : Pid) (l : LocalState) : Type 0 where
   pub ordered : l.last ≤ l.clock
   pub within : l.clock ≤ top
@@ -98,7 +99,7 @@ pick_from_found k w (m ∷ ms) found h =
           (suc rest.0, omega arith, rest.2)
     ] h
 
--- what is picked is at its place
+-- the picked message is in the queue at its place
 pub pick_found : (w : Want) (queue : List Message) (found : ℕ × Message) → pick w queue ≡ Some found
     → slice_get queue found.0 ≡ Some found.1
 pick_found w queue found h =
@@ -106,7 +107,7 @@ pick_found w queue found h =
     let same : at.0 ≡ found.0 = let e : found.0 ≡ 0 + at.0 = at.1 in omega arith in
     ap (slice_get queue) (sym same) ∙ at.2
 
--- what holds of each element holds of one
+-- a fact of each element of a list holds of the element at k
 pub All_at : {X : Type 0} (P : X → Type 0) (xs : List X) (k : ℕ) (x : X) → slice_get xs k ≡ Some x
     → All P xs → P x
 All_at P xs k x h all = subst P (get_or_from_slice_get xs k x x h)
@@ -131,7 +132,7 @@ pub record IsActed (top : ℕ) (a : Act) (r : Process) (done : Acted) : Type 0 w
   pub sent : SendsStamped top a done.local.token
   pub report : ForSome done.report Rises
 
--- the event of a stamped token
+-- a report under a stamped token has prev below this
 report_rises : (top : ℕ) (p : Pid) (traced : Bool) (k : Kind) (token : Option Token)
     (to : Option Pid) (value : ℕ)
     → ForSome token (IsStamped top p) → ForSome (report traced k token to value) Rises
@@ -176,7 +177,7 @@ sent_acted top p q v r done is s h =
       report = report_rises top r.pid r.local.traced kind.Send l.token (Some q) v stamp.token;
     })
 
--- the counts after a receive of a stamped token
+-- a receive of a stamped token keeps last ≤ clock ≤ TOP
 received_ordered : (top : ℕ) (p : Pid) (l : LocalState) (token : Option Token) → l.last ≤ l.clock
     → l.clock ≤ top
     → ForSome token (IsStamped top p)
@@ -210,7 +211,7 @@ received_acted top p w r (Some found) is s =
           stamped;
     }
 
--- the counts after a set
+-- a set keeps last ≤ clock ≤ TOP
 set_ordered : (top : ℕ) (p : Pid) (c : Component) (l : LocalState) → l.last ≤ l.clock
     → l.clock ≤ top
     → ((with_set p c l).last ≤ (with_set p c l).clock) × ((with_set p c l).clock ≤ top)
@@ -313,7 +314,7 @@ changed_sound top a before done part r s =
 
 -- STEPS AND RUNS
 
--- what holds of each process holds of that of p
+-- a fact of each process of a state holds of p's
 pub process_holds : (P : Process → Type 0) (s : State) (p : Pid) (r : Process)
     → process s p ≡ Some r → All P s → P r
 process_holds P [] p r h all = absurd (none-some r h)
@@ -360,7 +361,7 @@ zero_sound top pids =
           All-nil (Queued top);
     })
 
--- in every run
+-- every run keeps its processes sound
 pub run_sound : (top : ℕ) (pids : List Pid) (acts : List Act) (os : List Outcome)
     → run top pids acts ≡ Some os
     → All (KeepsSound top) os

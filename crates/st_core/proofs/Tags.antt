@@ -1,6 +1,6 @@
--- A tag is a number below that of the act to come, a send puts in a number that is new, and a
--- receive takes one out: so each occurs once, is a send's to that queue's process, and doesn't come
--- back.
+-- A tag is below the number of the next act, a send adds its own number, which is new, and a
+-- receive takes one out: so each tag occurs once, is that of a send to the queue's process, and
+-- doesn't come back.
 use Rattle.std.proofs.Common.{◌≡◌, ℕ, ◌+◌, ◌<◌, ◌≢◌, true, false, cond, List, [], ◌∷◌, ◌++◌, get_or}
 use Rattle.std.proofs.Common.{Option, Some, None}
 use Rattle.std.proofs.Common.{is_some, All, AllPairs, refl, sym, ◌∙◌, ap, subst, arith}
@@ -26,7 +26,7 @@ pub record SendsTo (acts : List Act) (p : Pid) (i : ℕ) : Type 0 where
   pub value : ℕ
   pub is : slice_get acts i ≡ Some (act.Send from p value)
 
--- each tag is below n, is a send's to its process, and occurs once
+-- each tag is below n, is the number of a send to its process, and occurs once
 pub record AreKnown (acts : List Act) (n : ℕ) (tags : Tags) : Type 0 where
   pub below : (p : Pid) → All (λ i. i < n) (tags p)
   pub to : (p : Pid) → All (SendsTo acts p) (tags p)
@@ -114,7 +114,7 @@ known_step acts n tags (act.Send p q v) place at k = known_send acts n tags p q 
 known_step acts n tags (act.Receive p w) place at k = known_receive acts n tags p w place k
 known_step acts n tags a place at k = known_kept acts n tags k
 
--- i is the number of an act before n, and tags no message
+-- i is the number of an act before act n, and no queue's tag
 pub record IsGone (tags : Tags) (n i : ℕ) : Type 0 where
   pub before : i < n
   pub absent : (p : Pid) → All (λ j. i ≢ j) (tags p)
@@ -163,7 +163,7 @@ pair_gone tags n (act.Receive p w) (Some k) i g =
     ] refl
 pair_gone tags n a place i g = All-nil (λ x. i ≢ x.1)
 
--- what is gone is in no later pair
+-- a number that is gone is in no later pair
 pub pairs_gone : (tags : Tags) (n : ℕ) (acts : List Act) (os : List Outcome) (i : ℕ)
     → IsGone tags n i
     → All (λ x. i ≢ x.1) (pairs_from tags n acts os)
@@ -187,7 +187,7 @@ sent_same acts p q i s t =
 other_pid : (x p : Pid) → pid_eq x p ≡ false → x ≡ p → ⊥
 other_pid x p apart same = false≢true (sym apart ∙ ap (pid_eq x) (sym same) ∙ pid_eq-same x)
 
--- what a receive takes out is gone
+-- the number that a receive takes out is gone
 pub taken_gone : (acts : List Act) (n : ℕ) (tags : Tags) (p : Pid) (w : Want) (k i : ℕ)
     → AreKnown acts n tags
     → slice_get (tags p) k ≡ Some i

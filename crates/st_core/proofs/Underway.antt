@@ -1,5 +1,5 @@
--- The knowledge of a run when n of its acts are done holds after the next act too, so that a fact
--- of all acts is proved by what each of them adds.
+-- The facts that are known of a run after n of its acts are known after the next act too, so a
+-- fact about all acts is proved from what each act adds.
 use Rattle.std.proofs.Common.{◌≡◌, ℕ, ◌+◌, List, ◌∷◌, drop, Some, All, refl, ◌∙◌}
 use Rattle.std.specs.List.{slice_get}
 use Rattle.st_core.specs.declared.types.Pid.{Pid}
@@ -15,7 +15,7 @@ use Rattle.st_core.proofs.Zips.{drop_first, drop_rest}
 use Rattle.st_core.proofs.Tags.{AreKnown, no_tags, no_tags_known, known_step}
 use Rattle.st_core.proofs.Queues.{AreTags, no_tags_are, tags_step}
 
--- a run of the acts with the outcomes os, after n of them: the state is s, the tags are those of
+-- the run of the acts with the outcomes os, after n of them: the state is s, the tags are those of
 -- its queues, and the acts that are left have the outcomes that are left
 pub record Underway (top : ℕ) (acts : List Act) (os : List Outcome)
     (n : ℕ) (s : State) (tags : Tags) (rest : List Act) (outs : List Outcome) : Type 0 where
@@ -26,7 +26,7 @@ pub record Underway (top : ℕ) (acts : List Act) (os : List Outcome)
   pub known : AreKnown acts n tags
   pub are : AreTags acts os s tags
 
--- before the first act
+-- the facts that are known before the first act
 pub starts : (top : ℕ) (pids : List Pid) (acts : List Act) (os : List Outcome)
     → run top pids acts ≡ Some os
     → Underway top acts os 0 (zero_state pids) no_tags acts os

@@ -1,5 +1,5 @@
--- A verdict that computes is the verdict, since it looks at each front of the run in turn; by it
--- worked cases evaluate.
+-- The verdict can be computed, since it looks at each front of the run in turn; worked cases
+-- evaluate by it.
 use Rattle.std.proofs.Common.{◌≡◌, ℕ, ◌+◌, ◌<◌, ◌≤◌, ◌&&◌, zero, suc, Bool, true, false, not, cond}
 use Rattle.std.proofs.Common.{List, [], ◌∷◌, ◌++◌, length, take, find, Option, Some, None, is_some}
 use Rattle.std.proofs.Common.{◌⊎◌, inl, inr, refl, sym, ◌∙◌, ap, subst, arith}
@@ -30,7 +30,7 @@ is_front [] es = true
 is_front (d ∷ ds) [] = false
 is_front (d ∷ ds) (e ∷ es) = event_eq d e && is_front ds es
 
--- what each process reported is at the front of its stream, if the acts run
+-- the acts run, and each process reports the front of its stream
 abbrev pub fronts : List Stream → List Act → Option (List Outcome) → Bool
 fronts streams acts None = false
 fronts streams acts (Some os) = list_all (λ x. is_front (stream acts os x.pid) x.events) streams
@@ -59,7 +59,7 @@ abbrev pub passed : List Act → List Outcome → Option Stream → Verdict
 passed acts os None = Yes (pairs acts os)
 passed acts os (Some x) = Left x.pid
 
--- the same by their run
+-- the verdict of acts that pass, by their run
 abbrev pub ended : List Stream → List Act → Option (List Outcome) → Verdict
 ended streams acts None = Stuck 0
 ended streams acts (Some os) = passed acts os (left_over streams acts os)
@@ -244,12 +244,12 @@ judged_is top streams acts None e =
     (sym whole.1.runs)
     (passed_is top streams acts whole.0 whole.1 (left_over streams acts whole.0) refl)
 
--- what is computed is the verdict
+-- the computed verdict is the verdict
 pub verdict_is : (top : ℕ) (streams : List Stream) (acts : List Act)
     → IsVerdict top streams acts (verdict top streams acts)
 verdict_is top streams acts = judged_is top streams acts (first_fault top streams acts) refl
 
--- so what it computes to is the verdict
+-- the verdict is any value that the computation evaluates to
 pub computed : (top : ℕ) (streams : List Stream) (acts : List Act) (v : Verdict)
     → verdict top streams acts ≡ v
     → IsVerdict top streams acts v

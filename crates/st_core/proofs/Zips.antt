@@ -1,5 +1,5 @@
--- A fact about two lists place by place, or about all pairs of one, stays so if both lose the same
--- place or gain one at the end, by induction over the lists.
+-- A fact about two lists place by place, or about all pairs of one list, stays true if each list
+-- loses the element at one place or gains one at the end, by induction over the lists.
 use Rattle.std.proofs.Common.{◌≡◌, ℕ, ◌+◌, ◌<◌, ◌≤◌, ◌≢◌, zero, suc, List, [], ◌∷◌, ◌++◌, length}
 use Rattle.std.proofs.Common.{take, drop, map, get_or, Some, All, AllPairs, refl, sym, ◌∙◌, ap}
 use Rattle.std.proofs.Common.{subst, arith, inl, inr}

@@ -1,5 +1,5 @@
--- How collected streams are kept: the pids in one list, and in another the events of each.
--- For the invariants of `Draft` and `Streams` alone: contracts speak of the list of streams.
+-- A draft keeps its streams in two lists: the pids, and the events of each process. Public
+-- contracts speak only of the list of streams.
 use Rattle.std.specs.Prelude.{◌≡◌, ℕ, Bool, not, List, [], ◌∷◌, length, position, Option, Some}
 use Rattle.std.specs.Prelude.{None}
 use Rattle.st_core.specs.declared.types.Pid.{Pid}
@@ -8,20 +8,21 @@ use Rattle.st_core.specs.Pid.{IsRising}
 use Rattle.st_core.specs.Run.{Stream}
 use Rattle.st_core.specs.Streams.{AreOwn, total_of}
 
--- each pid with its events
+-- the streams: each pid with the events at its place
 abbrev pub collected : List Pid → List (List Event) → List Stream
 collected [] lists = []
 collected (p ∷ ps) [] = []
 collected (p ∷ ps) (events ∷ lists) = record { pid = p; events = events } ∷ collected ps lists
 
--- as many lists as pids, which rise; each event its process's own; and the count of all events
+-- the two lists are a draft's: as many lists of events as pids, which rise; each event its
+-- process's own; and `total` the number of all events
 pub record IsCollected (pids : List Pid) (lists : List (List Event)) (total : ℕ) : Type 0 where
   pub even : length lists ≡ length pids
   pub rising : IsRising pids
   pub own : AreOwn (collected pids lists)
   pub counted : total ≡ total_of (collected pids lists)
 
--- the first process with an event that fails the test, and the first such event's index
+-- the place of the first event that fails the test: its process, and its index there
 abbrev pub first_failing : (Event → Bool) → List Pid → List (List Event) → Option (Pid × ℕ)
 first_failing test [] lists = None
 first_failing test (p ∷ ps) [] = None

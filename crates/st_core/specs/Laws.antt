@@ -1,5 +1,5 @@
--- Laws of the machine: what one act leaves alone, what holds in every run, and what in every run
--- without a reset.
+-- Laws of the machine: what one act leaves alone, what every run keeps, and what every run without
+-- a reset keeps.
 use Rattle.std.specs.Prelude.{◌≡◌, ◌≢◌, ℕ, ◌+◌, ◌<◌, ◌≤◌, ◌⊎◌, max, Bool, true, false, List, []}
 use Rattle.std.specs.Prelude.{◌∷◌, length, map, take, Some, None, is_some, IsSome, slice_get, All}
 use Rattle.std.specs.Prelude.{AllPairs, option_and_then}
@@ -25,21 +25,20 @@ pub record LeavesOthers (a : Act) (before after : State) : Type 0 where
   pub pids : map (λ r. r.pid) after ≡ map (λ r. r.pid) before
   pub untouched : (p : Pid) → touches a p ≡ false → process after p ≡ process before p
 
--- a token that p stamped: it is from p, its serial rises, and its count is one that a clock can
--- have
+-- t is as a stamp of p's leaves it: from p, with prev below this, and this at most TOP
 pub record IsStamped (top : ℕ) (p : Pid) (t : Token) : Type 0 where
   pub from : t.from ≡ p
   pub rises : t.serial.prev < t.serial.this
   pub within : t.serial.this ≤ top
 
--- what holds of each process in every run: the last count is at most the clock, the clock at most
+-- a sound process, as every run keeps it: the last count is at most the clock, the clock at most
 -- TOP, and the token of each queued message, if it has one, was stamped by the message's sender
 pub record IsSound (top : ℕ) (r : Process) : Type 0 where
   pub ordered : r.local.last ≤ r.local.clock
   pub within : r.local.clock ≤ top
   pub queued : All (λ m. ForSome m.token (IsStamped top m.from)) r.queue
 
--- all processes are so after an act, and the serial of its report, if it has one, rises
+-- after an act all processes are sound, and its report, if it has one, has prev below this
 pub record KeepsSound (top : ℕ) (o : Outcome) : Type 0 where
   pub processes : All (IsSound top) o.after
   pub report : ForSome o.report (λ e. e.serial.prev < e.serial.this)
@@ -49,7 +48,7 @@ pub record IsReportAmong (pids : List Pid) (p : Pid) (e : Event) : Type 0 where
   pub own : is_own p e ≡ true
   pub names : names_among pids e ≡ true
 
--- the report of an act, if it has one, is such an event of its actor
+-- the report of an act, if it has one, is its actor's own event and names only these processes
 abbrev pub ReportsAmong : List Pid → Act → Outcome → Type 0
 ReportsAmong pids a o = ForSome o.report (IsReportAmong pids (actor a))
 
@@ -85,8 +84,8 @@ abbrev pub ClocksNeverFall : List Outcome → Type 0
 ClocksNeverFall os =
     AllPairs (λ o later. (p : Pid) → clock_in o.after p ≤ clock_in later.after p) os
 
--- an act of this kind after which its actor has the token t has stamped it: a send and a print
--- stamp what there is, a printat a token with its label
+-- the act stamped t, if t is its actor's token after it: a send or a print stamps any token, a
+-- printat only a token with its label
 abbrev pub stamps : Act → Token → Bool
 stamps (act.Send p q v) t = true
 stamps (act.Print p v) t = true
@@ -109,32 +108,34 @@ abbrev pub AreApart : Message → Message → Type 0
 AreApart m n = (t u : Token) → m.token ≡ Some t → n.token ≡ Some u → t.from ≡ u.from
     → t.serial.this ≢ u.serial.this
 
--- no two of these messages bear one stamp
+-- no two of these messages have the same stamp
 abbrev pub StampsStandOnce : List Message → Type 0
 StampsStandOnce [] = Unit {0}
 StampsStandOnce (m ∷ ms) = AllByRecursion (AreApart m) ms × StampsStandOnce ms
 
--- the message's token, if it has one, has no count above the clock of the process that stamped it
+-- if the message has a token, the process that stamped it has a clock of at least the token's
+-- count
 abbrev pub IsStampedBefore : State → Message → Type 0
 IsStampedBefore s m = ForSome m.token (λ t. t.serial.this ≤ clock_in s t.from)
 
--- no stamp occurs twice in a queue, and none is yet to come
+-- no queue holds two messages with the same stamp, and no queued stamp is above the clock of the
+-- process that stamped it
 pub record HasStampsOnce (s : State) : Type 0 where
   pub once : (p : Pid) (r : Process) → process s p ≡ Some r → StampsStandOnce r.queue
   pub before : (p : Pid) (r : Process) → process s p ≡ Some r
       → AllByRecursion (IsStampedBefore s) r.queue
 
--- no message of the one queue bears a stamp that one of the other bears
+-- no message of one queue has the stamp of a message of the other
 abbrev pub AreAllApart : List Message → List Message → Type 0
 AreAllApart ms ns = AllByRecursion (λ m. AllByRecursion (AreApart m) ns) ms
 
--- no two queues hold one stamp
+-- no stamp is in the queues of two processes
 abbrev pub HasQueuesApart : State → Type 0
 HasQueuesApart s = (p q : Pid) (x y : Process) → p ≢ q → process s p ≡ Some x → process s q ≡ Some y
     → AreAllApart x.queue y.queue
 
--- act n lifts p's clock to this count: the clock is at it after the act, and below it after
--- each earlier one. So one act at most lifts a clock to a count, and to a greater count a later act
+-- act n lifts p's clock to this count: the clock is at the count after act n, and below it after
+-- each earlier act. So at most one act lifts a clock to a count, and a later act to a greater one
 pub record LiftsClock (os : List Outcome) (p : Pid) (this n : ℕ) : Type 0 where
   pub outcome : Outcome
   pub at : slice_get os n ≡ Some outcome
@@ -150,7 +151,7 @@ moves_token r (act.Print p v) = is_some r.local.token
 moves_token r (act.PrintAt p n v) = has_label n r.local.token
 moves_token r a = false
 
--- each such act of a run from s is reported
+-- in a run from s each act that stamps a token, or takes a message that has one, is reported
 abbrev pub ReportsEverything : State → List Act → List Outcome → Type 0
 ReportsEverything s [] os = Unit {0}
 ReportsEverything s (a ∷ rest) [] = Unit {0}
@@ -158,13 +159,13 @@ ReportsEverything s (a ∷ rest) (o ∷ os) =
     ((r : Process) → process s (actor a) ≡ Some r → moves_token r a ≡ true → IsSome o.report)
     × ReportsEverything o.after rest os
 
--- the greatest count among events, 0 of none
+-- the greatest count of these events, 0 if there are none
 abbrev pub greatest_count : List Event → ℕ
 greatest_count [] = 0
 greatest_count (e ∷ es) = max e.serial.this (greatest_count es)
 
--- the prev that the last of these events leaves for the next: a receive its this, a send or a print
--- its own; 0 of none
+-- the last serial that these events leave: `this` of the last event if it is a receive, else its
+-- prev; 0 if there are no events
 abbrev pub prev_after : List Event → ℕ
 prev_after [] = 0
 prev_after (e ∷ []) = elim e.kind [
@@ -174,8 +175,8 @@ prev_after (e ∷ []) = elim e.kind [
 ]
 prev_after (e ∷ f ∷ es) = prev_after (f ∷ es)
 
--- the send or print e goes on from these events of its process: it has the next count, and the prev
--- that they leave, or in a new trace their greatest count
+-- the send or print e goes on from these events of its process: it has the next count, and its
+-- prev is the last serial that they leave or, in a new trace, their greatest count
 pub record GoesOnFrom (es : List Event) (e : Event) : Type 0 where
   pub count : e.serial.this ≡ greatest_count es + 1
   pub prev : (e.serial.prev ≡ prev_after es) ⊎ (e.serial.prev ≡ greatest_count es)

@@ -1,6 +1,6 @@
--- The definitions, in the order in which they build on each other. From `Pid` to `Verdict` the
+-- The definitions, in the order in which they build on each other: from `Pid` to `Verdict` the
 -- machine, its runs and what they show; then collected streams, the laws of every run, and byte
--- devices. Public contracts rest on these.
+-- devices. Public contracts rest on them.
 pub mod Pid
 pub mod State
 pub mod Stamp
@@ -17,5 +17,5 @@ pub mod Laws
 pub mod Device
 pub mod Passed
 pub mod Rows
--- For the parts alone: how `Draft` keeps its streams.
+-- The two lists in which `Draft` keeps its streams; no public contract cites them.
 pub mod Collected

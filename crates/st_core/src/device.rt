@@ -1,8 +1,9 @@
 //! Devices: where bytes come from and go to, in pieces.
 //!
-//! The traits and what is over std's readers and writers and over memory. Nothing here knows
-//! of tracing. What crosses the border of the program crosses it here: no clause can say which
-//! bytes standard input holds, so a `take` says by `gives` what it gave, whatever the source tells.
+//! The traits, and devices over std's readers and writers and over memory. Nothing here knows of
+//! tracing. All bytes that enter or leave the program pass here. No clause can say which bytes
+//! standard input holds, so `take` says by the relation `gives` which bytes it gave, even if the
+//! source doesn't tell what it has left.
 
 mod memory;
 mod recorder;

@@ -1,34 +1,36 @@
-//! Nothing is proved of guesses but that they are safe: where a pid may be in a list of pids.
+//! Guesses where a pid is in a list of pids. Only that a guess is safe is proved, not that it is
+//! right.
 //!
-//! Each act and each event names pids, so that their places are asked for often. Whoever asks looks
-//! at the place that is guessed, and searches if another pid is there. So a wrong guess costs a
-//! search and no more, also if somebody chooses pids that share a slot.
+//! Each act and each event names pids, so their places are asked for often. The caller looks at
+//! the guessed place first, and searches if another pid is there. So a wrong guess costs one
+//! search, even if somebody chooses pids that share a slot.
 use std::alloc::{AllocError, Global};
 
-/// As many bits as the number of a slot has at most: a guess has no more.
+/// Limits the table to 65,536 slots, as many as the places that a guess can name.
 const MOST_SLOT_BITS: u32 = 16;
 
-/// How far apart the slots of equal numbers on neighbouring nodes lie: a prime, which shares no
-/// factor with the slots. Numbers that rise by one from node to node lie one farther apart, which
-/// shares the factor 2 alone.
+/// The distance between the slots of one number on neighbouring nodes: a prime, which shares no
+/// factor with the number of slots. Numbers that rise by one from node to node lie 662 slots
+/// apart, which shares only the factor 2.
 const NODE_STEP: usize = 661;
 
-/// For each slot, where the last pid of that slot is. The table is on the heap, so that whoever
-/// hands on what has it copies no guesses.
+/// For each slot the place that was last given for a pid of the slot. The table is on the heap, so
+/// moving a value that holds guesses copies none.
 #[derive(Debug, Drop)]
 pub struct Guesses {
     places: Vec<u16>,
 }
 
 impl Guesses {
-    /// No guesses. Takes no memory.
+    /// Returns no guesses. Takes no memory.
     pub fn none(alloc: Global) -> Guesses {
         Guesses {
             places: Vec::new(alloc),
         }
     }
 
-    /// Place 0 for each pid, with at least two slots for each of this many pids, up to the most.
+    /// Returns the guess 0 for each pid, with at least two slots for each of `count` pids, up to
+    /// the limit. Fails only if memory runs out.
     pub fn for_pids(alloc: Global, count: usize) -> Result<Guesses, AllocError> {
         let last = (count as u64).saturating_sub(1);
         let width = u64::BITS.saturating_sub(last.leading_zeros());
@@ -37,7 +39,7 @@ impl Guesses {
         Ok(Guesses { places })
     }
 
-    /// Makes guesses for this many pids, if there are none yet and there is memory for them.
+    /// Makes guesses for `count` pids, if there are none yet and there is memory for them.
     pub fn fill(&mut self, count: usize) {
         if self.places.is_empty() {
             let alloc = *self.places.allocator();
@@ -47,8 +49,8 @@ impl Guesses {
         }
     }
 
-    /// Guesses from now on that the pid with this node and number is at this place. One past what a
-    /// guess can hold is found by the search.
+    /// Makes `place` the guess for the pid with this node and number. A place above 65,535 doesn't
+    /// fit, so the pid is found by a search.
     pub fn expect(&mut self, node: u16, number: u16, place: usize) {
         let slot = self.slot_of(node, number);
         if let Some(guess) = self.places.get_mut(slot) {
@@ -56,7 +58,7 @@ impl Guesses {
         }
     }
 
-    /// Where the pid with this node and number may be; 0 if there are no guesses.
+    /// Returns the guess for the pid with this node and number; 0 if there are no guesses.
     #[inline]
     pub fn guess(&self, node: u16, number: u16) -> usize {
         match self.places.get(self.slot_of(node, number)) {
@@ -65,8 +67,8 @@ impl Guesses {
         }
     }
 
-    /// The slot of the pid. There are none, or a power of two: pids whose numbers follow one
-    /// another don't meet.
+    /// Returns the pid's slot. There are no slots, or a power of two, so pids whose numbers follow
+    /// one another don't meet.
     #[inline]
     fn slot_of(&self, node: u16, number: u16) -> usize {
         let most = self.places.len().saturating_sub(1);

@@ -1,7 +1,7 @@
 //! The tracing state of one process, without its queue, and how acts change it.
 //!
-//! Each call is one part of the machine's step, for one process; which process and in which order
-//! is the caller's. No call takes memory.
+//! Each call is one process's part of a step of the machine; the caller chooses the process and
+//! the order. No call takes memory.
 
 ghost use Rattle.std.specs.Prelude.{◌≡◌, ◌≤◌, ◌↔◌, IsTrue, IsSome, OnErr, IfOk};
 ghost use Rattle.st_core.specs.Local.{received, with_set, old_component, wiped, IsMeetable};
@@ -17,9 +17,8 @@ use thiserror::Error;
 #[error("the clock is full")]
 pub struct ClockFull;
 
-/// A process's token, if it has one; its trace clock, 0 to TOP; the count that was passed in the
-/// last received information with a token, or the clock at the start of a new trace, which is at
-/// most the clock; and whether a system tracer is set on its node.
+/// The tracing state of a process: a token or none; a trace clock, 0 to TOP; a last serial, which
+/// is at most the clock; and whether a system tracer is set on its node.
 #[derive(Clone, Copy)]
 pub struct Local<const TOP: u64> {
     token: Option<Token>,
@@ -52,7 +51,7 @@ impl<const TOP: u64> Model for Local<TOP> {
 }
 
 impl<const TOP: u64> Local<TOP> {
-    /// No token, both counts at 0, and not traced.
+    /// Returns a state with no token, both counts 0, and not traced.
     pub const fn new() -> Self
         ensures { result ≡ zero_local }
     {
@@ -64,7 +63,7 @@ impl<const TOP: u64> Local<TOP> {
         }
     }
 
-    /// The token, if there is one.
+    /// Returns the token, if there is one.
     pub fn token(&self) -> Option<Token>
         ensures { result ≡ self.now.token }
     {
@@ -79,7 +78,8 @@ impl<const TOP: u64> Local<TOP> {
         self.clock
     }
 
-    /// The last serial: the count last received with a token, or that of a new trace's start.
+    /// The last serial: the count last received with a token, or the clock at the start of a new
+    /// trace.
     pub fn last(&self) -> u64
         ensures value { result ≡ self.now.last }
         ensures within { result ≤ self.now.clock }
@@ -95,7 +95,8 @@ impl<const TOP: u64> Local<TOP> {
     }
 
     /// Stamps the token for a send or a print of `me`: the clock grows by one, and the token gets
-    /// the serial {last, clock} (manual) and `me` as its from. At clock TOP all stays.
+    /// the serial {last, clock} (manual) and `me` as its from. At clock TOP it fails and changes
+    /// nothing.
     pub fn advance(&mut self, me: Pid) -> Result<Token, ClockFull>
         requires { IsSome self.old.token }
         ensures stamped { IfOk result
@@ -119,15 +120,16 @@ impl<const TOP: u64> Local<TOP> {
         Ok(token)
     }
 
-    /// Whether this token's count is one that a clock can have. Stamped tokens' are.
+    /// Returns whether the token's count is at most TOP, as that of every stamped token is.
     pub fn fits(token: &Token) -> bool
         ensures { IsTrue result ↔ IsMeetable TOP (Some token.now) }
     {
         token.serial.this <= TOP
     }
 
-    /// Takes over the token of a message that was received, or that it has none (manual). With a
-    /// token last becomes its count, and the clock too if that is greater (own profile).
+    /// Takes over a received message's token, or loses its own if the message has none (manual).
+    /// With a token last becomes the token's count (manual), and so does the clock if the count is
+    /// greater (own profile).
     pub fn meet(&mut self, token: Option<Token>)
         requires { IsMeetable TOP token }
         ensures { self.new ≡ received self.old token }
@@ -139,8 +141,9 @@ impl<const TOP: u64> Local<TOP> {
         self.token = token;
     }
 
-    /// Sets a component of the token, and returns the one before. Without a token it returns none,
-    /// and `me` makes one of the defaults first, which starts a new trace: last becomes the clock.
+    /// Sets a component of the token, and returns the old one. If there is no token, `me` first
+    /// makes the default one, which starts a new trace, so last becomes the clock; the call then
+    /// returns none.
     pub fn set(&mut self, me: Pid, component: Component) -> Option<Component>
         ensures new { self.new ≡ with_set me component self.old }
         ensures old { result ≡ old_component component self.old }
@@ -158,8 +161,8 @@ impl<const TOP: u64> Local<TOP> {
         }
     }
 
-    /// Puts this token, or none, in the token's place, and returns the one before (manual of none,
-    /// own profile of a token). Clock and last stay (own profile).
+    /// Replaces the token by another or by none, and returns the old one (manual for none, own
+    /// profile for a token). Clock and last stay (own profile).
     pub fn restore(&mut self, token: Option<Token>) -> Option<Token>
         ensures new { self.new ≡ record self.old { token = token } }
         ensures old { result ≡ self.old.token }
@@ -169,7 +172,7 @@ impl<const TOP: u64> Local<TOP> {
         before
     }
 
-    /// Forgets the token and both counts, as a reset does (manual).
+    /// Removes the token and sets both counts to 0, as a reset does (manual).
     pub fn wipe(&mut self)
         ensures { self.new ≡ wiped self.old }
     {

@@ -1,4 +1,4 @@
-//! Where a pid is among pids that rise.
+//! The place of a pid among pids that rise.
 
 ghost use Rattle.std.specs.Prelude.{◌≡◌, false, Some, IfSome, IfNone, slice_get};
 ghost use Rattle.std.specs.List.{AllByRecursion};
@@ -7,7 +7,8 @@ ghost use Rattle.st_core.specs.Pid.{pid_eq, IsRising};
 use crate::guesses::Guesses;
 use crate::types::Pid;
 
-/// Where the pid is among pids that rise: at the guess, or where a binary search finds it.
+/// Returns the pid's index among `pids`, which rise: the guess if it is right, else what a binary
+/// search finds.
 #[inline]
 pub fn place_of(guesses: &Guesses, pids: &[Pid], pid: Pid) -> Option<usize>
     requires { IsRising pids.now }

@@ -1,4 +1,4 @@
-//! Whether pids rise, which lists of processes must.
+//! The order that every list of processes keeps: rising pids.
 
 ghost use Rattle.std.specs.Prelude.{◌≡◌, ◌↔◌, IsTrue};
 ghost use Rattle.std.specs.Ordering.{is_lt};
@@ -6,7 +6,7 @@ ghost use Rattle.st_core.specs.Pid.{pid_cmp, IsRising};
 
 use crate::types::Pid;
 
-/// Whether the pids rise strictly (own profile): each is above the one before.
+/// Returns whether each pid is above the one before it (own profile).
 pub fn is_rising(pids: &[Pid]) -> bool
     ensures { IsTrue result ↔ IsRising pids.now }
 {

@@ -1,12 +1,12 @@
-//! A list inside a public type. Only the type and its few calls; nothing here knows of tracing.
+//! A list for public types to hold. Nothing here knows of tracing.
 
 ghost use Rattle.std.specs.Prelude.{◌≡◌, [], ◌∷◌, ◌++◌, length, IfErr, OnErr, OnOk, IsTrue, ◌↔◌};
 
 use std::alloc::{AllocError, AllocFailed, Global};
 use std::marker::Model;
 
-/// A growing list, which contracts see as its items alone: a `Vec` also shows where it lies and how
-/// much room it has. Made from a `Vec` and turned into one without taking memory.
+/// A growing list of which contracts see only the items; of a `Vec` they also see where it lies
+/// and how much room it has. It is made from a `Vec` and turned into one without taking memory.
 #[derive(Debug, Drop)]
 pub struct Sequence<T> {
     items: Vec<T>,
@@ -21,7 +21,7 @@ impl<T> Model for Sequence<T> {
 }
 
 impl<T> Sequence<T> {
-    /// No items. Takes no memory.
+    /// Returns an empty list. Takes no memory.
     pub fn new(alloc: Global) -> Self
         ensures { result ≡ [] }
     {
@@ -30,14 +30,14 @@ impl<T> Sequence<T> {
         }
     }
 
-    /// The items of a vector, which it takes over.
+    /// Returns a list of a vector's items, which it takes over.
     pub fn from_vec(items: Vec<T>) -> Self
         ensures { result ≡ items.items }
     {
         Sequence { items }
     }
 
-    /// Gives the items back as a vector.
+    /// Returns the items as a vector.
     pub fn into_vec(self) -> Vec<T>
         ensures { result.items ≡ self }
     {
@@ -45,7 +45,7 @@ impl<T> Sequence<T> {
         items
     }
 
-    /// Puts an item at the end. If memory runs out, the item comes back.
+    /// Adds an item at the end. If memory runs out, it gives the item back.
     pub fn push(&mut self, item: T) -> Result<(), AllocFailed<T>>
         ensures ok { OnOk result (self.new ≡ self.old ++ item ∷ []) }
         ensures err { OnErr result (self.new ≡ self.old) }
@@ -54,29 +54,29 @@ impl<T> Sequence<T> {
         self.items.push(item)
     }
 
-    /// Makes room for this many more items, so that they are put at the end without copying what is
-    /// there. Fails only if memory runs out.
+    /// Makes room for `more` items, so that pushing them doesn't copy the items that are there.
+    /// Fails only if memory runs out.
     pub fn reserve(&mut self, more: usize) -> Result<(), AllocError>
         ensures { self.new ≡ self.old }
     {
         self.items.reserve(more)
     }
 
-    /// The number of items.
+    /// Returns the number of items.
     pub fn len(&self) -> usize
         ensures { result ≡ length self.now }
     {
         self.items.len()
     }
 
-    /// Whether there are no items.
+    /// Returns whether there are no items.
     pub fn is_empty(&self) -> bool
         ensures { IsTrue result ↔ (self.now ≡ []) }
     {
         self.items.is_empty()
     }
 
-    /// The items as a slice.
+    /// Returns the items as a slice.
     pub fn as_slice(&self) -> &[T]
         ensures { result.now ≡ self.now }
     {

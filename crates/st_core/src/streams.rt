@@ -1,7 +1,7 @@
 //! Collected event streams: a draft that grows, and the streams that it closes to.
 //!
-//! Both keep the rules of `specs/Streams.antt` in their types, so whoever has `Streams` needn't
-//! check them again. Nothing here steps the machine.
+//! Both keep the rules of `specs/Streams.antt` in their types, so a function that gets `Streams`
+//! needn't check them again. Nothing here steps the machine.
 
 ghost use Rattle.std.specs.Prelude.{◌≡◌, ◌<◌, ◌↔◌, [], ◌∷◌, ◌++◌, length, not, position, true};
 ghost use Rattle.std.specs.Prelude.{false, Some, None, IsTrue, IfOk, IfSome, IfNone, IfErr, OnOk};
@@ -22,7 +22,7 @@ use std::alloc::{AllocError, Global};
 use std::marker::Model;
 use thiserror::Error;
 
-/// The pids for which there are guesses: as many processes as `seqaudit` reads.
+/// The number of pids for which there are guesses: the most processes that `seqaudit` reads.
 const EXPECTED_PIDS: usize = 1_024;
 
 /// Why a process wasn't opened.
@@ -31,7 +31,7 @@ pub enum OpenFault {
     /// Memory ran out.
     #[error("no memory")]
     Memory,
-    /// The pid isn't above all that were opened. Looked at first.
+    /// The pid isn't above all pids that were opened. Checked first.
     #[error("the pids don't rise")]
     NotRising,
 }
@@ -39,13 +39,13 @@ pub enum OpenFault {
 /// Why an event wasn't added.
 #[derive(Clone, Copy, Debug, PartialEq, Eq, Error)]
 pub enum AddFault {
-    /// Memory ran out. Comes only if neither of the others does.
+    /// Memory ran out. Checked last.
     #[error("no memory")]
     Memory,
-    /// The process wasn't opened. Looked at first.
+    /// The process wasn't opened. Checked first.
     #[error("the process isn't there")]
     Unknown,
-    /// The event is another process's, or has a `to` against its kind or lacks one. Looked at next.
+    /// The event is another process's, or its `to` doesn't fit its kind. Checked second.
     #[error("the event isn't the process's own")]
     Foreign,
 }
@@ -73,7 +73,7 @@ impl Model for Draft {
 }
 
 impl Draft {
-    /// No processes. Takes no memory.
+    /// Returns a draft of no processes. Takes no memory.
     pub fn new(alloc: Global) -> Draft
         ensures { result ≡ [] }
     {
@@ -109,8 +109,8 @@ impl Draft {
         Ok(())
     }
 
-    /// Makes room for this many more events of a process, so that adding them copies nothing. It
-    /// does nothing if the process isn't listed, and fails only if memory runs out.
+    /// Makes room for `more` events of a process, so that adding them copies nothing. Does nothing
+    /// if the process isn't listed, and fails only if memory runs out.
     pub fn reserve(&mut self, pid: Pid, more: usize) -> Result<(), AllocError>
         ensures { self.new ≡ self.old }
     {
@@ -134,7 +134,7 @@ impl Draft {
         if !event.is_own(pid) {
             return Err(AddFault::Foreign);
         }
-        // The count of events stays in its range, since memory holds them.
+        // Never overflows, since memory can't hold 2^64 events.
         let Some(total) = self.total.checked_add(1) else {
             return Err(AddFault::Memory);
         };
@@ -145,8 +145,9 @@ impl Draft {
         Ok(())
     }
 
-    /// The streams, if each pid that an event names is listed. Else the draft comes back, with
-    /// the least place, by pid and then index, of an event that names one that isn't.
+    /// Returns the streams if each pid that an event names is listed. Else it fails and gives the
+    /// draft back, with the least place, by pid and then index, of an event that names a pid that
+    /// isn't listed.
     pub fn close(self) -> Result<Streams, Unlisted>
         ensures ok { IfOk result (λ streams. streams ≡ self) }
         ensures streams { OnOk result (IsStreams self) }
@@ -163,7 +164,6 @@ impl Draft {
         }
     }
 
-    /// The least place of an event that names a pid that isn't listed.
     fn first_unlisted(&self) -> Option<(Pid, u64)>
         ensures place { result ≡ unlisted self.now }
         ensures draft { IsDraft self.now }
@@ -171,7 +171,7 @@ impl Draft {
         first_failing(&self.guesses, &self.pids, &self.events)
     }
 
-    /// The processes so far, by strictly rising pid.
+    /// Returns the pids so far, which rise strictly.
     pub fn pids(&self) -> &[Pid]
         ensures value { result.now ≡ pids_of self.now }
         ensures draft { IsDraft self.now }
@@ -179,7 +179,7 @@ impl Draft {
         self.pids.as_slice()
     }
 
-    /// The events of a process so far, in order; none if it isn't listed.
+    /// Returns the events of a process so far, in order; none if the process isn't listed.
     pub fn events(&self, pid: Pid) -> &[Event]
         ensures value { result.now ≡ events_of self.now pid }
         ensures draft { IsDraft self.now }
@@ -198,7 +198,6 @@ impl Draft {
         place_of(&self.guesses, &self.pids, pid)
     }
 
-    /// The number of all events.
     fn total(&self) -> u64
         ensures { result ≡ total_of self.now }
     {
@@ -206,15 +205,15 @@ impl Draft {
     }
 }
 
-/// Why a draft didn't close: it comes back, with the place of the first event that names a pid
-/// that isn't listed.
+/// A draft that didn't close, with the place of the first event that names a pid that isn't
+/// listed.
 #[derive(Debug, Drop)]
 pub struct Unlisted {
     /// The draft as it was.
     pub draft: Draft,
     /// The process in whose stream the event is.
     pub pid: Pid,
-    /// The event's index there, counted from 0.
+    /// The event's index in the stream, counted from 0.
     pub index: u64,
 }
 
@@ -238,7 +237,7 @@ impl Model for Streams {
 }
 
 impl Streams {
-    /// The processes, by strictly rising pid.
+    /// Returns the pids, which rise strictly.
     pub fn pids(&self) -> &[Pid]
         ensures value { result.now ≡ pids_of self.now }
         ensures streams { IsStreams self.now }
@@ -246,8 +245,8 @@ impl Streams {
         self.draft.pids()
     }
 
-    /// Where the process is in `pids`; none if it isn't listed. Constant time for most pids,
-    /// and at worst that of a binary search.
+    /// Returns the process's index in `pids`; none if the process isn't listed. Takes constant
+    /// time for most pids, and at worst that of a binary search.
     pub fn place_of(&self, pid: Pid) -> Option<usize>
         ensures found { IfSome result (λ i. slice_get (pids_of self.now) i ≡ Some pid) }
         ensures missing { IfNone result
@@ -256,7 +255,7 @@ impl Streams {
         self.draft.place_of(pid)
     }
 
-    /// The events of a process in order; none if it isn't listed.
+    /// Returns the events of a process in order; none if the process isn't listed.
     pub fn events(&self, pid: Pid) -> &[Event]
         ensures value { result.now ≡ events_of self.now pid }
         ensures streams { IsStreams self.now }
@@ -264,22 +263,22 @@ impl Streams {
         self.draft.events(pid)
     }
 
-    /// The number of a process's events; 0 if it isn't listed.
+    /// Returns the number of a process's events; 0 if the process isn't listed.
     pub fn len(&self, pid: Pid) -> u64
         ensures { result ≡ length (events_of self.now pid) }
     {
         self.events(pid).len() as u64
     }
 
-    /// A process's event at an index, counted from 0; none past the end or if the process isn't
-    /// listed.
+    /// Returns a process's event at an index, counted from 0; none past the end or if the process
+    /// isn't listed.
     pub fn event(&self, pid: Pid, index: u64) -> Option<Event>
         ensures { result ≡ slice_get (events_of self.now pid) index }
     {
         self.events(pid).get(index as usize).copied()
     }
 
-    /// The number of all events.
+    /// Returns the number of all events.
     pub fn total(&self) -> u64
         ensures { result ≡ total_of self.now }
     {
@@ -297,7 +296,6 @@ fn comes_last(pids: &[Pid], pid: Pid) -> bool
     }
 }
 
-/// Makes room for this many more events at the end of the list at this place.
 fn reserve_at(events: &mut [Sequence<Event>], place: usize, more: usize) -> Result<(), AllocError>
     requires { place < length events.old }
     ensures { events.new ≡ events.old }
@@ -328,7 +326,6 @@ fn is_among(guesses: &Guesses, pids: &[Pid], pid: Pid) -> bool
     }
 }
 
-/// Whether the pids that the event names are among these, which rise.
 fn names_among(guesses: &Guesses, pids: &[Pid], event: &Event) -> bool
     requires { IsRising pids.now }
     ensures { result ≡ names_among pids.now event.now }
@@ -342,7 +339,6 @@ fn names_among(guesses: &Guesses, pids: &[Pid], event: &Event) -> bool
     }
 }
 
-/// The first event that names a pid that isn't among these, which rise.
 fn unlisted_index(guesses: &Guesses, pids: &[Pid], events: &[Event]) -> Option<usize>
     requires { IsRising pids.now }
     ensures { result ≡ position (λ e. not (names_among pids.now e)) events.now }
@@ -355,7 +351,7 @@ fn unlisted_index(guesses: &Guesses, pids: &[Pid], events: &[Event]) -> Option<u
     )
 }
 
-/// The first process with such an event, and the event's index.
+/// Returns the place of the first event that names a pid that isn't among `pids`.
 fn first_failing(guesses: &Guesses, pids: &[Pid], lists: &[Sequence<Event>]) -> Option<(Pid, u64)>
     requires rising { IsRising pids.now }
     requires even { length lists.now ≡ length pids.now }

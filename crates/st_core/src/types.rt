@@ -1,8 +1,8 @@
 //! The plain values of the machine: pids, tokens, messages, events, acts and replies.
 //!
-//! Data alone, all of it copied; what an act does is in `specs/` and, for one process, in
-//! `local`. "Manual" means the manual page `seq_trace` of Erlang's kernel, "own profile" what this
-//! project chose where the manual is silent or leaves a choice.
+//! They are plain data; `specs/` says what an act does, and `local` does one process's part of it.
+//! "Manual" means the manual page `seq_trace` of Erlang's kernel, "own profile" what this project
+//! chose where the manual is silent or leaves a choice.
 
 ghost use Rattle.std.specs.Prelude.{◌≡◌};
 ghost use Rattle.st_core.specs.Local.{component_of, default_token, with_component};
@@ -21,28 +21,28 @@ pub struct Pid {
 }
 
 impl Pid {
-    /// The process of this number on this node.
+    /// Returns the pid of the process with this number on this node.
     pub const fn on(node: u16, number: u16) -> Pid
         ensures { result ≡ pid_on node number }
     {
         Pid { node, number }
     }
 
-    /// The process of this number on node 0.
+    /// Returns the pid of the process with this number on node 0.
     pub const fn new(number: u16) -> Pid
         ensures { result ≡ pid_on 0 number }
     {
         Pid::on(0, number)
     }
 
-    /// The node that the process is on.
+    /// Returns the process's node.
     pub const fn node(self) -> u16
         ensures { result ≡ node_of self }
     {
         self.node
     }
 
-    /// The process's number on its node.
+    /// Returns the process's number on its node.
     pub const fn number(self) -> u16
         ensures { result ≡ number_of self }
     {
@@ -50,18 +50,18 @@ impl Pid {
     }
 }
 
-/// The label of a sequential trace, which tells it from others that go on at the same time. The
-/// manual allows any term; here a number of 32 bits (own profile). The default is 0.
+/// The label of a sequential trace, which tells apart traces that go on at the same time. The
+/// manual allows any term; here it is a number of 32 bits (own profile). The default is 0.
 #[derive(Clone, Copy, Debug, PartialEq, Eq, PartialOrd, Ord)]
 pub struct Label(pub u32);
 
 /// The serial of a token, by which traced messages are put in order (manual).
 #[derive(Clone, Copy, Debug, PartialEq, Eq)]
 pub struct Serial {
-    /// The count passed in the last received information that carried a token, or the trace clock
-    /// at the start of a new trace (manual).
+    /// The last serial at the stamp: the count in the last information that the process received
+    /// with a token, or its trace clock at the start of a new trace (manual).
     pub prev: u64,
-    /// The count that the process set on this information: its trace clock after it grew (manual).
+    /// The count of the stamp: the process's trace clock after it grew (manual).
     pub this: u64,
 }
 
@@ -76,12 +76,12 @@ pub struct Flags {
     pub print: bool,
 }
 
-/// A trace token. It travels with each message that its process sends (manual).
+/// A trace token, which travels with each message that its process sends (manual).
 #[derive(Clone, Copy, Debug, PartialEq, Eq)]
 pub struct Token {
     /// The trace that it belongs to.
     pub label: Label,
-    /// The events that are reported.
+    /// Which acts are reported.
     pub flags: Flags,
     /// Its counts.
     pub serial: Serial,
@@ -90,7 +90,7 @@ pub struct Token {
 }
 
 impl Token {
-    /// A token of the defaults, as the first component that is set on no token makes it.
+    /// Returns the default token, which a process without a token makes when it sets a component.
     pub const fn made_by(from: Pid) -> Token
         ensures { result ≡ default_token from }
     {
@@ -106,7 +106,7 @@ impl Token {
         }
     }
 
-    /// The token with this component set.
+    /// Returns the token with this component set.
     pub fn with(mut self, component: Component) -> Token
         ensures { result ≡ with_component component self }
     {
@@ -119,7 +119,7 @@ impl Token {
         self
     }
 
-    /// The token's component of the same kind.
+    /// Returns the token's component that `component` would replace.
     pub fn component(self, component: Component) -> Component
         ensures { result ≡ component_of component self }
     {
@@ -139,7 +139,7 @@ pub struct Message {
     pub from: Pid,
     /// The value that was sent.
     pub value: u64,
-    /// A copy of its sender's token at the send, if it had one and no reset emptied it since.
+    /// A copy of its sender's stamped token, if there was one and no reset took it away since.
     pub token: Option<Token>,
 }
 
@@ -158,14 +158,14 @@ pub enum Kind {
 /// Value}}`). The fields are in an order that leaves no gaps between them in memory.
 #[derive(Clone, Copy, Debug, PartialEq, Eq)]
 pub struct Event {
-    /// The label of the token in force: the stamped one of a send or a print, the message's of a
-    /// receive.
+    /// The label of the token in force, which is the stamped token of a send or a print and the
+    /// message's token of a receive.
     pub label: Label,
     /// The kind of the event.
     pub kind: Kind,
-    /// The receiver of a send or a receive. A print has none.
+    /// The receiver of the message; a print has none.
     pub to: Option<Pid>,
-    /// The sender of a send or a receive, or who printed.
+    /// The sender of the message, or the process that printed.
     pub from: Pid,
     /// The serial of the token in force.
     pub serial: Serial,
@@ -174,8 +174,8 @@ pub struct Event {
 }
 
 impl Event {
-    /// Whether the event is one that this process reports: from it for a send or a print, to it for
-    /// a receive, and with a `to` exactly if it isn't a print.
+    /// Returns whether this process reports the event: it sent, received or printed, and the event
+    /// has a `to` exactly if it isn't a print.
     pub fn is_own(&self, pid: Pid) -> bool
         ensures { result ≡ is_own pid self.now }
     {
@@ -187,8 +187,8 @@ impl Event {
     }
 }
 
-/// A component of a token that can be set (manual; its serial is left out, which users should
-/// never set).
+/// A component of a token that can be set (manual; without the serial, which users should never
+/// set).
 #[derive(Clone, Copy, Debug, PartialEq, Eq)]
 pub enum Component {
     /// The label.
@@ -204,19 +204,20 @@ pub enum Component {
 /// Which message a receive takes: the oldest that matches (own profile: these five patterns).
 #[derive(Clone, Copy, Debug, PartialEq, Eq)]
 pub enum Want {
-    /// Any message.
+    /// The oldest message.
     First,
-    /// One from this process, which needn't be there.
+    /// A message from this process, which needn't be there.
     From(Pid),
-    /// One with this value.
+    /// A message with this value.
     Value(u64),
-    /// One from this process with this value.
+    /// A message from this process with this value.
     Both(Pid, u64),
     /// The message at this place of the queue, counted from 0, and no other. For certificates.
     Place(u64),
 }
 
-/// One act of a process, which is first: one atomic step of the machine (own profile).
+/// An act, which is one atomic step of the machine (own profile). Its first field is the process
+/// that acts.
 #[derive(Clone, Copy, Debug, PartialEq, Eq)]
 pub enum Act {
     /// Sends the value to the second process.
@@ -231,7 +232,7 @@ pub enum Act {
     Set(Pid, Component),
     /// `seq_trace:set_token([])`.
     Clear(Pid),
-    /// `seq_trace:set_token/1` with a token, which may be any.
+    /// `seq_trace:set_token/1` with any token.
     Restore(Pid, Token),
     /// `seq_trace:get_token/0`.
     Look(Pid),
@@ -242,7 +243,7 @@ pub enum Act {
 }
 
 impl Act {
-    /// The process that acts.
+    /// Returns the process that acts.
     pub fn actor(&self) -> Pid
         ensures { result ≡ actor self.now }
     {

@@ -1,6 +1,6 @@
 //! Devices over memory, for tests: a slice, a vector of fixed room, and an endless source.
 //!
-//! Their contracts say to the byte what gets through and when a call fails.
+//! Their contracts say exactly how many bytes get through and when a call fails.
 
 ghost use Rattle.std.specs.Prelude.{◌≡◌, ◌≤◌, ◌<◌, ◌-◌, [], min, length, take, true, false, IfOk};
 ghost use Rattle.std.specs.Prelude.{IsOk, MatchResult, Some, None};
@@ -14,7 +14,7 @@ use crate::device::source::{ByteSource, Failed};
 use std::alloc::{AllocError, Global};
 use std::marker::Model;
 
-/// Gives the bytes of a slice, as far as its fuse lets them through.
+/// A source of the bytes of a slice, as far as its fuse lets them through.
 #[derive(Drop)]
 pub struct MemorySource<'a> {
     bytes: &'a [u8],
@@ -31,8 +31,9 @@ impl<'a> Model for MemorySource<'a> {
 }
 
 impl<'a> MemorySource<'a> {
-    /// A source of these bytes. A fuse is the number of bytes after which it fails: on the next
-    /// piece that isn't empty, at the end of the bytes too. `None` never fails.
+    /// Returns a source of these bytes. A fuse is the number of bytes after which the source fails
+    /// at the next piece that isn't empty, even at the end of the bytes; without one it never
+    /// fails.
     pub fn new(bytes: &'a [u8], fuse: Option<u64>) -> MemorySource<'a>
         ensures { result ≡ record { left = bytes.now; fuse = fuse; failed = false } }
     {
@@ -44,7 +45,6 @@ impl<'a> MemorySource<'a> {
     }
 }
 
-/// As much of n bytes as the fuse lets through.
 fn through(fuse: Option<u64>, n: usize) -> usize
     ensures { result ≡ through fuse n }
 {
@@ -54,7 +54,6 @@ fn through(fuse: Option<u64>, n: usize) -> usize
     }
 }
 
-/// The fuse after n bytes.
 fn burnt(fuse: Option<u64>, n: usize) -> Option<u64>
     requires { n ≤ through fuse n }
     ensures { result ≡ burnt fuse n }
@@ -65,7 +64,6 @@ fn burnt(fuse: Option<u64>, n: usize) -> Option<u64>
     }
 }
 
-/// How much of a piece of n bytes gets through, or that the call fails.
 fn let_through(failed: bool, n: usize, most: usize) -> Result<usize, Failed>
     ensures { result_ok result ≡ let_through failed n most }
 {
@@ -100,7 +98,7 @@ impl<'a> ByteSource for MemorySource<'a> {
         ensures end { IfOk result (λ n. n ≡ 0 → 0 < length piece.new → self.new.left ≡ []) }
         ensures empty { PassesEmpty self.old.failed piece.new self.old self.new result }
         ensures mark { MarksFailure self.old.failed self.new.failed result }
-        // How much it gives, when it fails, and what is left.
+        // Tells how much it gives, when it fails, and what is left.
         ensures count { result_ok result ≡ taken_count self.old (length piece.new) }
         ensures after { MatchResult result
             (λ n. self.new ≡ after_take self.old n)
@@ -124,7 +122,7 @@ impl<'a> ByteSource for MemorySource<'a> {
     }
 }
 
-/// Keeps what is written to it, up to its room, as far as its fuse lets it through.
+/// A sink that keeps what is written to it, up to its room, as far as its fuse lets it through.
 #[derive(Drop)]
 pub struct MemorySink {
     bytes: Vec<u8>,
@@ -151,9 +149,9 @@ impl Model for MemorySink {
 }
 
 impl MemorySink {
-    /// A sink with room for this many bytes, which it takes at once: no later call allocates. A
-    /// fuse is the number of bytes after which it fails; `None` never fails before its room is
-    /// full. It fails only if memory runs out.
+    /// Returns a sink with room for this many bytes, allocated at once: no later call allocates.
+    /// Fails only if memory runs out. A fuse is the number of bytes after which the sink fails;
+    /// without one it never fails before its room is full.
     pub fn new(alloc: Global, room: usize, fuse: Option<u64>) -> Result<MemorySink, AllocError>
         ensures ok { IfOk result (λ s. s
             ≡ record { written = []; room = room; fuse = fuse; failed = false }) }
@@ -197,7 +195,7 @@ impl ByteSink for MemorySink {
             (λ n. self.new.written ≡ self.old.written ++ take n piece.now)
             (λ _. self.new.written ≡ self.old.written ++ []) }
         ensures mark { MarksFailure self.old.failed self.new.failed result }
-        // How much it takes, when it fails, and what it has then.
+        // Tells how much it takes, when it fails, and what it then holds.
         ensures count { result_ok result ≡ put_count self.old (length piece.now) }
         ensures after { MatchResult result
             (λ n. self.new ≡ after_put self.old (take n piece.now))
@@ -219,14 +217,14 @@ impl ByteSink for MemorySink {
     }
 }
 
-/// Gives zero bytes for ever: it never ends and never fails.
+/// A source of zero bytes that never ends and never fails.
 #[derive(Clone, Copy)]
 pub struct EndlessSource {
     unit: (),
 }
 
 impl EndlessSource {
-    /// The endless source, which has no state.
+    /// Returns the endless source, which has no state.
     pub fn new() -> EndlessSource
         ensures { result.unit ≡ tt }
     {

@@ -1,7 +1,7 @@
-//! A device that keeps a record of what passed through another.
+//! A device that records all bytes that pass through another.
 //!
-//! No clause can say which bytes standard input holds or standard output showed. Over any device a
-//! `Recorder` says it of what went through: its relation is the record itself.
+//! No clause can say which bytes standard input holds or standard output showed. A `Recorder` over
+//! any device says which bytes went through: its relation is the record itself.
 
 ghost use Rattle.std.specs.Prelude.{◌≡◌, [], false};
 
@@ -10,8 +10,8 @@ use crate::device::source::{ByteSource, Failed};
 use std::alloc::Global;
 use std::marker::Model;
 
-/// A source or sink over another, with all the bytes that passed. It takes memory at each call, and
-/// fails if there is none, before the other device is called: no byte passes unrecorded.
+/// A source or sink over another, with all the bytes that passed. Each call makes room for its
+/// piece, or fails, before it calls the other device, so no byte passes unrecorded.
 #[derive(Drop)]
 pub struct Recorder<D> {
     device: D,
@@ -28,7 +28,7 @@ impl<D> Model for Recorder<D> {
 }
 
 impl<D> Recorder<D> {
-    /// A recorder over this device, through which nothing has passed yet. Takes no memory.
+    /// Returns a recorder over this device, through which nothing has passed yet. Takes no memory.
     pub fn new(alloc: Global, device: D) -> Recorder<D>
         ensures { result ≡ record { inner = device; passed = []; failed = false } }
     {
@@ -39,7 +39,7 @@ impl<D> Recorder<D> {
         }
     }
 
-    /// All the bytes that passed, from the first on.
+    /// Returns all the bytes that passed, from the first on.
     pub fn bytes(&self) -> &[u8]
         ensures { result.now ≡ self.now.passed }
     {

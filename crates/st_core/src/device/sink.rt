@@ -1,4 +1,4 @@
-//! The promises of a sink of bytes. The sinks themselves are in the modules next to it.
+//! The trait of byte sinks. The sinks themselves are in the modules next to it.
 
 ghost use Rattle.std.specs.Prelude.{◌≤◌, ◌<◌, take, List, [], ℕ, Bool, Option, IfOk, MatchResult};
 ghost use Rattle.std.specs.Prelude.{length};
@@ -7,19 +7,19 @@ ghost use Rattle.st_core.specs.Device.{MarksFailure, PassesEmpty};
 
 use crate::device::source::Failed;
 
-/// Takes bytes, in pieces.
+/// A device that takes bytes, in pieces.
 pub trait ByteSink {
     // The bytes that were written, if the sink tells them.
     ghost written: { Self → Option (List ℕ) };
 
-    // Whether a call has failed.
+    // True after a call has failed.
     ghost failed: { Self → Bool };
 
-    // One call led from the first state to the second and wrote these bytes. Each sink has this,
-    // also one that doesn't tell what was written.
+    // One call wrote these bytes and led from the first state to the second. Every sink has this
+    // relation, even one that doesn't tell what was written.
     ghost puts: { Self → List ℕ → Self → Type 0 };
 
-    /// Writes bytes from the front of the piece, and says how many: none only of an empty piece,
+    /// Writes bytes from the front of the piece, and returns how many: 0 only for an empty piece,
     /// which a sink that hasn't failed always takes. A call that fails has written nothing, and
     /// after a failure each call fails.
     fn put(&mut self, piece: &[u8]) -> Result<usize, Failed>
@@ -32,7 +32,8 @@ pub trait ByteSink {
             (λ _. puts self.old [] self.new) }
         ensures mark { MarksFailure (failed self.old) (failed self.new) result };
 
-    // The bytes put are at the end of those that were written, if the sink tells of them.
+    // The bytes that a call wrote are at the end of those that were written, if the sink tells
+    // them.
     ghost puts_appends: { (a : Self) (bytes : List ℕ) (b : Self) → puts a bytes b
         → Appends (written a) (written b) bytes };
 }

@@ -1,4 +1,4 @@
-//! The promises of a source of bytes. The sources themselves are in the modules next to it.
+//! The trait of byte sources. The sources themselves are in the modules next to it.
 
 ghost use Rattle.std.specs.Prelude.{◌≡◌, ◌≤◌, ◌<◌, take, List, [], ℕ, Bool, Option, IfOk};
 ghost use Rattle.std.specs.Prelude.{MatchResult, length};
@@ -7,29 +7,29 @@ ghost use Rattle.st_core.specs.Device.{MarksFailure, PassesEmpty};
 
 use thiserror::Error;
 
-/// The device failed, at this call of `take` or `put` or an earlier one.
+/// The device failed, in this call of `take` or `put` or in an earlier one.
 #[derive(Clone, Copy, Debug, PartialEq, Eq, Error)]
 #[error("the device failed")]
 pub struct Failed;
 
-/// Gives bytes, in pieces.
+/// A device that gives bytes, in pieces.
 pub trait ByteSource {
     // The bytes that are left, if the source tells them.
     ghost left: { Self → Option (List ℕ) };
 
-    // Whether a call has failed.
+    // True after a call has failed.
     ghost failed: { Self → Bool };
 
-    // One call led from the first state to the second and gave these bytes. Each source has this,
-    // also one that doesn't tell what it has left.
+    // One call gave these bytes and led from the first state to the second. Every source has this
+    // relation, even one that doesn't tell what it has left.
     ghost gives: { Self → List ℕ → Self → Type 0 };
 
     // A call found the source at its end.
     ghost ended: { Self → Type 0 };
 
-    /// Writes the next bytes to the front of the piece, and returns how many. 0, for a piece with
-    /// room, means the end. For a piece without room a source that hasn't failed returns 0 and
-    /// stays as it was. After a failure each call fails.
+    /// Writes the next bytes to the front of the piece, and returns how many. For a piece with
+    /// room 0 means the end; for one without room a source that hasn't failed returns 0 and stays
+    /// as it was. After a failure each call fails.
     fn take(&mut self, piece: &mut [u8]) -> Result<usize, Failed>
         ensures bound { IfOk result (λ n. n ≤ length piece.new) }
         ensures bytes { ReadConsumes (left self.old) (left self.new) result piece.new }
@@ -40,7 +40,8 @@ pub trait ByteSource {
         ensures empty { PassesEmpty (failed self.old) piece.new self.old self.new result }
         ensures mark { MarksFailure (failed self.old) (failed self.new) result };
 
-    // The bytes given stood at the front of those that were left, if the source tells of them.
+    // The bytes that a call gave stood at the front of those that were left, if the source tells
+    // them.
     ghost gives_consumes: { (a : Self) (bytes : List ℕ) (b : Self) → gives a bytes b
         → Consumes (left a) (left b) bytes };
 }

@@ -1,4 +1,4 @@
-//! Devices over std's readers and writers, as standard input and output are.
+//! Devices over std's readers and writers, standard input and output among them.
 
 ghost use Rattle.std.specs.Prelude.{◌≡◌, false};
 
@@ -7,8 +7,8 @@ use crate::device::source::{ByteSource, Failed};
 use std::io::{Read, Write};
 use std::marker::Model;
 
-/// A source over a reader of std's. Any error of the reader counts as a failure, and an empty piece
-/// isn't asked of it.
+/// A source over one of std's readers. Any error of the reader counts as a failure, and the reader
+/// isn't called for an empty piece.
 #[derive(Drop)]
 pub struct ReadFrom<R> {
     reader: R,
@@ -24,7 +24,7 @@ impl<R> Model for ReadFrom<R> {
 }
 
 impl<R: Read> ReadFrom<R> {
-    /// A source over this reader.
+    /// Returns a source over this reader.
     pub fn new(reader: R) -> ReadFrom<R>
         ensures { result ≡ record { inner = reader; failed = false } }
     {
@@ -68,8 +68,8 @@ impl<R: Read> ByteSource for ReadFrom<R> {
     }
 }
 
-/// A sink over a writer of std's. Any error of the writer counts as a failure, as does a write
-/// that takes no byte of a piece that isn't empty; an empty one isn't handed to it.
+/// A sink over one of std's writers. Any error of the writer counts as a failure, as does a write
+/// that takes no byte of a piece that isn't empty; the writer isn't called for an empty piece.
 #[derive(Drop)]
 pub struct WriteTo<W> {
     writer: W,
@@ -85,7 +85,7 @@ impl<W> Model for WriteTo<W> {
 }
 
 impl<W: Write> WriteTo<W> {
-    /// A sink over this writer.
+    /// Returns a sink over this writer.
     pub fn new(writer: W) -> WriteTo<W>
         ensures { result ≡ record { inner = writer; failed = false } }
     {

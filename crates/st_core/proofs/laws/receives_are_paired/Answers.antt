@@ -1,4 +1,4 @@
--- By what the tags keep along a run.
+-- Along a run each queued message has a tag, so a receive that takes one has a pair.
 use Rattle.st_core.proofs.Paired as paired
 use Rattle.st_core.proofs.laws.receives_are_paired.Goals as goal
 

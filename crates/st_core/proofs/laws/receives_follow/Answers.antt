@@ -1,4 +1,4 @@
--- By what the tags keep along a run.
+-- Along a run the tags name the send of each queued message.
 use Rattle.st_core.proofs.Following as following
 use Rattle.st_core.proofs.laws.receives_follow.Goals as goal
 

@@ -1,4 +1,4 @@
--- The search looks at pids that rise, so if it finds none there is none.
+-- The pids rise, so a pid that the binary search doesn't find isn't there.
 use Rattle.st_core.proofs.Pids.{missing_from_search}
 use Rattle.st_core.proofs.places.place_of.Goals as goal
 

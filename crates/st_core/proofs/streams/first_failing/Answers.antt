@@ -1,4 +1,4 @@
--- A list without such an event can be left out of the search.
+-- A list of events that all name listed pids can be left out of the search.
 use Rattle.std.proofs.Common.{sym, ◌∙◌, ◌<◌, length, arith, add-one}
 use Rattle.st_core.specs.Streams.{names_among}
 use Rattle.st_core.proofs.Collections.{first_failing-drop}

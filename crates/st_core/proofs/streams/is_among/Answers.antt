@@ -1,4 +1,4 @@
--- A place that was found is a pid among them, and if none was found none is.
+-- A pid that has a place is among the pids, and one without a place isn't.
 use Rattle.std.proofs.Common.{sym}
 use Rattle.st_core.proofs.Collections.{is_among-found, is_among-missing}
 use Rattle.st_core.proofs.streams.is_among.Goals as goal

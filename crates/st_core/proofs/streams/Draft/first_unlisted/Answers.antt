@@ -1,4 +1,4 @@
--- The first such event in the lists is the first in the collected streams.
+-- The first event in the lists that names an unlisted pid is the first in the collected streams.
 use Rattle.std.proofs.Common.{sym}
 use Rattle.st_core.proofs.Collections.{unlisted-collected, draft_from_collected}
 use Rattle.st_core.proofs.streams.Draft.first_unlisted.Goals as goal

@@ -1,4 +1,4 @@
--- Streams keep the draft that they were, and what it returns holds of them.
+-- Streams are a draft, so what the draft's `place_of` returns holds of them.
 use Rattle.st_core.proofs.streams.Streams.place_of.Goals as goal
 
 pub returns-clause-missing : goal.returns-clause-missing

@@ -1,4 +1,4 @@
--- `take` says of the bytes what the reader says, and that they passed is a name.
+-- `take` says of the bytes what the reader says, and `Passed` and `HasEnded` say nothing more.
 use Rattle.std.proofs.Common.{rules}
 use Rattle.st_core.specs.Passed.{passed, has_ended}
 use Rattle.st_core.proofs.device.std_io.ReadFromByteSource.take.Goals as goal

@@ -1,4 +1,4 @@
--- `put` says of the bytes what the writer says, and that they passed is a name.
+-- `put` says of the bytes what the writer says, and `Passed` says nothing more.
 use Rattle.std.proofs.Common.{rules}
 use Rattle.st_core.specs.Passed.{passed}
 use Rattle.st_core.proofs.device.std_io.WriteToByteSink.put.Goals as goal
