@@ -43,7 +43,7 @@ hidden_heights = refl
 hidden_turns : filter (is_event_of a) hidden_order ≡ in_turn a 0 2
 hidden_turns = refl
 
--- by label they are one list
+-- by label the items are one list, since they have one label
 six_times : (x : Bool) → (x || false) ≡ (x || (x || (x || (x || (x || (x || false))))))
 six_times true = refl
 six_times false = refl
@@ -65,26 +65,26 @@ low_counts_are : order low_counts
     ∷ []
 low_counts_are = refl
 
--- its print doesn't count more than the receives before it, and is in front of them
+-- b's print doesn't count more than the receives before it, and the order puts it in front of them
 low_counts_out_of_turn : filter (is_event_of b) (order low_counts)
     ≡ item.Reported b 2 ∷ item.Reported b 0 ∷ item.Reported b 1 ∷ []
 low_counts_out_of_turn = refl
 
--- a reported send is before its receive, and neither is hidden
+-- a reported send comes before its receive, and there is no hidden send
 abbrev passed : List Stream
 passed = of a (sent 17 0 1 a b 0 ∷ []) ∷ of b (got 17 0 1 a b 0 ∷ []) ∷ []
 
 passed_is : order passed ≡ item.Reported a 0 ∷ item.Reported b 0 ∷ []
 passed_is = refl
 
--- if one process repeats a receive, the two hidden sends have one key, so nothing is an order
+-- if a process repeats a receive, the two hidden sends have the same key, so there is no order
 abbrev repeats : List Stream
 repeats = of a [] ∷ of b (got 17 0 1 a b 0 ∷ got 17 0 1 a b 0 ∷ []) ∷ []
 
 one_key : key repeats (item.Hidden b 0) ≡ key repeats (item.Hidden b 1)
 one_key = refl
 
--- nothing is past the end of a stream, nor in one that isn't listed
+-- an item past the end of a stream, or of a process that isn't listed, has no label
 past_the_end : label_of passed (item.Reported a 1) ∷ label_of passed (item.Hidden c 0) ∷ []
     ≡ None ∷ None ∷ []
 past_the_end = refl

@@ -1,5 +1,5 @@
--- No two items have one key: items at different places are different, and different items have
--- different keys.
+-- No two items have the same key, since items at different places are different, and different
+-- items have different keys.
 use Rattle.std.proofs.Common.{◌≡◌, ℕ, ◌+◌, ◌≤◌, Bool, true, false, cond, List, [], ◌∷◌, None, refl}
 use Rattle.std.proofs.Common.{sym, ◌∙◌, ap, subst, arith}
 use Rattle.std.specs.List.{AllByRecursion, IsDistinct}
@@ -17,7 +17,7 @@ use Rattle.st_order.proofs.Keys.{IsKeyed, same_key, one_item, items_keyed}
 use Rattle.st_order.proofs.Lists.{all_append, all_left, all_right, all_mapped, all_both}
 use Rattle.st_order.proofs.Lists.{all_crossed, distinct_append}
 
--- the place of an item
+-- the process in whose stream an item has its place
 abbrev reporter_of : Item → Pid
 reporter_of (item.Reported p i) = p
 reporter_of (item.Hidden p i) = p

@@ -1,5 +1,5 @@
--- The first group of a list ends before the first item that has another label, by induction on what
--- follows.
+-- The first group of a list ends before the first item that has another label, by induction on the
+-- items that follow.
 use Rattle.std.proofs.Common.{◌≡◌, ℕ, ◌+◌, ◌==◌, ◌++◌, suc, Bool, true, false, cond, List, [], ◌∷◌}
 use Rattle.std.proofs.Common.{take, drop, Some, slice_get, append_assoc, refl, sym, ◌∙◌, ap, arith}
 use Rattle.std.proofs.lemmas.Bool.{eqb-true, eq-eqb}
@@ -50,7 +50,7 @@ grouped_after x (y ∷ ys) = elim (y.label.0 == x.label.0) as (λ b. (y.label.0 
           ∙ ap (λ (gs : List Group). let g : Group = (x.label, x.item ∷ []) in g ∷ gs) (sym rest)
     ] refl
 
--- so the first group is what leads with the first label
+-- the first group is the items at the front that have the first label
 pub grouped_cut : (x : LabelledItem) (rest : List LabelledItem) (n : ℕ)
     → n ≡ leading_with x.label (x ∷ rest)
     → groups_of (x ∷ rest) ≡ (x.label, items_in (take n (x ∷ rest))) ∷ groups_of (drop n (x ∷ rest))
@@ -62,7 +62,7 @@ grouped_cut x rest n is =
     ∙ ap (λ (m : ℕ). (let g : Group = (x.label, items_in (take m (x ∷ rest))) in g)
     ∷ groups_of (drop m (x ∷ rest))) long
 
--- one group goes from the rest to the groups so far
+-- one turn moves a group from the rest to the groups so far
 pub group_passed : (all rest : List LabelledItem) (x : LabelledItem) (n : ℕ)
     (before after : List Group) (its : List Item)
     (front others : List LabelledItem) → Some x ≡ slice_get rest 0 → n ≡ leading_with x.label rest

@@ -1,5 +1,5 @@
--- The groups of items that rise by label are the items by label: those of one label are one group,
--- and a stable sort leaves them in their order.
+-- The groups of items sorted by label are the items by label, since the items of each label are
+-- neighbours and so one group, and a stable sort keeps their order.
 use Rattle.std.proofs.Common.{◌≡◌, ℕ, ◌==◌, ◌<◌, ◌≤◌, ◌||◌, suc, Bool, true, false, cond, List, []}
 use Rattle.std.proofs.Common.{◌∷◌, map, filter, length, get_or, Option, Some, None, option_map}
 use Rattle.std.proofs.Common.{refl, sym, ◌∙◌, ap, arith}
@@ -154,7 +154,7 @@ held_later x xs (g ∷ gs) above all =
       held_later x xs gs above.1 all.1,
     )
 
--- an item whose label no later one has
+-- an item whose label no later item has is the only item of its label
 alone : (x : LabelledItem) (xs : List LabelledItem) → list_any (is_with x.label) xs ≡ false
     → (x.item ∷ []) ≡ items_in (filter (is_with x.label) (x ∷ xs))
 alone x xs none =

@@ -1,5 +1,5 @@
--- A key says which item has it: a hidden send is found by its receive, which no other repeats, and
--- an event by its place. So two items of one key are one.
+-- A key says which item has it: it finds a hidden send by its receive, which no other receive
+-- repeats, and an event by its place. So two items with the same key are the same.
 use Rattle.std.proofs.Common.{◌≡◌, ℕ, ◌+◌, ◌-◌, ◌==◌, Bool, true, false, cond, if◌then◌else◌, List}
 use Rattle.std.proofs.Common.{[], ◌∷◌, drop}
 use Rattle.std.proofs.Common.{Option, Some, None, option_map, suc, refl, sym, ◌∙◌, ap, arith}
@@ -75,7 +75,7 @@ pub record IsKeyed (streams : List Stream) (x : Item) : Type 0 where
   pub given : key streams x ≡ Some its
   pub found : item_at streams its ≡ Some x
 
--- x and y are there, with one key
+-- x and y have the same key
 abbrev pub same_key : List Stream → Item → Item → Bool
 same_key streams x y = elim (key streams x) [
   | None ↦ false
@@ -112,7 +112,7 @@ less_from Less a b = refl
 less_from Equal a b = absurd (cc)
 less_from Greater a b = absurd (cc)
 
--- of two keys that differ, the one that isn't below the other is above it
+-- if two keys differ and y's isn't below x's, x's is below y's
 pub before_from : (streams : List Stream) (x y : Item) → IsKeyed streams x → IsKeyed streams y
     → same_key streams x y ≡ false → comes_before streams y x ≡ false
     → comes_before streams x y ≡ true
@@ -199,7 +199,7 @@ chain_of (Some k) (Some l) (Some m) h g =
     ap is_lt (key_total.trans k l m (is_lt-true (key_cmp k l) h) (is_lt-true (key_cmp l m) g))
 chain_of a b c h g = absurd (cc)
 
--- of two items one at most comes before the other
+-- at most one of two items comes before the other
 pub one_way : (streams : List Stream) (x y : Item) → comes_before streams x y ≡ true
     → comes_before streams y x ≡ true → ⊥
 one_way streams x y h g = one_way_of (key streams x) (key streams y) h g

@@ -1,4 +1,4 @@
--- The lemmas; what upper crates may cite is in `ForCallers`.
+-- The lemmas; upper crates may cite those in `ForCallers`.
 pub mod Lists
 pub mod ListedEvents
 pub mod SingleReceives

@@ -1,5 +1,5 @@
 -- In streams whose pids rise the events of a listed process are those of its stream, since no
--- earlier one has its pid.
+-- earlier stream has its pid.
 use Rattle.std.proofs.Common.{◌≡◌, ℕ, zero, suc, Bool, cond, List, [], ◌∷◌, drop, slice_get, Some}
 use Rattle.std.proofs.Common.{None, ◌∙◌, ap}
 use Rattle.std.specs.List.{AllByRecursion}
@@ -8,7 +8,7 @@ use Rattle.st_core.specs.Run.{Stream, pids_of}
 use Rattle.st_core.specs.Streams.{stream_of, events_of}
 use Rattle.st_core.proofs.ForCallers.{pid_eq-same, IsBelow-apart}
 
--- what is left from an index on begins with the element there
+-- the rest of a list from an index on begins with the element there
 pub drop_front : {A : Type 0} (xs : List A) (i : ℕ) (x : A) (rest : List A) → drop i xs ≡ x ∷ rest
     → (slice_get xs i ≡ Some x) × (drop (suc i) xs ≡ rest)
 drop_front [] zero x rest h = absurd (cc)
@@ -16,7 +16,7 @@ drop_front [] (suc i) x rest h = absurd (cc)
 drop_front (y ∷ xs) zero x rest h = (ap (λ l. slice_get l 0) h, ap (drop 1) h)
 drop_front (y ∷ xs) (suc i) x rest h = drop_front xs i x rest h
 
--- the events of each of these processes are found among all
+-- the events that `all` has of each of these processes are those of its stream
 abbrev pub AreFound : List Stream → List Stream → Type 0
 AreFound all some = AllByRecursion (λ (s : Stream). events_of all s.pid ≡ s.events) some
 

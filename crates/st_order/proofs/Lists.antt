@@ -1,4 +1,5 @@
--- A fact of each element, along lists that are joined, cut and moved: by induction on the list.
+-- A fact about each element stays true of lists that are joined, cut and moved, by induction on
+-- the list.
 use Rattle.std.proofs.Common.{◌≡◌, ℕ, suc, Bool, false, List, [], ◌∷◌, ◌++◌, take}
 use Rattle.std.specs.List.{AllByRecursion, IsDistinct}
 use Rattle.std.specs.List.Sorted.{IsPermutation}
@@ -37,7 +38,7 @@ pub all_both : {A : Type 0} (P Q : A → Type 0) (xs : List A)
 all_both P Q [] a b = tt
 all_both P Q (x ∷ xs) a b = ((a.0, b.0), all_both P Q xs a.1 b.1)
 
--- what holds of each of the first with each of the second
+-- R holds of each x in xs with each y in ys, if it follows from P of x and Q of y
 pub all_crossed : {A : Type 0} (P Q : A → Type 0) (R : A → A → Type 0) (xs ys : List A)
     → ((x y : A) → P x → Q y → R x y) → AllByRecursion P xs → AllByRecursion Q ys
     → AllByRecursion (λ x. AllByRecursion (R x) ys) xs

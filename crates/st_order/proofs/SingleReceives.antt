@@ -1,6 +1,6 @@
--- If no receive repeats another, each receive is the first from its sender with its count: a first
--- one that is another would be a repeat, and there is a first one, since the receive itself is
--- there.
+-- If no receive repeats another, each receive is the first from its sender with its count: there
+-- is a first one, since the receive itself is there, and if the first were another receive, one of
+-- the two would be a repeat.
 use Rattle.std.proofs.Common.{◌≡◌, ℕ, ◌==◌, ◌&&◌, ◌||◌, true, false, cond, List, Some, None}
 use Rattle.std.proofs.Common.{option_and_then, refl, sym, ◌∙◌, ap, if◌then◌else◌}
 use Rattle.std.proofs.lemmas.Bool.{eqb-true, eq-eqb, and_parts, and_from}

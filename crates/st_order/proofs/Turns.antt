@@ -1,7 +1,7 @@
--- Where stamps lead, the keys of a process's events rise by index: a height never falls, and an
--- event at the height of the one before it is a receive, whose rank is the greater and whose place
--- is later. So the events among an order and the events among the items are two rising lists with
--- the same members.
+-- If stamps lead, the keys of a process's events rise by index: a height never falls, and an event
+-- at the height of the event before it is a receive, whose rank is no lower and whose place is
+-- later. So a process's events in the order and its events among the items are two rising lists
+-- with the same members.
 use Rattle.std.proofs.Common.{◌≡◌, ℕ, zero, suc, ◌+◌, ◌<◌, ◌≤◌, Bool, true, false, cond}
 use Rattle.std.proofs.Common.{if◌then◌else◌, inl, inr, List, [], ◌∷◌, ◌++◌, map, take, length}
 use Rattle.std.proofs.Common.{filter, Some, option_map, slice_get, refl, sym, ◌∙◌, ap, subst, arith}
@@ -32,7 +32,7 @@ use Rattle.st_order.proofs.OneOrder.{Among, members, same_rising}
 
 -- KEYS
 
--- k's numbers are below l's, of one pid
+-- k and l have the same pid, and k's height, rank and place make it come before l
 record IsUnder (k l : Key) : Type 0 where
   height : k.height ≤ l.height
   rank : k.height ≡ l.height → k.rank ≤ l.rank
@@ -64,7 +64,7 @@ under_less k l u =
 
 -- HEIGHTS
 
--- the greatest count of the first n
+-- the greatest count of the first n events
 abbrev pub tallest : List Event → ℕ → ℕ
 tallest es n = greatest (map (λ e. e.serial.this) (take n es))
 
@@ -196,7 +196,7 @@ module _ (all : List Stream) (p : Pid) where
       (no_items s.pid 0 s.events (pid_eq-swap s.pid p ∙ IsBelow-apart p s.pid above.0))
       ∙ none_above rest above.1
 
-  -- the events of p among some streams that rise
+  -- p's events among the items of streams whose pids rise are in turn
   items_turn : (some : List Stream) → IsRising (pids_of some)
       → filter (is_event_of p) (items_among all some) ≡ in_turn p 0 (length (events_of some p))
   items_turn [] rising = refl

@@ -1,5 +1,5 @@
--- The items of streams: each event, and for each receive whose send nobody reported that hidden
--- send (own profile).
+-- The items of streams: each event, and each hidden send, which is the unreported send of a
+-- reported receive (own profile).
 use Rattle.std.specs.Prelude.{ℕ, ◌+◌, max, Bool, true, false, List, [], ◌∷◌, ◌++◌, map, take}
 use Rattle.std.specs.Prelude.{Option, if◌then◌else◌}
 use Rattle.st_core.specs.declared.types.Pid.{Pid}
@@ -12,12 +12,12 @@ use Rattle.st_pair.specs.Pairing.{source_of}
 use Rattle.st_order.specs.declared.item.Item.{Item}
 use Rattle.st_order.specs.declared.item.Item.TheVariants as item
 
--- the greatest of these numbers, 0 of none
+-- the greatest of these numbers, 0 if there are none
 abbrev pub greatest : List ℕ → ℕ
 greatest [] = 0
 greatest (x ∷ xs) = max x (greatest xs)
 
--- the greatest count among the events 0 to i of p
+-- p's height at index i: the greatest count among its events 0 to i
 abbrev pub height : List Stream → Pid → ℕ → ℕ
 height streams p i = greatest (map (λ e. e.serial.this) (take (i + 1) (events_of streams p)))
 
@@ -28,17 +28,17 @@ is_hidden streams e = if is_stamp e then false else elim (source_of streams e) [
   | source.Event q j ↦ false
 ]
 
--- what is at a place: its event, and before it the hidden send of a receive that has one
+-- the items at a place: its event, and before it the event's hidden send, if there is one
 abbrev pub items_at : List Stream → Pid → ℕ → Event → List Item
 items_at streams p i e =
     if is_hidden streams e then item.Hidden p i ∷ item.Reported p i ∷ [] else item.Reported p i ∷ []
 
--- what is at the places of these events of p, from index i on
+-- the items at the places of these events of p, from index i on
 abbrev pub items_from : List Stream → Pid → ℕ → List Event → List Item
 items_from streams p i [] = []
 items_from streams p i (e ∷ es) = items_at streams p i e ++ items_from streams p (i + 1) es
 
--- what is at the places of some of all streams
+-- the items of some of all streams
 abbrev pub items_among : List Stream → List Stream → List Item
 items_among all [] = []
 items_among all (s ∷ rest) = items_from all s.pid 0 s.events ++ items_among all rest
@@ -47,13 +47,13 @@ items_among all (s ∷ rest) = items_from all s.pid 0 s.events ++ items_among al
 abbrev pub items : List Stream → List Item
 items streams = items_among streams streams
 
--- where an item is in the streams: a hidden send where its receive is
+-- the place of an item in the streams: a hidden send is at its receive's place
 abbrev pub item_place : Item → Pid × ℕ
 item_place (item.Reported p i) = (p, i)
 item_place (item.Hidden p i) = (p, i)
 
--- the event that an item is about: of a hidden send its receive; none if nothing is at the
--- item's place
+-- the event that an item is about, which for a hidden send is its receive; none if no event is at
+-- the item's place
 abbrev pub event_of : List Stream → Item → Option Event
 event_of streams (item.Reported p i) = event_at streams p i
 event_of streams (item.Hidden p i) = event_at streams p i

@@ -7,7 +7,7 @@ use Rattle.st_core.specs.Run.{Stream}
 use Rattle.st_order.specs.declared.item.Item.{Item}
 use Rattle.st_order.specs.Items.{event_of}
 
--- the label of the event that an item is about; none if nothing is at the item's place
+-- the label of the event that an item is about; none if no event is at the item's place
 abbrev pub label_of : List Stream → Item → Option Label
 label_of streams x = option_map (λ e. e.label) (event_of streams x)
 
@@ -16,7 +16,7 @@ abbrev pub item_has_label : List Stream → Label → Item → Bool
 item_has_label streams label x =
     elim (label_of streams x) [ None ↦ false | Some l ↦ l.0 == label.0 ]
 
--- the labels rise strictly: the first is below each of the others, and these rise
+-- the labels rise strictly: the first is below all the others, and the others rise
 abbrev pub LabelsRise : List (Label × List Item) → Type 0
 LabelsRise [] = Unit {0}
 LabelsRise (g ∷ gs) = AllByRecursion (λ h. g.0.0 < h.0.0) gs × LabelsRise gs

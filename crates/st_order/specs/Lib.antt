@@ -1,10 +1,10 @@
--- The items of streams, in one order, by label, and in each process. Public contracts cite
--- these four.
+-- The items of streams, their one order, their groups by label, and their turn in each process.
+-- Public contracts cite these four.
 pub mod Items
 pub mod Order
 pub mod Labels
 pub mod Turn
--- For the parts alone: of `src/row.rt`, of `src/sorting.rt` and of `src/labels.rt`.
+-- Only the contracts of `src/row.rt`, `src/sorting.rt` and `src/labels.rt` cite these three.
 pub mod Row
 pub mod Sorting
 pub mod Groups

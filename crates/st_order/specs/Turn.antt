@@ -1,5 +1,4 @@
--- Words for the law of turns: a process's events as items, one after another, and when the order
--- keeps them so.
+-- Definitions for the law of turns, by which the order lists a process's events one after another.
 use Rattle.std.specs.Prelude.{◌≡◌, ℕ, ◌<◌, Bool, true, false, List, map, Some}
 use Rattle.std.specs.List.{range_with_len}
 use Rattle.st_core.specs.declared.types.Pid.{Pid}
@@ -19,7 +18,7 @@ is_event_of p (item.Hidden q i) = false
 abbrev pub in_turn : Pid → ℕ → ℕ → List Item
 in_turn p i n = map (λ k. item.Reported p k) (range_with_len i n)
 
--- each send and print of p counts more than every event of p before it
+-- each send and print of p has a greater count than every event of p before it
 abbrev pub StampsLead : List Stream → Pid → Type 0
 StampsLead streams p = (j i : ℕ) (d e : Event) → j < i → event_at streams p j ≡ Some d
     → event_at streams p i ≡ Some e

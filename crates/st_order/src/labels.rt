@@ -18,7 +18,6 @@ pub struct LabelledItem {
     pub item: Item,
 }
 
-/// The label of the event that an item is about; none if no event is at the item's place.
 fn label_of(streams: &Streams, item: Item) -> Option<Label>
     ensures { result ≡ label_of streams.now item }
 {
@@ -28,7 +27,7 @@ fn label_of(streams: &Streams, item: Item) -> Option<Label>
     }
 }
 
-/// The items that are there, each with its label.
+/// Returns the items at whose places there are events, each with its label.
 fn with_labels(
     alloc: Global,
     streams: &Streams,
@@ -45,7 +44,6 @@ fn with_labels(
     Ok(labelled)
 }
 
-/// How many at the front have this label.
 fn leading_with(labelled: &[LabelledItem], label: Label) -> usize
     ensures count { result ≡ leading_with label labelled.now }
     ensures within { result ≤ length labelled.now }
@@ -68,7 +66,6 @@ fn items_of(alloc: Global, labelled: &[LabelledItem]) -> Result<Sequence<Item>, 
     Ok(Sequence::from_vec(items))
 }
 
-/// The groups of neighbours with one label, each with its label.
 fn groups_of(
     alloc: Global,
     labelled: &[LabelledItem],
@@ -89,9 +86,9 @@ fn groups_of(
     Ok(groups)
 }
 
-/// For each label that an item has, by rising label, the items that have it, in their order. It is
-/// sorted on several threads, and the result doesn't depend on how many. An item at whose place
-/// there is no event has no label and is left out: an item of these streams never is.
+/// Returns for each label that an item has, by rising label, the items that have it, in their
+/// order. It sorts on several threads, and the result doesn't depend on their number. An item at
+/// whose place the streams have no event has no label and is left out.
 pub fn by_label(
     rt: &(impl Threads + Sync),
     alloc: Global,

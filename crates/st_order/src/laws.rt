@@ -12,23 +12,23 @@ ghost use Rattle.st_order.specs.declared.item.Item.{Item};
 ghost use Rattle.st_order.specs.Order.{IsOrder, order};
 ghost use Rattle.st_order.specs.Turn.{StampsLead, in_turn, is_event_of};
 
-/// There is one order at most: so `order` returns the same list for every number of threads.
+/// There is at most one order, so `order` returns the same list for every number of threads.
 pub fn one_order()
     ensures { (streams : List Stream) (xs ys : List Item) → IsOrder streams xs → IsOrder streams ys
         → xs ≡ ys }
 {}
 
-/// If no two receives have one sender and one count there is an order, the computed one. Else two
-/// hidden sends could share a key.
+/// If no two receives have the same sender and count, there is an order: the computed one.
+/// Otherwise two hidden sends could have the same key.
 pub fn an_order()
     ensures { (streams : List Stream) → IsRising (pids_of streams)
         → first (repeated streams) streams ≡ None
         → IsOrder streams (order streams) }
 {}
 
-/// If each send and print of a process counts more than all its events before it, the order lists
-/// the process's events by rising index, none missing: heights never fall, and if one stays, a
-/// receive follows.
+/// If each send and print of a process has a greater count than all its events before it, the
+/// order lists all the process's events by rising index: heights never fall, and one stays only at
+/// a receive.
 pub fn leading_stamps_keep_turn()
     ensures { (streams : List Stream) (xs : List Item) (p : Pid) → IsRising (pids_of streams)
         → IsOrder streams xs → StampsLead streams p

@@ -1,10 +1,10 @@
-//! One order of the events and hidden sends of all processes, and by label.
+//! One order of the events and hidden sends of all processes, and lists of them by label.
 //!
-//! Each event is an item, and so is the hidden send of each receive whose send nobody reported.
-//! `order` lists all items by rising key: if a run without a reset reports the streams, nothing
-//! comes before its cause, and the list depends on the streams alone, however many threads sorted
-//! it. `by_label` splits a list of items by label. This crate takes a pairing as `st_pair` made it,
-//! and knows no acts and no text.
+//! Each event is an item, and so is each hidden send, which is the unreported send of a reported
+//! receive. `order` lists all items by rising key: if a run without a reset reports the streams,
+//! nothing comes before its cause, and the list depends on the streams alone, however many threads
+//! sort it. `by_label` splits a list of items by label. This crate takes the pairing that
+//! `st_pair` makes, and knows neither acts nor text.
 #![tactic(auto)]
 
 mod item;

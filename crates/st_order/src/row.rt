@@ -19,18 +19,18 @@ pub struct ItemRow {
     pub height: u64,
     /// 1 for a receive, else 0.
     pub rank: u8,
-    /// Who reported the event, or sent.
+    /// The process that reported the event, or that sent.
     pub pid: Pid,
-    /// Whether the item is an event. A hidden send comes before its sender's events.
+    /// True if the item is an event. A hidden send comes before its sender's events.
     pub reported: bool,
-    /// In whose stream the event, or the hidden send's receive, is.
+    /// The process in whose stream the event, or the hidden send's receive, is.
     pub reporter: Pid,
-    /// Its index there.
+    /// The index of the event or the receive in that stream.
     pub index: u64,
 }
 
 impl ItemRow {
-    /// The item of the row.
+    /// Returns the item of the row.
     pub fn item(&self) -> Item
         ensures { result ≡ item_of self.now }
     {
@@ -42,7 +42,6 @@ impl ItemRow {
     }
 }
 
-/// The row of an event whose greatest count so far is this.
 fn reported_row(pid: Pid, index: u64, height: u64, event: &Event) -> ItemRow
     ensures { result ≡ reported_row pid index height event.now }
 {
@@ -60,7 +59,6 @@ fn reported_row(pid: Pid, index: u64, height: u64, event: &Event) -> ItemRow
     }
 }
 
-/// The row of the hidden send of a receive.
 fn hidden_row(pid: Pid, index: u64, event: &Event) -> ItemRow
     ensures { result ≡ hidden_row pid index event.now }
 {
@@ -74,7 +72,6 @@ fn hidden_row(pid: Pid, index: u64, event: &Event) -> ItemRow
     }
 }
 
-/// Whether the event at this place is a receive of a hidden send.
 fn is_hidden(streams: &Streams, pairing: &Pairing, pid: Pid, index: u64, event: &Event) -> bool
     requires pairing { IsPairing streams.now pairing.now }
     requires event { slice_get (events_of streams.now pid) index ≡ Some event.now }
@@ -89,7 +86,6 @@ fn is_hidden(streams: &Streams, pairing: &Pairing, pid: Pid, index: u64, event: 
     }
 }
 
-/// How many hidden sends the receives of one process have.
 fn hidden_count(streams: &Streams, pairing: &Pairing, pid: Pid, events: &[Event]) -> usize
     requires pairing { IsPairing streams.now pairing.now }
     requires events { events.now ≡ events_of streams.now pid }
@@ -104,7 +100,7 @@ fn hidden_count(streams: &Streams, pairing: &Pairing, pid: Pid, events: &[Event]
     count
 }
 
-/// For how many rows there is to be room: for all of them. No contract speaks of room.
+/// Counts all rows, so that `rows` makes room for them at once. No contract speaks of room.
 fn room(streams: &Streams, pairing: &Pairing) -> usize
     requires { IsPairing streams.now pairing.now }
 {
@@ -115,7 +111,7 @@ fn room(streams: &Streams, pairing: &Pairing) -> usize
     room
 }
 
-/// Puts the rows of one process at the end.
+/// Adds the rows of one process at the end.
 fn put_rows(
     rows: &mut Vec<ItemRow>,
     streams: &Streams,
@@ -139,7 +135,7 @@ fn put_rows(
     Ok(())
 }
 
-/// The rows of all items, place by place.
+/// Returns the rows of all items, place by place.
 pub fn rows(alloc: Global, streams: &Streams, pairing: &Pairing) -> Result<Vec<ItemRow>, AllocError>
     requires { IsPairing streams.now pairing.now }
     ensures rows { IfOk result (λ made. made.items ≡ rows streams.now streams.now) }

@@ -1,4 +1,4 @@
--- The first group goes from the rest to the groups so far.
+-- Each turn of the loop moves the first group of the rest to the groups so far.
 use Rattle.st_order.proofs.FirstGroups.{group_passed}
 use Rattle.st_order.proofs.labels.groups_of.Goals as goal
 

@@ -1,4 +1,5 @@
--- The groups so far with those of the rest come to all, and each takes one item at least.
+-- The groups so far and those of the rest make up all groups, and each group takes at least one
+-- item.
 use Rattle.std.proofs.Common.{◌≡◌, ◌++◌, length}
 use Rattle.st_order.specs.Groups.{groups_of}
 use Rattle.st_order.proofs.labels.groups_of.Given as goal

@@ -1,4 +1,4 @@
--- So far the items of the front are there.
+-- The list has the items at the front, up to the loop's index.
 use Rattle.std.proofs.Common.{◌≡◌, map, take}
 use Rattle.st_order.proofs.labels.items_of.Given as goal
 

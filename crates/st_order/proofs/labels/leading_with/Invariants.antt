@@ -1,4 +1,4 @@
--- All before the loop's index have the label, so what leads in the rest is counted from there.
+-- All items before the loop's index have the label, so the count goes on from the index.
 use Rattle.std.proofs.Common.{◌≡◌, ◌+◌, drop}
 use Rattle.st_order.specs.Groups.{leading_with}
 use Rattle.st_order.proofs.labels.leading_with.Given as goal

@@ -1,4 +1,4 @@
--- Those so far with those of the items that are left come to all.
+-- The labelled items so far and those of the items that are left make up all labelled items.
 use Rattle.std.proofs.Common.{◌≡◌, ◌++◌, drop}
 use Rattle.std.specs.List.{filter_map}
 use Rattle.st_order.specs.Groups.{with_label}

@@ -1,4 +1,4 @@
--- So far those of the front are counted, and no more than it has.
+-- The count is that of the hidden sends so far, and is at most the number of events so far.
 use Rattle.std.proofs.Common.{◌≡◌, ◌≤◌, count_by, take}
 use Rattle.st_order.specs.Items.{is_hidden}
 use Rattle.st_order.proofs.row.hidden_count.Given as goal

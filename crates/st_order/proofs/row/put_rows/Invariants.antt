@@ -1,4 +1,5 @@
--- The rows so far with those of what is left come to the rows at first with all.
+-- The rows so far and those of the events that are left make up the rows before the call and those
+-- of all events.
 use Rattle.std.proofs.Common.{◌≡◌, ◌++◌, drop}
 use Rattle.st_order.specs.Row.{rows_from}
 use Rattle.st_order.proofs.row.put_rows.Given as goal

@@ -1,4 +1,4 @@
--- One turn moves the rows of one process.
+-- Each turn of the loop moves the rows of one process from what is left to the rows so far.
 use Rattle.st_order.proofs.PassedRows.{rows_passed}
 use Rattle.st_order.proofs.row.rows.Goals as goal
 

@@ -1,4 +1,4 @@
--- The rows so far with those of the processes that are left come to all rows.
+-- The rows so far and those of the processes that are left make up all rows.
 use Rattle.std.proofs.Common.{◌≡◌, ◌++◌, drop}
 use Rattle.st_order.specs.Row.{rows}
 use Rattle.st_order.proofs.row.rows.Given as goal
