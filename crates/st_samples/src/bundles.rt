@@ -1,6 +1,6 @@
 //! Texts of bundles.
 
-/// A send of 30 and its receive by 31.
+/// A send from process 30 and its receive by process 31.
 pub const ONE_MESSAGE: &str = "seqtrace 1\n\
     process <0.30.0>\n\
     {seq_trace,17,{send,{0,1},<0.30.0>,<0.31.0>,5}}\n\

@@ -1,7 +1,8 @@
 //! Samples for the tests of several crates: texts of bundles, and two processes.
 //!
-//! A text that the tests of one crate alone take is there. So do the helpers that assert, even
-//! if two crates have the same: they end the process, and only tests may.
+//! A text that only one crate's tests take is in that crate. Helpers that assert are in each crate
+//! that needs them, even if two crates have the same, since they end the process, which only tests
+//! may do.
 #![tactic(auto)]
 
 mod bundles;
