@@ -5,8 +5,8 @@ use std::alloc::Global;
 use std::fmt::Debug;
 use std::process::Abort;
 
-/// Asserts that a value is the wanted one. A test that calls this is proved in a fourth of the time
-/// that it takes if it writes `assert_eq!` itself.
+/// Asserts that a value is the wanted one. A test that calls `same` is proved in a quarter of the
+/// time of one that writes `assert_eq!` itself.
 pub(crate) fn same<T: PartialEq + Debug>(rt: &impl Abort, found: &T, wanted: &T) {
     assert_eq!(rt; found, wanted);
 }

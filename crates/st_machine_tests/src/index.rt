@@ -10,7 +10,7 @@ use st_samples::{p30, p31};
 use std::alloc::{AllocError, Global};
 use std::test::Fail;
 
-/// A message of this value, with a token of its sender that has this own count.
+/// Returns a message with this value and a token that its sender stamped with this count.
 fn stamped_message(from: Pid, value: u64, this: u64) -> Message {
     let mut token = Token::made_by(from);
     token.serial = Serial { prev: 0, this };
@@ -21,7 +21,7 @@ fn stamped_message(from: Pid, value: u64, this: u64) -> Message {
     }
 }
 
-/// The index with one message more.
+/// Adds a message to the index.
 fn index_with(mut index: Index, message: &Message) -> Result<Index, AllocError>
     requires index { IsIndex index }
     requires room { 0 < room index }
@@ -33,7 +33,8 @@ fn index_with(mut index: Index, message: &Message) -> Result<Index, AllocError>
     Ok(index)
 }
 
-/// An index of 8 and 9 from 30, and 8 from 31, whose stamps are 6, 7 and 7, by these keys.
+/// Returns an index by these keys of the messages 8 and 9 from process 30, and 8 from process 31,
+/// whose stamps are 6, 7 and 7.
 fn index_of_three(alloc: Global, keys: Keys) -> Result<Index, AllocError>
     ensures index { IfOk result (λ index. IsIndex index) }
     ensures keys { IfOk result (λ index. keys_of index ≡ keys) }

@@ -8,7 +8,7 @@ use std::alloc::{AllocError, Global};
 use std::process::Abort;
 use std::test::Fail;
 
-/// Two empty lists. If memory runs out, the second try succeeds.
+/// Makes two empty lists. If memory runs out, the second try succeeds.
 fn two_at_last(alloc: Global) -> Result<Lists<u64>, AllocError>
     ensures { IfOk result (λ arena. length arena.lists ≡ 2) }
 {
@@ -28,8 +28,8 @@ fn push_at_last<R: Abort>(rt: &R, lists: &mut Lists<u64>, item: u64)
     }
 }
 
-// No machine has this much room. That a push which failed may be asked again is seen if this test
-// runs with an allocation that fails.
+// No machine has room for `usize::MAX` items. The test shows that a push that failed may be asked
+// again if it runs with an allocation that fails.
 #[test]
 fn a_push_without_memory_may_be_asked_again(rt: HostRuntime) -> Result<(), Fail> {
     let mut lists = two_at_last(rt.alloc())?;
@@ -41,7 +41,7 @@ fn a_push_without_memory_may_be_asked_again(rt: HostRuntime) -> Result<(), Fail>
     Ok(())
 }
 
-/// Pushes this many items, 0, 1 and so on, on list 1.
+/// Pushes the items 0, 1 and so on, `count` in all, onto list 1.
 fn fill<R: Abort>(rt: &R, lists: &mut Lists<u64>, count: u64)
     requires { 1 < length lists.old.lists }
     ensures { length lists.new.lists ≡ length lists.old.lists }
@@ -51,8 +51,8 @@ fn fill<R: Abort>(rt: &R, lists: &mut Lists<u64>, count: u64)
     }
 }
 
-// There is room for the items before the first push, so it is a ladder's memory alone that can be
-// refused, if this test runs with an allocation that fails.
+// The lists have room for the items before the first push, so only memory for a ladder can be
+// refused, if the test runs with an allocation that fails.
 #[test]
 fn a_list_without_memory_keeps_its_items(rt: HostRuntime) -> Result<(), Fail> {
     let mut lists = two_at_last(rt.alloc())?;

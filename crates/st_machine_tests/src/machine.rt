@@ -1,5 +1,5 @@
-//! Tests of what no clause says: that each call succeeds with ample memory. A call that fails fails
-//! its test; what comes back if memory runs out is `machine/refusals`'s.
+//! Tests of what no clause says: each call succeeds with ample memory. A call that fails fails its
+//! test; `machine/refusals` has what comes back if memory runs out.
 
 mod devices;
 mod refusals;
@@ -8,10 +8,10 @@ use st_core::{Draft, Event, Kind, Label, Pid, Sequence, Serial};
 use st_samples::p31;
 use std::test::Fail;
 
-/// Enough of anything that a body which gives up early, or has room for a few alone, is seen.
+/// A count so high that a test sees a body that gives up early, or has room for only a few.
 const MANY: u64 = 100_000;
 
-/// A print of label 17 with serial {0,1} and value 5.
+/// Returns a print with label 17, serial {0,1} and value 5.
 fn print(from: Pid) -> Event {
     Event {
         label: Label(17),
@@ -37,7 +37,7 @@ fn a_sequence_keeps_many_items(rt: HostRuntime) -> Result<(), Fail> {
 #[test]
 fn streams_hold_many_processes_and_events(rt: HostRuntime) -> Result<(), Fail> {
     let mut draft = Draft::new(rt.alloc());
-    // More than there are slots to guess a place by, so that many pids share one.
+    // Opens more processes than there are slots for guesses, so many pids share a slot.
     for number in 0..5_000 {
         draft.open(Pid::new(number))?;
     }

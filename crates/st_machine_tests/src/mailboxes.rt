@@ -10,7 +10,7 @@ use std::alloc::{AllocError, Global};
 use std::process::Abort;
 use std::test::Fail;
 
-/// A message of 30 with this value and no token.
+/// Returns a message from process 30 with this value and no token.
 fn plain_message(value: u64) -> Message {
     Message {
         from: p30(),
@@ -19,7 +19,7 @@ fn plain_message(value: u64) -> Message {
     }
 }
 
-/// Two empty mailboxes. If memory runs out, the second try succeeds.
+/// Makes two empty mailboxes. If memory runs out, the second try succeeds.
 fn two_at_last(alloc: Global) -> Result<Mailboxes, AllocError>
     ensures { IfOk result (λ mail. length mail.boxes ≡ 2) }
 {
@@ -29,7 +29,7 @@ fn two_at_last(alloc: Global) -> Result<Mailboxes, AllocError>
     }
 }
 
-/// Puts a message of this value into mailbox 1. If memory runs out, the second try succeeds.
+/// Puts a message with this value into mailbox 1. If memory runs out, the second try succeeds.
 fn put_at_last(rt: &impl Abort, mail: &mut Mailboxes, value: u64)
     requires { 1 < length mail.old.boxes }
     ensures { length mail.new.boxes ≡ length mail.old.boxes }
@@ -39,8 +39,8 @@ fn put_at_last(rt: &impl Abort, mail: &mut Mailboxes, value: u64)
     }
 }
 
-// No machine has this much room. That a put which failed may be asked again is seen if this test
-// runs with an allocation that fails.
+// No machine has room for `usize::MAX` messages. The test shows that a put that failed may be
+// asked again if it runs with an allocation that fails.
 #[test]
 fn a_put_without_memory_may_be_asked_again(rt: HostRuntime) -> Result<(), Fail> {
     let mut mail = two_at_last(rt.alloc())?;

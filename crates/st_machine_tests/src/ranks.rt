@@ -1,4 +1,4 @@
-//! As many slots as a long queue has, and more than there is memory for.
+//! Ranks of as many slots as a long queue has, and of more slots than there is memory for.
 
 use crate::helpers::same;
 use st_arena::Ranks;
@@ -11,7 +11,7 @@ fn a_hundred_thousand_slots_are_live(rt: HostRuntime) -> Result<(), Fail> {
     Ok(())
 }
 
-// No machine has this much memory.
+// No machine has memory for more than 2^58 slots.
 #[test]
 fn too_many_slots_are_refused(rt: HostRuntime) {
     assert!(rt; Ranks::new(rt.alloc(), usize::MAX, 0).is_err());

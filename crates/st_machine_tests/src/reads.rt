@@ -1,5 +1,5 @@
-//! Reads for which memory runs out, and which succeed afterwards. That is seen
-//! if `rt try --test --fail-alloc N` fails the N-th allocation.
+//! Reads that fail because memory runs out, and succeed at the second try. They show it only if
+//! `rt try --test --fail-alloc N` fails the N-th allocation.
 
 use crate::helpers::{same, sink_at_last};
 use st_core::{MemorySink, MemorySource};
@@ -8,7 +8,7 @@ use st_text::{Bundle, Feed, ReadFault, read, write};
 use std::alloc::Global;
 use std::process::Abort;
 
-/// Asserts that the result is the certificate's bundle: it is written to the sink.
+/// Writes the result to the sink, and asserts that it is the certificate's bundle.
 fn assert_certificate(rt: &impl Abort, mut sink: MemorySink, answer: Result<Bundle, ReadFault>) {
     let Ok(bundle) = answer else {
         panic!(rt; "refused again");
@@ -35,7 +35,8 @@ fn a_read_without_memory_may_be_asked_again(rt: HostRuntime) {
     assert_certificate(&rt, sink, answer);
 }
 
-/// The outcome of the certificate in pieces. A feed that failed fails in the same way again.
+/// Reads the certificate in pieces, and asserts that a feed that failed fails in the same way
+/// again.
 fn read_in_pieces(rt: &impl Abort, alloc: Global) -> Result<Bundle, ReadFault> {
     let mut feed = Feed::new(alloc);
     for piece in HIDDEN_SENDS_CERTIFICATE.as_bytes().chunks(7) {

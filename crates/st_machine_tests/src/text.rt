@@ -1,4 +1,4 @@
-//! A worked text byte by byte, and that there is memory for what the limits let through.
+//! Reads a worked text byte by byte, and long texts for which there is memory.
 
 use crate::helpers::same;
 use st_core::{MemorySink, MemorySource};
@@ -8,7 +8,7 @@ use std::alloc::{AllocError, Global};
 use std::process::Abort;
 use std::test::Fail;
 
-/// Puts the line at the end n times.
+/// Adds the line at the end `times` times.
 fn put_lines(text: &mut Vec<u8>, line: &str, times: u64) -> Result<(), AllocError> {
     for _ in 0..times {
         text.extend_from_slice(line.as_bytes())?;
@@ -16,7 +16,7 @@ fn put_lines(text: &mut Vec<u8>, line: &str, times: u64) -> Result<(), AllocErro
     Ok(())
 }
 
-/// A text of 100,000 events and as many acts.
+/// Returns a text of 100,000 events and 100,000 acts.
 fn long_text(alloc: Global) -> Result<Vec<u8>, AllocError> {
     let event = "{seq_trace,0,{print,{0,1},<0.0.0>,[],0}}\n";
     let mut text = Vec::new(alloc);
@@ -27,7 +27,7 @@ fn long_text(alloc: Global) -> Result<Vec<u8>, AllocError> {
     Ok(text)
 }
 
-/// Asserts that the bundle has them.
+/// Asserts that the bundle has the 100,000 events and 100,000 acts.
 fn assert_long(rt: &impl Abort, bundle: &Bundle) {
     same(rt, &bundle.streams.total(), &100_000);
     let acts = bundle.acts.as_ref().map(|acts| acts.len());

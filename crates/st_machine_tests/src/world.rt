@@ -1,4 +1,4 @@
-//! A world after memory ran out. What a step returns and leaves is a clause.
+//! A world after memory ran out. Clauses say what a step returns and leaves.
 
 use crate::helpers::same;
 use st_core::{Act, Component, Label};
@@ -8,8 +8,8 @@ use std::alloc::Global;
 use std::process::Abort;
 use std::test::Fail;
 
-/// Two processes, the first with a token. If memory runs out the result says so, and the second try
-/// succeeds.
+/// Makes a world of two processes, the first with a token. If memory runs out, the first try says
+/// so and the second one succeeds.
 fn two_at_last(rt: &impl Abort, alloc: Global) -> Result<World<9>, Fail> {
     let pids = [p30(), p31()];
     let mut world = match World::new(alloc, &pids) {
@@ -31,7 +31,7 @@ fn send_at_last(rt: &impl Abort, world: &mut World<9>) {
     }
 }
 
-// Shows that a step may be asked again if it runs with an allocation that fails.
+// Shows that a step may be asked again, if the test runs with an allocation that fails.
 #[test]
 fn a_step_without_memory_may_be_asked_again(rt: HostRuntime) -> Result<(), Fail> {
     let mut world = two_at_last(&rt, rt.alloc())?;

@@ -1,4 +1,4 @@
-//! Devices, among them std's readers and writers, of whose errors no clause speaks.
+//! Devices, among them those over std's readers and writers, of whose errors no clause speaks.
 
 ghost use Rattle.std.specs.Prelude.{◌≤◌, IfOk};
 
@@ -6,7 +6,7 @@ use super::MANY;
 use st_core::{ByteSink, ByteSource, Failed, ReadFrom, Recorder, WriteTo};
 use std::io::{self, Error, ErrorKind, Read, Write};
 
-/// A reader and writer that passes three bytes a call at most, and errs at one of its calls.
+/// A reader and writer that passes at most three bytes a call, and fails at one of its calls.
 #[derive(Drop)]
 struct Unsteady {
     calls: u32,
@@ -15,7 +15,7 @@ struct Unsteady {
 }
 
 impl Unsteady {
-    /// Errs at this call, counted from 1, with such an error.
+    /// Returns a device that fails at this call, counted from 1, with an error of this kind.
     fn new(errs_at: u32, kind: ErrorKind) -> Unsteady {
         Unsteady {
             calls: 0,
@@ -24,7 +24,7 @@ impl Unsteady {
         }
     }
 
-    /// How much of a piece of n bytes this call passes.
+    /// Returns how many of n bytes this call passes.
     fn pass(&mut self, n: usize) -> io::Result<usize>
         ensures { IfOk result (λ passed. passed ≤ n) }
     {
@@ -54,7 +54,7 @@ impl Write for Unsteady {
     }
 }
 
-/// Errors that a reader or writer may give once and then work again.
+/// Errors after which a reader or writer may work again.
 const ERRORS: [ErrorKind; 2] = [ErrorKind::Interrupted, ErrorKind::BrokenPipe];
 
 #[test]
@@ -62,7 +62,7 @@ fn a_reader_that_errs_once_has_failed_for_good(rt: HostRuntime) {
     let mut piece = [0; 8];
     for kind in ERRORS {
         let mut source = ReadFrom::new(Unsteady::new(2, kind));
-        // Not a call of the reader.
+        // Doesn't call the reader.
         assert!(rt; source.take(&mut []) == Ok(0));
         assert!(rt; source.take(&mut piece) == Ok(3));
         // The reader would work again.

@@ -1,5 +1,5 @@
-//! Refusals if memory runs out, after which the next try may succeed. A test shows something
-//! only if an allocation fails: `rt try --test --fail-alloc N` fails the N-th of each.
+//! Refusals if memory runs out, after which the next try may succeed. A test shows something only
+//! if an allocation fails: `rt try --test --fail-alloc N` fails the N-th of each test.
 
 use super::{MANY, print};
 use crate::helpers::sink_at_last;

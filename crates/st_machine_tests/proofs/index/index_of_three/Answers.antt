@@ -1,4 +1,4 @@
--- A new index is one of the empty queue.
+-- A new index is an index of the empty queue.
 use Rattle.std.proofs.Common.{[]}
 use Rattle.st_machine_tests.proofs.index.index_of_three.Goals as goal
 

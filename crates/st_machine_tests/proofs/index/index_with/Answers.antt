@@ -1,4 +1,4 @@
--- An index of a queue is one of the queue with the message.
+-- An index that takes a message is an index of the queue with the message at its end.
 use Rattle.std.proofs.Common.{[], ◌∷◌, ◌++◌}
 use Rattle.st_machine_tests.proofs.index.index_with.Goals as goal
 

@@ -1,4 +1,4 @@
--- Both mailboxes are there.
+-- The loop's puts keep both mailboxes.
 use Rattle.std.proofs.Common.{◌≡◌, length}
 use Rattle.st_machine_tests.proofs.mailboxes.a_put_without_memory_may_be_asked_again.Given as goal
 
