@@ -1,6 +1,6 @@
--- Acts: what is read is spelled so, since each step of a reader moves a word or a field from the
--- rest to the front, until the front is the spelling of the value that it makes. The steps are
--- lemmas of `Fields`. And what is spelled so is read, word by word and field by field.
+-- Reading an act undoes its spelling, and reads no other bytes: each step of a reader moves a word
+-- or a field from the rest to the front, until the front is the spelling of the value that the
+-- reader makes. The steps are lemmas of `Fields`.
 use Rattle.std.proofs.Common.{◌≡◌, ℕ, List, ◌++◌, Some, refl, append_assoc}
 use Rattle.std.specs.Prelude.{codes, decimal}
 use Rattle.st_core.specs.declared.types.Flags.{Flags}

@@ -1,5 +1,5 @@
--- One more good line goes to the end of what the builder keeps, so that it keeps what all the lines
--- say.
+-- One more good line goes to the end of what the builder keeps, so the builder keeps what all the
+-- lines say.
 use Rattle.std.proofs.Common.{◌≡◌, ℕ, suc, ◌+◌, ◌-◌, Bool, true, false, ◌||◌, cond, List, [], ◌∷◌}
 use Rattle.std.proofs.Common.{◌++◌, length, map}
 use Rattle.std.proofs.Common.{Some, None, refl, sym, ap, subst, ◌∙◌, append_assoc, arith}

@@ -1,5 +1,5 @@
--- The lines are in the order of the streams and acts that are kept, so that the first that names an
--- unlisted pid is read off them.
+-- The lines are in the order of the kept streams and acts, so the first line that names an
+-- unlisted pid can be found in those.
 use Rattle.std.proofs.Common.{◌≡◌, ℕ, ◌+◌, ◌<◌, Bool, true, false, not, cond, ◌&&◌, ◌||◌, List, []}
 use Rattle.std.proofs.Common.{◌∷◌, ◌++◌, length, map, Option, Some, None, refl, sym, ap, subst, ◌∙◌}
 use Rattle.std.proofs.Common.{append_assoc, arith}
@@ -69,7 +69,8 @@ unknown_event all e = ap not
     by None = refl
     by (Some q) = and_true (is_among (pids_of all) q) ∙ sym (lists_is all q)
 
--- what an index makes of the lines from n on, which go on at the end
+-- the fault at an index of lines that begin at line n, or that of the later lines if there is no
+-- index
 abbrev pub place_or : Option ℕ → ℕ → Option ReadFault → Option ReadFault
 place_or None n later = later
 place_or (Some i) n later = Some (faults.Unknown (n + i))
@@ -122,7 +123,7 @@ events_stop all es n i rest e =
 
 -- ---- streams
 
--- no event names an unlisted pid, or the first that does is at this line, one of these
+-- no event names an unlisted pid, or the line of the first that does is one of these
 abbrev pub place_of : List Stream → ℕ → List Stream → List Line → Option (Pid × ℕ) → Type 0
 place_of all n ss rest None =
     unknown_from (pids_of all) n (flat_map process_lines ss ++ rest)
@@ -141,7 +142,7 @@ some_event : (all : List Stream) (es : List Event) (i : ℕ)
 some_event all [] i e = absurd cc
 some_event all (x ∷ es) i e = x
 
--- the next streams' place, after a stream without one
+-- a pid that is among greater ones is another than x
 apart : (x p : Pid) (ps : List Pid) → AllByRecursion (IsBelow x) ps → is_among ps p ≡ true
     → pid_eq x p ≡ false
 apart x p [] below e = absurd cc

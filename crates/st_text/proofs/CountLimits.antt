@@ -1,5 +1,5 @@
--- A line without a fault passed each test, and one of them is by how many of its kind came before
--- it: so lines without a fault are within the limits on counts.
+-- A line without a fault passed each test, and one test compares the count of its kind with the
+-- limit: so lines without a fault are within the limits on counts.
 use Rattle.std.proofs.Common.{◌≡◌, ℕ, ◌+◌, ◌≤◌, Bool, true, false, not, cond, leb, List, [], ◌∷◌}
 use Rattle.std.proofs.Common.{◌++◌, length, map}
 use Rattle.std.proofs.Common.{Some, None, refl, sym, ◌∙◌, ap, subst, append_assoc, arith}
@@ -55,7 +55,7 @@ pub record AreFew (limits : Limits) (ls : List Line) : Type 0 where
 below : (m n : ℕ) → leb m n ≡ false → n + 1 ≤ m
 below m n e = grind (arith, nat_tests)
 
--- one more line: it is one more of its kind alone, and that one passed the test
+-- one more line adds to the count of its own kind alone, and that count passed the test
 one_more : (limits : Limits) (ls : List Line) (l : Line) → AreFew limits ls → Passes limits ls l
     → AreFew limits (ls ++ l ∷ [])
 one_more limits ls (lines.Process q) g p =

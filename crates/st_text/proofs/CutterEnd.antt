@@ -1,5 +1,5 @@
--- At the end the lines are judged and the tail is what was kept, so that the answer is the bytes'
--- bundle or fault.
+-- At the end the lines are judged and the unfinished line is known, so the result is the bundle or
+-- the fault of the bytes.
 use Rattle.std.proofs.Common.{◌≡◌, ℕ, ◌+◌, ◌^◌, ◌<◌, ◌≤◌, Bool, true, false, List, [], ◌∷◌, ◌++◌}
 use Rattle.std.proofs.Common.{length, map, Option, Some, None, refl, sym, ap, subst, ◌∙◌, arith}
 use Rattle.std.specs.Prelude.{Result, Ok, Err}
@@ -32,7 +32,7 @@ use Rattle.st_text.proofs.GoodLines.{count-append, count-cons}
 use Rattle.st_text.proofs.Headers.{spelled_whole, body_fits}
 use Rattle.st_text.specs.declared.limits.Limits.{Limits}
 
--- a fault was met
+-- a line had a fault
 pub end_fault : (limits : Limits) (bytes : List ℕ) (out : Bool) (o : Option ReadFault) (long : Bool)
     (kept : List ℕ) (p : Option BundleBuilder) (f : ReadFault)
     → out ≡ false → o ≡ Some f → length bytes ≤ limits.bytes
@@ -45,7 +45,7 @@ end_fault limits bytes false (Some g) long kept p f eo ef few h =
     same h)
 end_fault limits bytes out o long kept p f eo ef few h = absurd cc
 
--- none was met
+-- no line had a fault
 pub good : (limits : Limits) (bytes : List ℕ) (out : Bool) (o : Option ReadFault) (long : Bool)
     (kept : List ℕ) (p : Option BundleBuilder)
     → out ≡ false → o ≡ None → HasTakenAs limits out o bytes long kept p
@@ -194,7 +194,7 @@ reads limits bytes ls p b few over said clean s fin =
       };
     }
 
--- the builder's counts are small, so that the lines are
+-- the builder's counts are small, so the number of lines is too
 lines_of_acts : (o : Option (List Act)) → acts_lines o ≤ 1 + acts_len o
 lines_of_acts None = omega arith
 lines_of_acts (Some list) = omega arith

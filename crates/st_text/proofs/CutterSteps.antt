@@ -1,5 +1,5 @@
--- More bytes add to the unfinished line, and a newline ends it: so a cutter goes from what it took
--- to what it took and the piece.
+-- More bytes add to the unfinished line, and a newline ends it: so a cutter that took some bytes
+-- and then a piece has taken both.
 use Rattle.std.proofs.Common.{◌≡◌, ℕ, zero, suc, ◌+◌, ◌<◌, ◌≤◌, Bool, true, false, eqb, ◌||◌, List}
 use Rattle.std.proofs.Common.{[], ◌∷◌, ◌++◌, length, map, take, drop, get_or, drop-cons, Option}
 use Rattle.std.proofs.Common.{Some, None, refl, sym, ap, subst, ◌∙◌, append_assoc, inl, inr, arith}
@@ -49,7 +49,7 @@ tail_plain bytes xs plain = ap (λ (c : Cut). c.1) (cut_plain bytes xs plain)
 pub sayings_plain : (bytes xs : List ℕ) → HasNoNewline xs → sayings (bytes ++ xs) ≡ sayings bytes
 sayings_plain bytes xs plain = ap (λ (c : Cut). map line_of c.0) (cut_plain bytes xs plain)
 
--- the rest of the unfinished line, and a newline
+-- a newline ends the unfinished line
 pub tail_line : (bytes xs : List ℕ) → (cut (bytes ++ (xs ++ 10 ∷ []))).1 ≡ []
 tail_line bytes xs =
     ap (λ (b : List ℕ). (cut b).1) (sym (append_assoc bytes xs (10 ∷ [])))
@@ -61,7 +61,7 @@ sayings_line bytes xs plain =
     ap sayings (sym (append_assoc bytes xs (10 ∷ []))) ∙ sayings_newline (bytes ++ xs)
     ∙ rw (sayings_plain bytes xs plain, tail_plain bytes xs plain) refl
 
--- a fault stays the first one
+-- a fault stays the first one, whatever bytes follow
 fault_byte : (limits : Limits) (bytes : List ℕ) (b : ℕ) (f : ReadFault)
     → first_fault limits [] (sayings bytes) ≡ Some f
     → first_fault limits [] (sayings (bytes ++ b ∷ [])) ≡ Some f
@@ -84,7 +84,7 @@ fault_more limits bytes (x ∷ xs) f e =
     ap (λ (b : List ℕ). first_fault limits [] (sayings b)) (one_by_one bytes xs x)
     ∙ fault_more limits (bytes ++ x ∷ []) xs f (fault_byte limits bytes x f e)
 
--- ---- what is held
+-- ---- what the cutter keeps
 
 pub holds_nothing : (limits : Limits) (kept : List ℕ) → kept ≡ []
     → HasTakenAs limits false None [] false kept None
@@ -314,7 +314,7 @@ adds_bytes limits false None bytes xs long kept p eo ef plain some h =
     }
 adds_bytes limits out fault bytes xs long kept p eo ef plain some h = absurd cc
 
--- a line that is kept so far has begun
+-- a line is unfinished if bytes of it are kept
 pub ends_within : (limits : Limits) (out : Bool) (fault : Option ReadFault) (bytes : List ℕ)
     (long : Bool) (kept : List ℕ) (p : Option BundleBuilder)
     → out ≡ false → fault ≡ None → long ≡ false → 0 < length kept
@@ -375,7 +375,7 @@ at_newline xs k lt e =
     (from ∙ ap (λ (t : List ℕ). 10 ∷ t) (sym rest))
     ∙ sym (append_assoc (take k xs) (10 ∷ []) (drop 1 (drop k xs)))
 
--- a piece under way: what is done of it is whole lines, and the rest of it is left
+-- a piece under way: the part that is done is whole lines, and the rest is left
 pub record IsUnderWay (limits : Limits) (piece rest : List ℕ) (old now : Cutter) : Type 0 where
   pub done : List ℕ
   pub parts : piece ≡ done ++ rest
@@ -383,7 +383,7 @@ pub record IsUnderWay (limits : Limits) (piece rest : List ℕ) (old now : Cutte
   pub comes : (bytes : List ℕ) → HasTaken limits bytes old
       → Comes limits (bytes ++ done) now (old.out ≡ false → Grows limits bytes piece)
 
--- what a line's growth is for the piece
+-- growth in a line of the piece is growth in the piece
 pub grows_by : (limits : Limits) (bytes piece done xs more : List ℕ)
     → piece ≡ done ++ ((xs ++ 10 ∷ []) ++ more)
     → (0 < length (cut (bytes ++ done)).1 → done ≡ [])
@@ -423,7 +423,7 @@ line_whole bytes done xs some =
     ∙ tail_line (bytes ++ done) xs in
     absurd (omega (arith, some, ap length at))
 
--- what the rest's growth is for the piece
+-- growth in the rest of the piece is growth in the piece
 pub grows_at_end : (limits : Limits) (bytes piece done rest : List ℕ) → piece ≡ done ++ rest
     → AddsBytes limits (bytes ++ done) rest
     → Grows limits bytes piece

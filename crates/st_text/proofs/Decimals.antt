@@ -1,5 +1,5 @@
--- Two digits at a time: a number's last two are what it leaves by 100, and those before spell its
--- hundredth part.
+-- A number's last two digits are its remainder by 100, and the digits before them spell its
+-- quotient by 100.
 use Rattle.std.proofs.Common.{◌≡◌, ℕ, zero, suc, ◌+◌, ◌*◌, ◌/◌, ◌%◌, ◌^◌, ◌<◌, ◌≤◌, Bool, true}
 use Rattle.std.proofs.Common.{◌&&◌, eqb, List, []}
 use Rattle.std.proofs.Common.{◌∷◌, ◌++◌, get_or, refl, append_assoc, inl, inr, arith}
@@ -17,7 +17,7 @@ has_tens p = eqb (get_or PAIRS (p * 2) 0) (48 + p / 10)
 abbrev has_ones : ℕ → Bool
 has_ones p = eqb (get_or PAIRS (p * 2 + 1) 0) (48 + p % 10)
 
--- those below a number are right
+-- the pairs of all numbers below n are right
 abbrev are_pairs : ℕ → Bool
 are_pairs zero = true
 are_pairs (suc p) = (has_tens p && has_ones p) && are_pairs p

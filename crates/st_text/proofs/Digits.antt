@@ -1,5 +1,5 @@
--- Digits one after the other: each is the byte after those that were read, and they end where no
--- digit is in front.
+-- A number is read digit by digit: each digit is the byte after those that were read, and the last
+-- is followed by no digit.
 use Rattle.std.proofs.Common.{◌≡◌, ℕ, ◌+◌, ◌*◌, ◌^◌, ◌<◌, ◌≤◌, Bool, true, false, cond, List, ◌∷◌}
 use Rattle.std.proofs.Common.{◌++◌, length, get_or, take, drop, Some, None, refl, sym, ap, subst}
 use Rattle.std.proofs.Common.{◌∙◌, inl, inr, arith, add-one, length-drop, drop-cons}
@@ -15,7 +15,7 @@ use Rattle.st_text.specs.Parts.Digits.{digits_len, front, HasRead}
 use Rattle.st_text.proofs.Numbers.{further, all_digits, number_is}
 use Rattle.st_text.proofs.Numbers.{number_again, none_by_value, none_by_lead, some_by}
 
--- the byte after the first ones
+-- b is the byte after the first `count`
 record Next (bytes : List ℕ) (count b : ℕ) (more : List ℕ) : Type 0 where
   pub inside : count < length bytes
   pub here : get_or bytes count 0 ≡ b
@@ -29,7 +29,7 @@ next bytes count b more e =
     rw add-one (drop-cons bytes count 0 inside) in
     record { inside = inside; here = cc; behind = cc }
 
--- a digit's byte
+-- the byte of a digit is a digit
 byte_of : (d : ℕ) → d < 10 → is_ascii_digit (48 + d) ≡ true
 byte_of d small = grind (arith, nat_tests)
 

@@ -1,4 +1,4 @@
--- Events: what is read is spelled so, by the steps of `Fields`, and what is spelled so is read.
+-- Reading an event undoes its spelling, and reads no other bytes, by the steps of `Fields`.
 use Rattle.std.proofs.Common.{◌≡◌, ℕ, ◌≤◌, List, ◌++◌, Option, Some, None, refl}
 use Rattle.std.specs.Prelude.{codes, decimal}
 use Rattle.st_core.specs.declared.types.Pid.{Pid}

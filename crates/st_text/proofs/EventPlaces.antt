@@ -1,4 +1,5 @@
--- The line of an event is counted process by process, and stays within a word if the text does.
+-- The line of an event is found by counting process by process, and its number fits in a word if
+-- that of the text's last line does.
 use Rattle.std.proofs.Common.{◌≡◌, ℕ, ◌+◌, ◌-◌, ◌^◌, ◌<◌, ◌≤◌, Bool, true, false, cond, List, []}
 use Rattle.std.proofs.Common.{◌∷◌, length, drop}
 use Rattle.std.proofs.Common.{get_or, refl, sym, ap, ◌∙◌, arith, add-one, drop-cons}

@@ -90,7 +90,7 @@ worked_runs = record {
 -- ---- headers, and short texts
 
 record WorkedHeaders : Type 0 where
-  -- header 1 knows node 0 alone
+  -- header 1 allows pids of node 0 alone
   pid_other_node_header_1 :
       fault_within standard
       (codes "seqtrace 1\nprocess <1.30.0>\n") ≡ Some (faults.Line 2)
@@ -98,15 +98,15 @@ record WorkedHeaders : Type 0 where
   header_2_without_nodes :
       fault_within standard
       (codes "seqtrace 2\nprocess <0.30.0>\n") ≡ Some (faults.Line 1)
-  -- but that comes after the end
+  -- but a truncated text comes before a needless header
   header_2_truncated :
       fault_within standard
       (codes "seqtrace 2\nprocess <0.30.0>") ≡ Some faults.Truncated
-  -- and after each line
+  -- and so does a faulty line
   header_2_order :
       fault_within standard
       (codes "seqtrace 2\nprocess <0.31.0>\nprocess <0.30.0>\n") ≡ Some (faults.Order 3)
-  -- a want alone needs header 2
+  -- a pid in a want is enough for header 2
   header_2_by_want :
       fault_within standard
       (codes "seqtrace 2\nprocess <0.30.0>\nacts\nreceive <0.30.0> from <1.5.0>\n") ≡ None
@@ -153,7 +153,7 @@ record WorkedLines : Type 0 where
   second_header : fault_within standard (codes "seqtrace 1\nseqtrace 1\n") ≡ Some (faults.Line 2)
   -- one word before the acts
   second_acts : fault_within standard (codes "seqtrace 1\nacts\nacts\n") ≡ Some (faults.Line 3)
-  -- no process after it
+  -- no process after the word
   process_behind_acts :
       fault_within standard
       (codes "seqtrace 1\nacts\nprocess <0.30.0>\n") ≡ Some (faults.Line 3)
@@ -161,7 +161,7 @@ record WorkedLines : Type 0 where
   event_alone :
       fault_within standard
       (codes "seqtrace 1\n{seq_trace,17,{print,{0,1},<0.30.0>,[],7}}\n") ≡ Some (faults.Line 2)
-  -- a label has 32 bits
+  -- a label is below 2^32
   label_too_great :
       fault_within standard
       (codes "seqtrace 1\nprocess <0.30.0>\nacts\nset <0.30.0> label 4294967296\n")

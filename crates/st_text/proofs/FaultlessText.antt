@@ -314,7 +314,7 @@ gather limits (Some l ∷ rs) e some =
       gathered = h.gathered;
     }
 
--- ---- where no line names an unlisted pid
+-- ---- if no line names an unlisted pid
 
 none_known : (o : Option ReadFault) (f : ReadFault) → o ≡ Some f → o ≡ None → ⊥
 none_known o f e n = cc

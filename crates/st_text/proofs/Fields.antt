@@ -1,5 +1,5 @@
--- The small values, each a word or a number between words: what each reader takes is the spelling
--- of its value, and the spelling is read again. First the steps that all readers are made of.
+-- The small values, each a word or a number between words: each reader takes the spelling of its
+-- value, and reads that spelling back. First come the steps that all readers are made of.
 use Rattle.std.proofs.Common.{◌≡◌, ℕ, ◌<◌, ◌≤◌, ◌^◌, Bool, true, false, List, [], ◌++◌}
 use Rattle.std.proofs.Common.{Option, Some, None, refl, subst, append_assoc, arith}
 use Rattle.std.proofs.lemmas.Option.{same_Some, option_and_then_some}

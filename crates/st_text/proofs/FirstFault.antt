@@ -1,5 +1,5 @@
--- The fault of lines is that of the first faulty one, and an unlisted pid's line is the first such:
--- both are found by going through the lines from the front.
+-- The fault of lines is that of the first faulty line, and `Unknown` names the first line with an
+-- unlisted pid: both are found by going through the lines from the front.
 use Rattle.std.proofs.Common.{◌≡◌, ℕ, ◌+◌, Bool, true, false, cond, List, [], ◌∷◌, ◌++◌, map}
 use Rattle.std.proofs.Common.{Option, Some, None, refl, sym, ap, ◌∙◌, append_assoc, arith}
 use Rattle.std.proofs.lemmas.List.{append-nil}

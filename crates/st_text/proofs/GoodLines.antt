@@ -25,7 +25,8 @@ use Rattle.st_text.specs.Fault.{has_acts, last_of, last_passes, pids, pid_of, is
 use Rattle.st_text.specs.Fault.{is_acts, is_out_of_order, is_foreign, is_one_too_many, is_event}
 use Rattle.st_text.specs.Fault.{is_act}
 
--- what good lines came to: wide, the pids, how many events and acts, whether acts have begun
+-- the good lines so far: whether their header is wide, their pids, how many events and acts, and
+-- whether the acts have begun
 pub record Came (ls : List Line) (wide : Bool) (ps : List Pid) (events acts : ℕ)
     (begun : Bool) : Type 0 where
   pub header : (first : Line) × (more : List Line) × (ls ≡ first ∷ more)
@@ -138,7 +139,7 @@ under true a b e = (refl, refl)
 under false true b e = absurd cc
 under false false b e = (refl, e)
 
--- the events of the last process
+-- the events of the last process have no fault
 pub events_pass : (limits : Limits) (es : List Event) (ls more : List Line) (wide : Bool)
     (ps : List Pid) (m k : ℕ) (p : Pid)
     → Came ls wide ps m k false → last_of ps ≡ Some p → AllByRecursion (λ e. is_own p e ≡ true) es
@@ -175,7 +176,7 @@ events_pass limits (e ∷ es) ls more wide ps m k p c at own remote few =
           false) count rest.1),
     )
 
--- processes that go on rising
+-- the processes go on rising after the last one
 abbrev pub After : Option Pid → List Stream → Type 0
 After o [] = Unit {0}
 After None (p ∷ ps) = After (Some p.pid) ps

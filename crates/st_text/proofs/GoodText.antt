@@ -55,7 +55,7 @@ plain-append : (a b : List ℕ) → HasNoNewline a → HasNoNewline b → HasNoN
 plain-append [] b p q = q
 plain-append (x ∷ a) b p q = (p.0, plain-append a b p.1 q)
 
--- a word, by a test that computes
+-- no byte of a word is a newline, by a test that computes
 plain_word : (bytes : List ℕ) → list_all (λ b. not (eqb b 10)) bytes ≡ true → HasNoNewline bytes
 plain_word [] e = tt
 plain_word (b ∷ bytes) e = by (eqb b 10) refl e (plain_word bytes)

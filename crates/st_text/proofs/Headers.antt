@@ -76,7 +76,7 @@ spelled_whole limits bytes wide c says good closed whole =
     ∙ ap (λ (w : Bool). flat_map ended (lines.Header w ∷ body c))
     (wide_is limits wide (body c) (ap (first_fault limits []) (sym says) ∙ good) closed)
 
--- what lines say fits
+-- the values of lines that were read are in range
 lines_fit : (bs : List (List ℕ)) (ls : List Line) → map line_of bs ≡ map Some ls
     → AllByRecursion Fits ls
 lines_fit bs [] e = tt

@@ -1,4 +1,4 @@
--- Lines: what is read is spelled so, by the steps of `Fields`, and what is spelled so is read.
+-- Reading a line undoes its spelling, and reads no other bytes, by the steps of `Fields`.
 use Rattle.std.proofs.Common.{◌≡◌, ℕ, true, false, eqb, List, [], ◌++◌, length, Option, Some, None}
 use Rattle.std.proofs.Common.{refl, sym, ap, subst, ◌∙◌}
 use Rattle.std.specs.Prelude.{codes}
@@ -49,7 +49,7 @@ line_at_takes bytes x e =
         made e t.split t.fits
     either None ea e = rare_takes bytes x e
 
--- a rare line begins as no event and no act does
+-- a rare line doesn't begin as an event or an act does
 no_other : (l : Line) (rest : List ℕ) → IsRare l
     → parse_line (line l ++ rest) ≡ parse_rare (line l ++ rest)
 unfolding parse_line parse_act parse_alone
@@ -83,7 +83,7 @@ line_again (lines.Act a) rest fits stops =
     no_word a rest = refl
 line_again l rest fits stops = no_other l rest tt ∙ rare_again l rest fits tt
 
--- A line that is read is spelled as it is written.
+-- Bytes that are read as a line are its spelling.
 pub line_takes : (bytes : List ℕ) (l : Line) → line_of bytes ≡ Some l → (bytes ≡ line l) × Fits l
 unfolding line_of
 line_takes bytes l e =

@@ -1,5 +1,5 @@
--- Pids rise, so that each stream is the one that its pid finds; and if no act fails the test each
--- passes.
+-- Pids rise, so looking up a stream's pid finds that stream; and if no act fails the test, each
+-- passes it.
 use Rattle.std.proofs.Common.{◌≡◌, ℕ, ◌+◌, Bool, true, false, not, ◌&&◌, cond, List, [], ◌∷◌, ◌++◌}
 use Rattle.std.proofs.Common.{Option, Some, None, refl, sym, ap, ◌∙◌}
 use Rattle.std.specs.Prelude.{position}

@@ -1,5 +1,4 @@
--- No line is longer than the longest: an event with the greatest numbers is, and each other form is
--- shorter.
+-- No line is longer than an event with the greatest numbers, since each other form is shorter.
 use Rattle.std.proofs.Common.{◌≡◌, ℕ, ◌+◌, ◌<◌, ◌≤◌, Bool, true, false, List, ◌++◌, length, Option}
 use Rattle.std.proofs.Common.{Some, None, refl, ap, arith}
 use Rattle.std.specs.Prelude.{codes, decimal}

@@ -50,7 +50,7 @@ cut_newline (b ∷ bytes) = by (eqb b 10) (cut_newline bytes)
     by false more = ap (λ (x : Cut). onto_first b x.0 x.1) more
         ∙ onto_newline b (cut bytes).0 (cut bytes).1
 
--- another byte joins it
+-- another byte joins the unfinished line
 pub cut_byte : (bytes : List ℕ) (c : ℕ) → eqb c 10 ≡ false
     → cut (bytes ++ c ∷ []) ≡ ((cut bytes).0, (cut bytes).1 ++ c ∷ [])
 cut_byte [] c other = rw other refl
@@ -84,7 +84,7 @@ pub none_of : (o p : Option ReadFault) → first_of o p ≡ None → (o ≡ None
 none_of None p e = (refl, e)
 none_of (Some f) p e = absurd cc
 
--- one more line after good ones
+-- after good lines the fault is that of the next line
 pub fault_push : (limits : Limits) (ls more : List Line) (r : Option Line)
     → first_fault limits ls (map Some more) ≡ None
     → first_fault limits ls (map Some more ++ r ∷ []) ≡ line_fault limits (ls ++ more) r
@@ -104,7 +104,7 @@ fault_push limits ls (k ∷ more) r good =
     rw p.0 (fault_push limits (ls ++ k ∷ []) more r p.1
     ∙ ap (λ (x : List Line). line_fault limits x r) (append_assoc ls (k ∷ []) more))
 
--- a fault stays the first one
+-- a fault stays the first one, whatever lines follow
 pub fault_stays : (limits : Limits) (ls : List Line) (rs more : List (Option Line)) (f : ReadFault)
     → first_fault limits ls rs ≡ Some f
     → first_fault limits ls (rs ++ more) ≡ Some f
@@ -155,7 +155,7 @@ lines_back (b ∷ bs) (l ∷ ls) e =
     ∙ ap (λ (x : List ℕ). ended l ++ x) (lines_back bs ls others)
 lines_back bs ls e = absurd cc
 
--- bytes whose lines say these, up to an unfinished line, are their spelling
+-- bytes are the spelling of their lines, and then the unfinished line
 pub spelled_by : (bytes : List ℕ) (ls : List Line) → sayings bytes ≡ map Some ls
     → bytes ≡ flat_map ended ls ++ (cut bytes).1
 spelled_by bytes ls e = cut_back bytes ∙ ap (λ (x : List ℕ). x ++ (cut bytes).1)
@@ -168,7 +168,7 @@ said_back (l ∷ ls) = ap (λ (x : List Line). l ∷ x) (said_back ls)
 pub no_lines : (bytes : List ℕ) → sayings bytes ≡ [] → length (cut bytes).0 ≡ 0
 no_lines bytes e = sym (length-map (cut bytes).0 line_of) ∙ ap length e
 
--- ---- the outcome of the whole of the bytes
+-- ---- the fault of all the bytes
 
 pub fault_too_large : (limits : Limits) (bytes : List ℕ) → limits.bytes < length bytes
     → fault_within limits bytes ≡ Some faults.TooLarge

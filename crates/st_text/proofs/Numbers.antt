@@ -1,4 +1,4 @@
--- Words and numbers at the front: what is read is spelled so, and what is spelled so is read.
+-- Reading a word or a number undoes its spelling, and reads no other bytes.
 use Rattle.std.proofs.Common.{◌≡◌, ℕ, suc, ◌+◌, ◌-◌, ◌*◌, ◌^◌, ◌<◌, ◌≤◌, ◌⊎◌, Bool, true, false}
 use Rattle.std.proofs.Common.{◌&&◌, cond, eqb, leb, List, [], ◌∷◌, ◌++◌, length, get_or, take, drop}
 use Rattle.std.proofs.Common.{Option, Some, None, refl, sym, ap, subst, ◌∙◌, arith, inl, inr}
@@ -26,7 +26,7 @@ use Rattle.st_text.specs.Parts.Words.{Gives}
 use Rattle.st_text.specs.Parsing.{after, number_from, number}
 use Rattle.st_core.proofs.ForCallers.{both_of}
 
--- a test and a value
+-- a tested value is there only if the test holds
 pub chosen : {A : Type 0} (b : Bool) (o : Option A) (y : A) → cond b o None ≡ Some y
     → (b ≡ true) × (o ≡ Some y)
 chosen true o y e = (refl, e)
@@ -155,7 +155,7 @@ all_digits bytes i n le stops small is =
           (omega arith, cc)
     ]
 
--- what follows a number begins with no digit
+-- the bytes after a number begin with no digit
 abbrev pub Stops : List ℕ → Type 0
 Stops rest = prefix_len is_ascii_digit rest ≡ 0
 

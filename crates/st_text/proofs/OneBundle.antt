@@ -30,7 +30,7 @@ acts_back [] = []
 acts_back (lines.Act a ∷ ls) = a ∷ acts_back ls
 acts_back ls = []
 
--- events before the next process, then the streams, then the acts
+-- lines read back: the events before the next process, then the streams, then the acts
 record Back : Type 0 where
   events : List Event
   streams : List Stream

@@ -1,5 +1,5 @@
--- The bytes written and those that wait are together the text so far: so each part goes on where
--- the one before stopped.
+-- The bytes that were written, and then those that wait, are the text so far, so each part goes on
+-- where the one before stopped.
 use Rattle.std.proofs.Common.{◌≡◌, ℕ, ◌+◌, ◌<◌, ◌≤◌, Bool, false, List, [], ◌∷◌, ◌++◌, length, map}
 use Rattle.std.proofs.Common.{take, drop, get_or}
 use Rattle.std.proofs.Common.{refl, sym, ap, subst, ◌∙◌, append_assoc, inl, inr, arith}
@@ -12,7 +12,7 @@ use Rattle.std.specs.Result.{IsErr}
 use Rattle.st_core.specs.Device.{InARow, NoCall, OneMore}
 use Rattle.st_text.specs.Writing.{WritesPart, WritesText, Goes, WritesOn}
 
--- calls in a row, and then more
+-- calls in a row after calls in a row
 pub in_a_row : {S : Type 0} (puts : S → List ℕ → S → Type 0) {a b c : S} {xs ys : List ℕ}
     → InARow puts b ys c
     → InARow puts a xs b → InARow puts a (xs ++ ys) c
@@ -38,7 +38,7 @@ pub put_none : {S : Type 0} (puts : S → List ℕ → S → Type 0) {a b c : S}
 put_none puts {a} {b} {c} {done} row call =
     subst (λ (x : List ℕ). InARow puts a x c) (append-nil done) (OneMore a b c done [] row call)
 
--- what is done of the bytes was put in a row, and the rest is left
+-- the bytes that are done were put in a row, and the rest is left
 pub record HasPut {S : Type 0} (puts : S → List ℕ → S → Type 0) (failed : S → Bool)
     (bytes rest : List ℕ)
     (old now : S) : Type 0 where
@@ -63,7 +63,7 @@ goes_buffer puts failed {a} e =
           λ h. absurd (omega arith);
     }
 
--- nothing yet
+-- an empty text needs no call
 pub goes_still : {S : Type 0} (puts : S → List ℕ → S → Type 0)
     (failed : S → Bool) {a : S} {waited : List ℕ}
     → Goes puts failed [] a a waited waited
@@ -131,7 +131,7 @@ part_longer puts failed t u x h =
       after = h.after;
     }
 
--- the same of what a call returned
+-- the second text, by the result of its call
 pub then_on : {S T E : Type 0} (puts : S → List ℕ → S → Type 0) (failed : S → Bool)
     (t u : List ℕ) {a b : S}
     (c : S) {x y : List ℕ} (z : List ℕ) (r : Result T E)
@@ -140,9 +140,9 @@ pub then_on : {S T E : Type 0} (puts : S → List ℕ → S → Type 0) (failed 
 then_on puts failed t u c z (Ok v) g h = goes_then puts failed t u g h
 then_on puts failed t u c z (Err e) g h = part_then puts failed t u g h
 
--- ---- what calls returned
+-- ---- results of calls
 
--- a refusal, if a call failed
+-- a call that failed has written a part
 pub on_err : {S T E : Type 0} {puts : S → List ℕ → S → Type 0} {failed : S → Bool}
     (t : List ℕ) {a b : S}
     (x y : List ℕ) (r : Result T E)
@@ -150,7 +150,7 @@ pub on_err : {S T E : Type 0} {puts : S → List ℕ → S → Type 0} {failed :
 on_err t x y (Ok v) is h = absurd cc
 on_err t x y (Err e) is h = h
 
--- room was made, and then the text was put after what waits
+-- room was made, and then the text was put after the bytes that wait
 pub room_then : {S : Type 0} (puts : S → List ℕ → S → Type 0) (failed : S → Bool)
     (text : List ℕ) {a b : S}
     {x y z : List ℕ}
@@ -164,7 +164,7 @@ pub no_room : {S T E : Type 0} (puts : S → List ℕ → S → Type 0) (failed 
     → IsErr r → WritesPart puts failed (x ++ []) a b → WritesOn puts failed text a b x y r
 no_room puts failed text x y r is h = on_err text x y r is (part_longer puts failed [] text x h)
 
--- the front of what waited went
+-- the front of the waiting bytes was written
 pub front_went : {S : Type 0} (puts : S → List ℕ → S → Type 0) (failed : S → Bool)
     (text front back : List ℕ)
     {a b : S} {waited : List ℕ}
@@ -181,7 +181,7 @@ front_went puts failed text front back {waited} parts same g =
       alive = g.alive;
     }
 
--- it failed on the way
+-- the sink failed while the front was written
 pub front_failed : {S : Type 0} (puts : S → List ℕ → S → Type 0) (failed : S → Bool)
     (text front back : List ℕ)
     {a b : S} {waited : List ℕ}
@@ -192,7 +192,7 @@ front_failed puts failed text front back {a} {b} {waited} parts same h =
     (part_longer puts failed front back []
     (subst (λ (w : List ℕ). WritesPart puts failed w a b) same h))
 
--- the text so far and one more failed, so all of it did
+-- if the next text fails after the texts so far, the whole text fails
 pub failed_among : {S : Type 0} (puts : S → List ℕ → S → Type 0) (failed : S → Bool)
     (t u v : List ℕ) {whole : List ℕ}
     {a b c : S} {x y : List ℕ}
@@ -209,7 +209,7 @@ pub flat_map-map : {X Y A : Type 0} (f : Y → List A) (g : X → Y) (xs : List 
 flat_map-map f g [] = refl
 flat_map-map f g (x ∷ xs) = ap (λ ys. f (g x) ++ ys) (flat_map-map f g xs)
 
--- what went of items went of their images
+-- the text of items is the text of their images
 pub on_images : {S X Y T E : Type 0} (puts : S → List ℕ → S → Type 0) (failed : S → Bool)
     (f : Y → List ℕ) (g : X → Y) (xs : List X) (a b : S) (x y : List ℕ) (r : Result T E)
     → WritesOn puts failed (flat_map (λ v. f (g v)) xs) a b x y r
@@ -271,7 +271,7 @@ all_done puts failed f xs i {a} {b} {x} {y} e le g =
 
 -- ---- the end of a text
 
--- what waited last went too
+-- the bytes that waited last were written too
 pub finishes : {S T E : Type 0} (puts : S → List ℕ → S → Type 0) (failed : S → Bool)
     (text : List ℕ) {a b : S}
     (c : S) {x : List ℕ} (y : List ℕ) (r : Result T E)

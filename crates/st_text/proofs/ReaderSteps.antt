@@ -32,7 +32,7 @@ pub record IsReading (limits : Limits) {S : Type 0} (gives : S → List ℕ → 
 pub never_fresh : (o : Option ReadFault) (f : ReadFault) → o ≡ None → o ≡ Some f → ⊥
 never_fresh o f e g = cc
 
--- more bytes came after
+-- growth stays growth after more bytes came
 later_growth : (limits : Limits) {S : Type 0} (gives : S → List ℕ → S → Type 0) (old : S)
     (bytes more : List ℕ)
     → HadGrowth limits gives bytes old → HadGrowth limits gives (bytes ++ more) old
@@ -51,7 +51,7 @@ later_growth limits gives old bytes more h =
       growth = h.growth;
     }
 
--- one more piece, after which memory has run out: in it, or before it
+-- if memory has run out after one more piece, it ran out in that piece or before it
 pub growth_after : (limits : Limits) {S : Type 0} (gives : S → List ℕ → S → Type 0)
     (old now next : S) (bytes piece : List ℕ) (was is : Option ReadFault)
     → InARow gives old bytes now → gives now piece next
@@ -74,7 +74,7 @@ growth_after limits gives old now next bytes piece None is row call before here 
 growth_after limits gives old now next bytes piece (Some f) is row call before here again ran =
     later_growth limits gives old bytes piece (before (sym (again f refl) ∙ ran))
 
--- an answer of Memory at the end is that of the feed
+-- if the result at the end is Memory, the feed had refused with Memory before
 pub growth_at_end : (limits : Limits) {S : Type 0} (gives : S → List ℕ → S → Type 0) (old : S)
     (bytes : List ℕ) (was : Option ReadFault) (r : Result Bundle ReadFault)
     → length bytes ≤ limits.bytes → (was ≡ Some faults.Memory → HadGrowth limits gives bytes old)

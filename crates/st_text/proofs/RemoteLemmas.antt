@@ -1,5 +1,5 @@
--- A line names a pid of another node if its process, event or act does, so that the parts' tests
--- are the lines'.
+-- A line names a pid of another node exactly if its process, event or act does, so the tests of
+-- the parts test the lines.
 use Rattle.std.proofs.Common.{◌≡◌, ℕ, suc, zero, ◌<◌, Bool, true, false, ◌||◌, List, [], ◌∷◌}
 use Rattle.std.proofs.Common.{length, map, get_or, Option, Some, None, refl, ap, ◌∙◌, arith}
 use Rattle.std.specs.List.{list_any, flat_map}

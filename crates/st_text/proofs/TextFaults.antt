@@ -1,5 +1,5 @@
--- Memory, Device and TooLarge are the faults of no text: no test of a line or of the whole returns
--- one.
+-- No test of a line or of the whole text returns Memory, Device or TooLarge, so none of these is
+-- the fault of bytes within the limit.
 use Rattle.std.proofs.Common.{◌≡◌, ℕ, ◌+◌, ◌≤◌, Bool, true, false, not, cond, List, [], ◌∷◌, ◌++◌}
 use Rattle.std.proofs.Common.{length, Option, Some, None, ap, ◌∙◌, subst, nat_lt, eqb, ◌&&◌, arith}
 use Rattle.std.specs.Prelude.{Result, Ok, Err}
@@ -83,7 +83,7 @@ of_text : (limits : Limits) (bytes : List ℕ) (f : ReadFault) → length bytes 
 of_text limits bytes f small e = let P : Option ReadFault → Type 0 = AllOfText in
     subst P e (whole_of_text limits bytes small)
 
--- the answer at the source's end
+-- the result at the source's end
 pub reads_end : (limits : Limits) {S : Type 0} (ended : S → Type 0) (failed : S → Bool)
     (bytes : List ℕ) (old new : S) (r : Result Bundle ReadFault)
     → length bytes ≤ limits.bytes → Ends limits ended failed bytes old new r

@@ -1,4 +1,4 @@
--- The result for all the bytes.
+-- The result of reading, told from all the bytes.
 use Rattle.std.specs.Prelude.{◌≡◌, ℕ, List, Some, Result, Ok, Err}
 use Rattle.st_text.specs.declared.bundle.Bundle.{Bundle}
 use Rattle.st_text.specs.declared.fault.ReadFault.{ReadFault}
@@ -13,13 +13,13 @@ pub record Reads (limits : Limits) (bytes : List ℕ) (c : Contents) : Type 0 wh
   pub text : IsText bytes c
   pub within : IsWithin limits c
 
--- a bundle of which the bytes are the text, or their fault
+-- the result is the bundle whose text the bytes are, or the fault of the bytes
 abbrev pub IsReadResult : Limits → List ℕ → Result Bundle ReadFault → Type 0
 IsReadResult limits bytes (Ok b) = Reads limits bytes (contents b)
 IsReadResult limits bytes (Err f) = fault_within limits bytes ≡ Some f
 
--- The result above, or Memory. That too many bytes are TooLarge even then is said where they are
--- counted (`Ends` of Reads).
+-- the result above, or Memory; that too many bytes are TooLarge even then is said by `Ends` of
+-- Reads
 abbrev pub IsReadResultOrMemory : Limits → List ℕ → Result Bundle ReadFault → Type 0
 IsReadResultOrMemory limits bytes (Ok b) = Reads limits bytes (contents b)
 IsReadResultOrMemory limits bytes (Err faults.Memory) = Unit {0}

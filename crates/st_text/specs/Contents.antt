@@ -1,4 +1,4 @@
--- The content of the code's `Bundle`.
+-- The contents of the code's `Bundle`.
 use Rattle.st_text.specs.declared.bundle.Bundle.{Bundle}
 use Rattle.st_text.specs.Text.{Contents}
 

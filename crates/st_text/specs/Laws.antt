@@ -16,29 +16,29 @@ use Rattle.st_text.specs.Contents.{contents}
 use Rattle.st_text.specs.Fault.{line_fault, first_fault, is_unknown, unknown_from, fault_within}
 use Rattle.st_text.specs.Answer.{Reads, IsReadResultOrMemory}
 
--- what is read from the bytes of a line is spelled so
+-- bytes that are read as a line are its spelling, and its values are in range
 abbrev pub ReadIsSpelled : Type 0
 ReadIsSpelled = (bytes : List ℕ) (l : Line) → line_of bytes ≡ Some l → (bytes ≡ line l) × Fits l
 
--- what is spelled so is read
+-- the spelling of a line whose values are in range is read as that line
 abbrev pub SpelledIsRead : Type 0
 SpelledIsRead = (l : Line) → Fits l → line_of (line l) ≡ Some l
 
--- bytes are the text of one bundle at most
+-- bytes are the text of at most one bundle
 abbrev pub TextIsOne : Type 0
 TextIsOne = (bytes : List ℕ) (c d : Contents) → IsText bytes c → IsText bytes d → c ≡ d
 
--- the text of a bundle within any limits has no fault
+-- whatever the limits are, the text of a bundle within them has no fault
 abbrev pub TextHasNoFault : Type 0
 TextHasNoFault = (limits : Limits) (bytes : List ℕ) (c : Contents) → Reads limits bytes c
     → fault_within limits bytes ≡ None
 
--- bytes without a fault are the text of a bundle within any limits
+-- whatever the limits are, bytes without a fault are the text of a bundle within them
 abbrev pub NoFaultIsText : Type 0
 NoFaultIsText = (limits : Limits) (bytes : List ℕ) → fault_within limits bytes ≡ None
     → (c : Contents) × Reads limits bytes c
 
--- the lines before are good, and the next one has the fault
+-- the first lines are good, and the line after them has the fault
 pub record FailsFirst (limits : Limits) (rs : List (Option Line)) (f : ReadFault) : Type 0 where
   pub before : List Line
   pub here : Option Line
@@ -47,13 +47,13 @@ pub record FailsFirst (limits : Limits) (rs : List (Option Line)) (f : ReadFault
   pub good : first_fault limits [] (map Some before) ≡ None
   pub fault : line_fault limits before here ≡ Some f
 
--- the fault of lines is that of the first faulty one
+-- the fault of lines is the fault of the first faulty line
 abbrev pub FaultIsFirst : Type 0
 FaultIsFirst = (limits : Limits) (rs : List (Option Line)) (f : ReadFault)
     → first_fault limits [] rs ≡ Some f
     → FailsFirst limits rs f
 
--- the first line that names an unlisted pid, of these from number n on
+-- the fault names the first of these lines with an unlisted pid, if they are counted from n
 pub record IsFirstUnknown (ps : List Pid) (n : ℕ) (ls : List Line) (f : ReadFault) : Type 0 where
   pub before : List Line
   pub here : Line
@@ -63,7 +63,7 @@ pub record IsFirstUnknown (ps : List Pid) (n : ℕ) (ls : List Line) (f : ReadFa
   pub unknown : is_unknown ps here ≡ true
   pub fault : f ≡ faults.Unknown (n + length before)
 
--- an unlisted pid is told of the first line that names one
+-- `Unknown` has the number of the first line that names an unlisted pid
 abbrev pub UnknownIsFirst : Type 0
 UnknownIsFirst = (ps : List Pid) (ls : List Line) (f : ReadFault) → unknown_from ps 1 ls ≡ Some f
     → IsFirstUnknown ps 1 ls f
@@ -74,7 +74,7 @@ IsReadBack c (Ok b) = contents b ≡ c
 IsReadBack c (Err faults.Memory) = Unit {0}
 IsReadBack c (Err f) = ⊥
 
--- for the text of a bundle within any limits the result is that bundle
+-- reading the text of a bundle within the limits returns that bundle, or memory ran out
 abbrev pub WrittenIsRead : Type 0
 WrittenIsRead = (limits : Limits) (c : Contents) (r : Result Bundle ReadFault) → IsBundle c
     → IsWithin limits c

@@ -1,5 +1,5 @@
--- A text, its fault, what is returned and written for it, and the laws of that:
--- each promise of a public contract rests on these modules alone.
+-- A text, its fault, the results of reading and writing, and the laws: each promise of a public
+-- contract rests on these modules alone.
 pub mod Spelling
 pub mod Range
 pub mod Limits
@@ -14,5 +14,5 @@ pub mod Fed
 pub mod Room
 pub mod Writing
 pub mod Laws
--- For the parts alone: of the reader.
+-- For the reader's parts alone.
 pub mod Parts

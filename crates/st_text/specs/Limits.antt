@@ -1,5 +1,5 @@
--- How much the reader takes (own profile). The limits on counts are the reader's alone: a longer
--- bundle has a text too.
+-- How much the reader takes (own profile). The limits on counts bind the reader alone: a bundle
+-- that exceeds them has a text too.
 use Rattle.std.specs.Prelude.{ℕ}
 use Rattle.st_text.specs.declared.limits.Limits.{Limits}
 
@@ -15,7 +15,7 @@ most_events = 1000000
 abbrev pub most_acts : ℕ
 most_acts = 4000000
 
--- those of `read`
+-- the limits of `read`
 abbrev pub standard : Limits
 standard = record {
   bytes = most_bytes;
@@ -24,8 +24,8 @@ standard = record {
   acts = most_acts;
 }
 
--- those of seqtool: a service that starts a process for each request reports so much, and an audit
--- of it has no more acts
+-- the limits of seqtool: a service that starts a process for each request reports no more, and an
+-- audit of it has no more acts
 abbrev pub greater : Limits
 greater = record {
   bytes = 17179869184;

@@ -1,6 +1,5 @@
--- The meaning of one line's bytes, computed from the front. That this is the spelling read
--- backwards, and nothing more, is proved: what is read is spelled so, and what is spelled so is
--- read.
+-- The meaning of one line's bytes, read from the front. The law `line_is_read_as_spelled` says
+-- that reading a line undoes its spelling, and that no other bytes are read as a line.
 use Rattle.std.specs.Prelude.{ℕ, Bool, true, false, ◌&&◌, List, [], ◌∷◌, length, take, drop, Option}
 use Rattle.std.specs.Prelude.{Some, None}
 use Rattle.std.specs.Prelude.{option_and_then, nat_le, ◌==◌, if◌then◌else◌, codes, decimal}
@@ -31,22 +30,23 @@ infixl 10 ◌>>=◌
 abbrev pub ◌>>=◌ : {A B : Type 0} → Option A → (A → Option B) → Option B
 o >>= f = option_and_then f o
 
--- the bytes after a word that they begin with
+-- the bytes after the word, if they begin with it
 abbrev pub after : List ℕ → List ℕ → Option (List ℕ)
 after [] bytes = Some bytes
 after (c ∷ word) [] = None
 after (c ∷ word) (b ∷ bytes) = if b == c then after word bytes else None
 
--- f of what is there, else other
+-- f of the value if there is one, else other
 abbrev pub on_some : {A B : Type 0} → Option A → (A → Option B) → Option B → Option B
 on_some (Some x) f other = f x
 on_some None f other = other
 
--- what f reads after the word, if the bytes begin with it, else other
+-- f of the bytes after the word, if the bytes begin with it, else other
 abbrev pub begins : {A : Type 0} → List ℕ → List ℕ → (List ℕ → Option A) → Option A → Option A
 begins word bytes f other = on_some (after word bytes) f other
 
--- the value of the digits with the rest, if they are its one spelling and it is at most `most`
+-- the value of the digits, and the rest, if the digits are its one spelling and it is at most
+-- `most`
 abbrev pub number_from : ℕ → List ℕ → List ℕ → Option (ℕ × List ℕ)
 number_from most digits rest =
     if bytes_eq (decimal (digits_value 10 digits)) digits
@@ -288,7 +288,7 @@ parse_line bytes =
     (λ rest. parse_event rest >>= λ e. Some (lines.Event e.0, e.1))
     (on_some (parse_act bytes) (λ a. Some (lines.Act a.0, a.1)) (parse_rare bytes))
 
--- what all the bytes of a line say
+-- the line that all the bytes spell
 unfoldable pub line_of : List ℕ → Option Line
 line_of bytes = parse_line bytes >>= λ l. if length l.1 == 0 then Some l.0 else None
 

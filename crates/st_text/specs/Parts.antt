@@ -1,6 +1,6 @@
--- The states of the reader's parts. No promise of a public contract rests on them:
--- `IsFed` alone names what a feed keeps, and who uses a feed needn't know what that is. A module
--- for each file of the code that needs words.
+-- The states of the reader's parts. No promise of a public contract rests on them: `WasFed` names
+-- them, but who uses a feed needn't know what it keeps. Each file of the code that needs
+-- definitions has a module here.
 pub mod Words
 pub mod Digits
 pub mod Remote

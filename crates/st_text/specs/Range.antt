@@ -1,5 +1,5 @@
--- Which values have a spelling that is a line: numbers within the range of their place, and an
--- event's receiver there exactly if its kind has one.
+-- Which values can be spelled in a line: each number is in the range of its place, and an event
+-- has a receiver exactly if its kind has one.
 use Rattle.std.specs.Prelude.{ℕ, ◌≤◌, Option, Some, None}
 use Rattle.st_core.specs.declared.types.Pid.{Pid}
 use Rattle.st_core.specs.declared.types.Serial.{Serial}
@@ -17,7 +17,7 @@ use Rattle.st_core.specs.Pid.{node_of, number_of}
 use Rattle.st_text.specs.declared.line.Line.{Line}
 use Rattle.st_text.specs.declared.line.Line.TheVariants as lines
 
--- the greatest node and number, label, and other number
+-- the greatest node and the greatest number of a pid
 abbrev pub most_pid : ℕ
 most_pid = 65535
 

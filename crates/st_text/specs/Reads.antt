@@ -1,5 +1,5 @@
--- The result of reading a source: it depends on the bytes that its calls gave in a row,
--- whatever else the source tells.
+-- The result of reading a source: it depends on the bytes that the calls gave in a row, and on
+-- nothing else that the source tells.
 use Rattle.std.specs.Prelude.{◌≡◌, ℕ, ◌+◌, ◌≤◌, Bool, true, false, List, ◌++◌, length, Result, Err}
 use Rattle.st_core.specs.Device.{InARow}
 use Rattle.st_text.specs.declared.bundle.Bundle.{Bundle}
@@ -15,14 +15,14 @@ pub record Fails (limits : Limits) {S : Type 0} (failed : S → Bool) (bytes : L
   pub mark : failed new ≡ true
   pub small : length bytes ≤ limits.bytes
 
--- one byte too many came, and none after it was taken
+-- the source gave one byte too many, and the reader took no byte after it
 pub record Overflows (limits : Limits) {S : Type 0} (failed : S → Bool) (bytes : List ℕ)
     (old new : S) : Type 0 where
   pub count : length bytes ≡ limits.bytes + 1
   pub before : failed old ≡ false
   pub after : failed new ≡ false
 
--- the source ended, and the bytes have this answer
+-- the source ended, and the result is that of its bytes
 pub record Ends (limits : Limits) {S : Type 0} (ended : S → Type 0) (failed : S → Bool)
     (bytes : List ℕ) (old new : S)
     (r : Result Bundle ReadFault) : Type 0 where
@@ -40,7 +40,7 @@ ReadsAs limits ended failed bytes old new
     (Err faults.TooLarge) = Overflows limits failed bytes old new
 ReadsAs limits ended failed bytes old new r = Ends limits ended failed bytes old new r
 
--- one of the calls gave a piece of these bytes in whose reading something had to be kept
+-- one of the calls gave a piece of which the reader had to keep something
 pub record HadGrowth (limits : Limits) {S : Type 0} (gives : S → List ℕ → S → Type 0)
     (bytes : List ℕ)
     (old : S) : Type 0 where
@@ -54,8 +54,8 @@ pub record HadGrowth (limits : Limits) {S : Type 0} (gives : S → List ℕ → 
   pub call : gives from piece to
   pub growth : Grows limits before piece
 
--- The reader's calls gave some bytes in a row, and the result is theirs; Memory only if a call gave
--- bytes to keep.
+-- the calls gave some bytes in a row, the result is that of these bytes, and it is Memory only if
+-- a call gave something to keep
 pub record ReadsSource (limits : Limits) {S : Type 0} (gives : S → List ℕ → S → Type 0)
     (ended : S → Type 0)
     (failed : S → Bool)

@@ -1,9 +1,9 @@
--- How much room a spelling takes in a buffer at most. Each number is given the room of the longest,
--- labels and the parts of pids too, since one function writes them all.
+-- The most room that a spelling takes in a buffer. Each number is given the room of the longest,
+-- even a label or a part of a pid, since one function writes them all.
 use Rattle.std.specs.Prelude.{◌≡◌, ℕ, ◌+◌, ◌≤◌, List, ◌++◌}
 use Rattle.arrayvec.specs.ArrayVec.{array_vec_len, ArrayVec}
 
--- what is written at once
+-- the bytes that are written at once
 abbrev pub piece_room : ℕ
 piece_room = 8192
 
@@ -19,7 +19,7 @@ buffer_room = piece_room + line_room
 abbrev pub HasRoom : ℕ → ArrayVec ℕ → Type 0
 HasRoom room buffer = array_vec_len buffer + room ≤ buffer_room
 
--- the text was put after what waited, and took at most this much room
+-- the text was put after the bytes that waited, and took at most this much room
 pub record Puts (room : ℕ) (text : List ℕ) (old new : ArrayVec ℕ) : Type 0 where
   pub items : new.items ≡ old.items ++ text
   pub len : array_vec_len new ≤ array_vec_len old + room
@@ -52,7 +52,7 @@ head_room = 3 + number_room + kind_room
 abbrev pub ends_room : ℕ
 ends_room = 1 + pid_room + pid_room
 
--- an event, with its index and its value
+-- an event: its label and kind, its serial, its sender and receiver, and its value
 abbrev pub event_room : ℕ
 event_room = 15 + head_room + serial_room + ends_room + number_room
 

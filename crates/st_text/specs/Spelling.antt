@@ -24,7 +24,7 @@ abbrev pub bool : Bool → List ℕ
 bool true = codes "true"
 bool false = codes "false"
 
--- a process: its node and its number
+-- a pid, as `<0.30.0>`
 abbrev pub pid : Pid → List ℕ
 pid p = codes "<" ++ decimal (node_of p) ++ codes "." ++ decimal (number_of p) ++ codes ".0>"
 
@@ -41,15 +41,16 @@ kind kinds.Send = codes "send"
 kind kinds.Receive = codes "'receive'"
 kind kinds.Print = codes "print"
 
--- the receiver, or the print's unused place
+-- the receiver, or the `[]` of a print
 abbrev pub place : Option Pid → List ℕ
 place None = codes "[]"
 place (Some p) = pid p
 
--- label and kind; sender and receiver
+-- the label and the kind
 abbrev pub head : Event → List ℕ
 head e = label e.label ++ codes ",{" ++ kind e.kind ++ codes ","
 
+-- the sender and the receiver
 abbrev pub ends : Event → List ℕ
 ends e = pid e.from ++ codes "," ++ place e.to
 
@@ -105,6 +106,6 @@ line (lines.Event e) = event e
 line lines.Acts = codes "acts"
 line (lines.Act a) = act a
 
--- these bytes and a newline
+-- the bytes and a newline
 abbrev pub ended_line : List ℕ → List ℕ
 ended_line bytes = bytes ++ 10 ∷ []

@@ -19,12 +19,12 @@ use Rattle.st_text.specs.Spelling.{line, ended_line}
 use Rattle.st_text.specs.Range.{Fits}
 use Rattle.st_text.specs.declared.limits.Limits.{Limits}
 
--- what a bundle holds: streams, and acts if there are any
+-- the contents of a bundle: streams, and acts if there are any
 pub record Contents : Type 0 where
   pub streams : List Stream
   pub acts : Option (List Act)
 
--- streams, and acts after a reference if there are any
+-- the contents of streams, and of borrowed acts if there are any
 abbrev pub parts : List Stream → Option (Bor (List Act)) → Contents
 parts streams acts = record { streams = streams; acts = option_map (λ a. a.now) acts }
 
@@ -51,21 +51,21 @@ names (lines.Event e) = e.from ∷ option_to_list e.to
 names lines.Acts = []
 names (lines.Act a) = named a
 
--- a process of another node than 0
+-- the pid is of another node than 0
 abbrev pub is_away : Pid → Bool
 is_away p = not (node_of p == 0)
 
--- a line names one
+-- the line names a pid of another node than 0
 abbrev pub is_remote : Line → Bool
 is_remote l = list_any is_away (names l)
 
 -- ---- the lines of a bundle
 
--- a process, then its events
+-- the lines of a process: its pid, then its events
 abbrev pub process_lines : Stream → List Line
 process_lines s = lines.Process s.pid ∷ map lines.Event s.events
 
--- the word and the acts, if there are any
+-- the lines of acts, if there are any: the word `acts`, then each act
 abbrev pub act_lines : Option (List Act) → List Line
 act_lines None = []
 act_lines (Some list) = lines.Acts ∷ map lines.Act list
@@ -74,11 +74,11 @@ act_lines (Some list) = lines.Acts ∷ map lines.Act list
 abbrev pub body : Contents → List Line
 body c = flat_map process_lines c.streams ++ act_lines c.acts
 
--- header 2 exactly if a pid of another node is named
+-- all lines: the header is 2 exactly if a line names a pid of another node
 abbrev pub lines_of : Contents → List Line
 lines_of c = lines.Header (list_any is_remote (body c)) ∷ body c
 
--- a line and its newline
+-- the bytes of a line and its newline
 abbrev pub ended : Line → List ℕ
 ended l = ended_line (line l)
 
@@ -88,7 +88,7 @@ spelling c = flat_map ended (lines_of c)
 
 -- ---- bundles
 
--- the actor, and a send's receiver, are listed
+-- the act's actor, and a send's receiver, are listed
 abbrev pub is_listed : List Pid → Act → Bool
 is_listed ps a = is_among ps (actor a) && is_among ps (receiver a)
 
@@ -100,7 +100,8 @@ acts_or_none (Some list) = list
 abbrev pub unlisted_act : List Stream → Option (List Act) → Option ℕ
 unlisted_act streams acts = position (λ a. not (is_listed (pids_of streams) a)) (acts_or_none acts)
 
--- a bundle: streams, acts of listed processes, and each line a value that has a spelling
+-- a bundle: its streams are well formed, its acts are those of listed processes, and each line can
+-- be spelled
 pub record IsBundle (c : Contents) : Type 0 where
   pub streams : IsStreams c.streams
   pub listed : list_all (is_listed (pids_of c.streams)) (acts_or_none c.acts) ≡ true
@@ -111,7 +112,7 @@ pub record IsText (bytes : List ℕ) (c : Contents) : Type 0 where
   pub bundle : IsBundle c
   pub spelled : bytes ≡ spelling c
 
--- within these limits
+-- the bundle and its text are within the limits
 pub record IsWithin (limits : Limits) (c : Contents) : Type 0 where
   pub bytes : length (spelling c) ≤ limits.bytes
   pub processes : length c.streams ≤ limits.processes

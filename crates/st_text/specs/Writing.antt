@@ -28,9 +28,9 @@ abbrev pub WritesText : {S T E : Type 0} → (S → List ℕ → S → Type 0) �
 WritesText puts failed text old new r = MatchResult r (λ _. Writes puts failed text old new)
     (λ _. WritesPart puts failed text old new)
 
--- ---- on the way
+-- ---- text that goes through a buffer
 
--- what waited and the text went to the sink, but for what waits now
+-- the bytes that waited and then the text went to the sink, but for the bytes that wait now
 pub record Goes {S : Type 0} (puts : S → List ℕ → S → Type 0) (failed : S → Bool) (text : List ℕ)
     (old new : S)
     (waited waits : List ℕ) : Type 0 where

@@ -1,4 +1,4 @@
-//! Acts, from the front of some bytes. Each act is a word and its fields, with one space between.
+//! Reads an act at the front of some bytes: a word and its fields, with one space between.
 
 ghost use Rattle.st_text.specs.Parts.Words.{Gives};
 ghost use Rattle.st_text.specs.Parsing.{parse_component, parse_both, parse_want};
@@ -173,7 +173,7 @@ fn parse_tracer(bytes: &[u8]) -> Option<(Act, &[u8])>
     Some((Act::Tracer(pid, flag), rest))
 }
 
-/// An act that only names its actor.
+/// Reads an act that only names its actor.
 #[tactic(auto, unfolding(crate::specs::Parsing::parse_alone))]
 fn parse_alone(bytes: &[u8]) -> Option<(Act, &[u8])>
     ensures { Gives (λ x. (x.0, x.1.now)) result (parse_alone bytes.now) }

@@ -1,6 +1,6 @@
-//! A text under way: what its good lines came to, from the header on, and the fault of a next line.
-//! It knows lines, and nothing of bytes. Events go straight into the draft and acts into their
-//! list.
+//! Builds a bundle from the lines of a text, from the header on, and finds the fault of the next
+//! line. It knows lines, and nothing of bytes. Events go straight into the draft, and acts into
+//! their list.
 
 ghost use Rattle.std.specs.Prelude.{◌≡◌, ◌≤◌, ◌+◌, ◌&&◌, ◌||◌, not, List, ◌∷◌, [], Some};
 ghost use Rattle.std.specs.Ordering.{is_lt};
@@ -19,14 +19,13 @@ use crate::step::Step;
 use st_core::{Act, Draft, Event, Pid, Sequence};
 use std::alloc::Global;
 
-/// The bundle of the lines so far. Its counts are within the limits of its calls, and each limit is
-/// a `u32`.
+/// The bundle of the lines so far. Each limit on its counts is a `u32`, so they can't overflow.
 #[derive(Debug, Drop)]
 pub(crate) struct BundleBuilder {
     pub(crate) alloc: Global,
-    /// The header was `seqtrace 2`.
+    /// Whether the header was `seqtrace 2`.
     pub(crate) wide: bool,
-    /// A line named a pid of another node than 0.
+    /// Whether a line named a pid of another node than 0.
     pub(crate) remote: bool,
     pub(crate) draft: Draft,
     pub(crate) acts: Option<Sequence<Act>>,
@@ -41,9 +40,9 @@ pub(crate) struct BundleBuilder {
     ghost counted: { lines ≡ 1 + processes + events + acts_lines acts },
 }
 
-/// Whether a line that names a pid of another node is refused: under header 1. A call of its
-/// own, as those of `is_either`, so that a line takes one path and not two through its function's
-/// proof.
+/// Returns whether the header keeps a line out: it is header 1, and the line names a pid of
+/// another node. A function of its own, as `is_either` is, so that its caller's proof has one path
+/// and not two.
 fn keeps_out(wide: bool, away: bool) -> bool
     ensures { result ≡ (away && not wide) }
 {
@@ -56,7 +55,7 @@ fn is_either(a: bool, b: bool) -> bool
     a || b
 }
 
-/// Whether the pid isn't above the last one, if there is one.
+/// Returns whether there is a last process and the pid isn't above its pid.
 fn is_out_of_order(last: Option<Pid>, pid: Pid) -> bool
     ensures { result ≡ last_passes (λ q. not (is_lt (pid_cmp q pid))) last }
 {
@@ -69,7 +68,7 @@ fn is_out_of_order(last: Option<Pid>, pid: Pid) -> bool
 impl BundleBuilder {
     ghost use Rattle.st_text.specs.Parts.Builder.{IsBuilt, Takes, TakesLine};
 
-    /// Takes a line after the header. Takes no memory.
+    /// Makes the builder of a text that has only its header so far. Takes no memory.
     pub(crate) fn new(alloc: Global, wide: bool) -> BundleBuilder
         ensures { IsBuilt result (lines.Header wide ∷ []) }
     {
@@ -104,8 +103,8 @@ impl BundleBuilder {
         if self.processes >= limits.processes as u64 {
             return Step::Stops(ReadFault::TooMany(n));
         }
-        // The draft tests the order again, as it does for each caller; the test above gives the
-        // fault its place before `TooMany`. So memory ran out.
+        // `Order` was tested above, so that it comes before `TooMany`. The draft tests it again,
+        // as it does for each caller, so here only memory can have run out.
         let Ok(()) = self.draft.open(pid) else {
             return Step::Halts;
         };
@@ -139,8 +138,8 @@ impl BundleBuilder {
         if self.events >= limits.events as u64 {
             return Step::Stops(ReadFault::TooMany(n));
         }
-        // The draft tests this again, as it does for each caller; the test above gives the fault
-        // its place before `TooMany`. So memory ran out.
+        // `Foreign` was tested above, so that it comes before `TooMany`. The draft tests it again,
+        // as it does for each caller, so here only memory can have run out.
         let Ok(()) = self.draft.add(last, *event) else {
             return Step::Halts;
         };
@@ -205,7 +204,7 @@ impl BundleBuilder {
         }
     }
 
-    /// Accepts the next line, or bytes that say none.
+    /// Accepts the next line; `said` is `None` if its bytes aren't a line.
     #[inline(always)]
     pub(crate) fn accept(&mut self, limits: Limits, said: &Option<Line>) -> Step
         ensures { (ls : List Line) → IsBuilt self.old ls

@@ -10,7 +10,8 @@ ghost use Rattle.st_text.specs.Text.{is_listed, acts_or_none, unlisted_act};
 
 use st_core::{Act, Pid, Sequence, Streams};
 
-/// Streams and acts. The actor of each act, and a send's receiver, is listed in the streams.
+/// Streams, and acts if there are any. The streams list the actor of each act and the receiver of
+/// each send.
 #[derive(Debug, Drop)]
 pub struct Bundle {
     pub streams: Streams,
@@ -18,7 +19,8 @@ pub struct Bundle {
     ghost listed: { IsTrue (list_all (is_listed (pids_of streams)) (acts_or_none acts)) },
 }
 
-/// Why streams and acts make no bundle; both come back. It is the only reason.
+/// The streams and acts of which `Bundle::new` made no bundle. An act with an unlisted pid is its
+/// only reason to fail.
 #[derive(Debug, Drop)]
 pub struct UnknownAct {
     /// The number of the first act, counted from 0, whose actor or receiver isn't listed.
@@ -36,7 +38,7 @@ fn is_among(streams: &Streams, pid: Pid) -> bool
     }
 }
 
-/// The receiver of a send, and of other acts the actor again.
+/// Returns the receiver of a send, and the actor of any other act.
 fn receiver(act: &Act) -> Pid
     ensures { result ≡ receiver act.now }
 {
@@ -46,7 +48,7 @@ fn receiver(act: &Act) -> Pid
     }
 }
 
-/// Whether the act's actor, and a send's receiver, are listed in the streams.
+/// Returns whether the streams list the act's actor and, if it is a send, its receiver.
 fn is_listed(streams: &Streams, act: &Act) -> bool
     ensures { result ≡ is_listed (pids_of streams.now) act.now }
 {
@@ -74,8 +76,8 @@ fn unlisted_act(streams: &Streams, acts: &Option<Sequence<Act>>) -> Option<usize
 }
 
 impl Bundle {
-    /// A bundle of these parts, which come back if an act's actor or receiver isn't listed. Takes
-    /// no memory.
+    /// Makes a bundle, or returns its parts if the actor or the receiver of an act isn't listed.
+    /// Takes no memory.
     pub fn new(streams: Streams, acts: Option<Sequence<Act>>) -> Result<Bundle, UnknownAct>
         ensures parts { IfOk result (λ b. (b.streams ≡ streams) × (b.acts ≡ acts)) }
         ensures listed { OnOk result (unlisted_act streams acts ≡ None) }

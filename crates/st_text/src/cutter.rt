@@ -1,5 +1,6 @@
-//! Bytes in pieces, cut at their newlines. Whole lines are read in the piece itself; of the
-//! unfinished line no more is kept than a line can have. It counts no bytes.
+//! Cuts the pieces of a text at their newlines. A line that is whole in its piece is read there;
+//! of an unfinished line the cutter keeps no more than the longest line has. It doesn't count the
+//! bytes.
 
 ghost use Rattle.std.specs.Prelude.{◌≡◌, ◌<◌, ◌≤◌, ◌++◌, ◌∷◌, ◌||◌, [], List, ℕ, Bool, is_some};
 ghost use Rattle.std.specs.Prelude.{None, Some, false, IfOk, OnOk, OnErr, vec_len, length};
@@ -30,18 +31,18 @@ pub(crate) struct Cutter {
     pub(crate) alloc: Global,
     /// The unfinished line.
     pub(crate) tail: Vec<u8>,
-    /// The unfinished line is longer than any line, and isn't kept.
+    /// Whether the unfinished line is longer than any line can be; then it isn't kept.
     pub(crate) long: bool,
     /// The bundle of the lines so far; none before the header.
     pub(crate) builder: Option<BundleBuilder>,
     /// The fault of the first faulty line. Later bytes aren't looked at.
     pub(crate) fault: Option<ReadFault>,
-    /// Memory ran out.
+    /// Whether memory ran out.
     pub(crate) out: bool,
     ghost short: { vec_len tail ≤ longest },
 }
 
-/// The header that a line says, if it does.
+/// Returns whether a header is `seqtrace 2`, if the line is a header.
 fn header_of(said: &Option<Line>) -> Option<bool>
     ensures { result ≡ header_of said.now }
 {
@@ -51,7 +52,8 @@ fn header_of(said: &Option<Line>) -> Option<bool>
     }
 }
 
-/// Passes the next line on to the builder, or bytes that say none. The first has to be a header.
+/// Passes the next line on to the builder; `said` is `None` if its bytes aren't a line. The first
+/// line has to be a header.
 #[inline(always)]
 fn pass_on(
     alloc: Global,
@@ -74,8 +76,8 @@ fn pass_on(
     }
 }
 
-/// Reads a line that began in an earlier piece, once the rest of it is there, and returns the place
-/// for the next one. No line is longer than the longest, so a longer one says nothing.
+/// Reads a line that began in an earlier piece, now that the rest of it is there, and clears
+/// `tail`. Bytes longer than the longest line aren't a line.
 fn whole_line(long: bool, tail: &mut Vec<u8>, rest: &[u8]) -> Result<Option<Line>, AllocError>
     requires { vec_len tail.old ≤ longest }
     ensures said { (t : List ℕ) → IsTail long tail.old.items t
@@ -103,7 +105,7 @@ impl Cutter {
     ghost use Rattle.st_text.specs.Parts.CutterState.{EndsOne};
     ghost use Rattle.st_text.specs.Answer.{IsReadResult};
 
-    /// No bytes so far. Takes no memory.
+    /// Makes a cutter that has taken no bytes. Takes no memory.
     pub(crate) fn new(alloc: Global) -> Cutter
         ensures holds { (limits : Limits) → HasTaken limits [] result }
         ensures fresh { result.out ≡ false }
@@ -118,7 +120,7 @@ impl Cutter {
         }
     }
 
-    /// Adds to the unfinished line.
+    /// Adds bytes without a newline to the unfinished line.
     fn keep(&mut self, rest: &[u8])
         requires going { self.old.out ≡ false }
         requires good { self.old.fault ≡ None }
@@ -140,7 +142,7 @@ impl Cutter {
         }
     }
 
-    /// Passes on what the unfinished line, now ended, says. The place for the next one is empty.
+    /// Passes on the line that has just ended; `tail` is empty for the next one.
     #[inline(always)]
     fn pass_line(&mut self, limits: Limits, said: &Option<Line>)
         requires going { self.old.out ≡ false }
@@ -194,14 +196,14 @@ impl Cutter {
         self.pass_line(limits, &read_line(rest));
     }
 
-    /// Whether a line is faulty or memory ran out, so that more bytes change nothing.
+    /// Returns whether a line is faulty or memory ran out, so that more bytes change nothing.
     fn is_over(&self) -> bool
         ensures { result ≡ (self.now.out || is_some self.now.fault) }
     {
         self.out || self.fault.is_some()
     }
 
-    /// Passes on the lines that end in a piece, and keeps the rest.
+    /// Passes on the lines that end in a piece, and keeps the bytes after its last newline.
     pub(crate) fn pass_piece(&mut self, limits: Limits, piece: &[u8])
         ensures { (bytes : List ℕ) → HasTaken limits bytes self.old
             → Comes limits (bytes ++ piece.now) self.new
@@ -219,7 +221,7 @@ impl Cutter {
         }
     }
 
-    /// The bundle whose text the pieces were, or why there is none.
+    /// Returns the bundle whose text the pieces were, or why there is none.
     pub(crate) fn end(self) -> Result<Bundle, ReadFault>
         requires { self.out ≡ false }
         ensures { (limits : Limits) (bytes : List ℕ) → length bytes ≤ limits.bytes

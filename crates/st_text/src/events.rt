@@ -1,4 +1,4 @@
-//! The system tracer's tuples, from the front of some bytes.
+//! Reads the system tracer's tuples at the front of some bytes.
 
 ghost use Rattle.st_text.specs.Parts.Words.{Gives};
 ghost use Rattle.st_text.specs.Parsing.{parse_kind, parse_head, parse_some_pid};
@@ -43,7 +43,7 @@ fn parse_some_pid(bytes: &[u8]) -> Option<(Option<Pid>, &[u8])>
     Some((Some(pid), rest))
 }
 
-/// The receiver, or the unused place of a print.
+/// Reads the receiver, or the `[]` that a print has in its place.
 #[tactic(auto, unfolding(crate::specs::Parsing::parse_place))]
 fn parse_place(kind: Kind, bytes: &[u8]) -> Option<(Option<Pid>, &[u8])>
     ensures { Gives (λ x. (x.0, x.1.now)) result (parse_place kind bytes.now) }
@@ -70,7 +70,7 @@ fn parse_ends(kind: Kind, bytes: &[u8]) -> Option<((Pid, Option<Pid>), &[u8])>
     Some(((from, to), rest))
 }
 
-/// An event after its first word.
+/// Reads an event after its first word.
 #[tactic(auto, unfolding(crate::specs::Parsing::parse_event))]
 pub(crate) fn parse_event(bytes: &[u8]) -> Option<(Event, &[u8])>
     ensures { Gives (λ x. (x.0, x.1.now)) result (parse_event bytes.now) }

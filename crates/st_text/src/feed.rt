@@ -1,5 +1,5 @@
-//! A reader of a bundle's text that takes it in pieces, however it is cut. It counts the bytes; the
-//! lines are the cutter's.
+//! A reader of a bundle's text that takes it in pieces, however it is cut. The feed counts the
+//! bytes, and its cutter takes the lines.
 
 ghost use Rattle.std.specs.Prelude.{◌≡◌, ◌≤◌, ◌++◌, [], List, ℕ, Some, None, Err};
 ghost use Rattle.st_text.specs.Growth.{Grows};
@@ -11,13 +11,13 @@ use crate::fault::ReadFault;
 use crate::limits::Limits;
 use std::alloc::Global;
 
-/// Takes a bundle's text in pieces. It keeps what the lines so far came to and the unfinished line,
-/// as far as a line can be long.
+/// A reader that takes a bundle's text in pieces. It keeps the bundle of the lines so far, and of
+/// the unfinished line no more than the longest line has.
 #[derive(Debug, Drop)]
 pub struct Feed {
     limits: Limits,
     count: u64,
-    /// There were more bytes than a text may have.
+    /// Whether there were more bytes than the limits allow.
     large: bool,
     cutter: Cutter,
     ghost small: { count ≤ limits.bytes },
@@ -29,7 +29,7 @@ impl Feed {
     ghost use Rattle.st_text.specs.Answer.{IsReadResultOrMemory, IsReadResult};
     ghost use Rattle.st_text.specs.declared.fault.ReadFault.TheVariants as faults;
 
-    /// No bytes yet, within the standard limits. Takes no memory.
+    /// Makes a feed without bytes, within the standard limits. Takes no memory.
     pub fn new(alloc: Global) -> Feed
         ensures limits { result.limits ≡ standard }
         ensures fed { WasFed [] result }
@@ -38,7 +38,7 @@ impl Feed {
         Feed::within(alloc, Limits::STANDARD)
     }
 
-    /// No bytes yet, within these limits. Takes no memory.
+    /// Makes a feed without bytes, within these limits. Takes no memory.
     pub fn within(alloc: Global, limits: Limits) -> Feed
         ensures limits { result.limits ≡ limits }
         ensures fed { WasFed [] result }
@@ -52,11 +52,12 @@ impl Feed {
         }
     }
 
-    /// Takes the next piece of the text. It returns `TooLarge` at the first byte too many and
-    /// `Memory` if memory runs out, and either again from then on; other faults come at the end.
+    /// Takes the next piece of the text. Fails with `TooLarge` at the first byte too many, and
+    /// with `Memory` if memory runs out; every later call returns the same fault. Other faults
+    /// come from `end`.
     pub fn piece(&mut self, piece: &[u8]) -> Result<(), ReadFault>
         ensures limits { self.new.limits ≡ self.old.limits }
-        // However the text is cut into pieces.
+        // It doesn't matter how the text is cut into pieces.
         ensures fed { (bytes : List ℕ) → WasFed bytes self.old
             → WasFed (bytes ++ piece.now) self.new }
         ensures answer { result ≡ answer_of (fed_refusal self.new) }
@@ -84,7 +85,7 @@ impl Feed {
         Ok(())
     }
 
-    /// The bundle whose text the pieces were, or why there is none. Takes no memory.
+    /// Returns the bundle whose text the pieces were, or why there is none. Takes no memory.
     pub fn end(self) -> Result<Bundle, ReadFault>
         ensures answers { (bytes : List ℕ) → WasFed bytes self
             → IsReadResultOrMemory self.limits bytes result }

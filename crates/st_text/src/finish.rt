@@ -1,4 +1,5 @@
-//! The end of a text whose lines are each good: its bundle, or the fault that only the whole shows.
+//! Finishes a text whose lines are all good: returns its bundle, or the fault that only the whole
+//! text shows.
 
 ghost use Rattle.std.specs.Prelude.{◌≡◌, ◌<◌, ◌^◌, ◌&&◌, not, List, length};
 ghost use Rattle.st_text.specs.declared.line.Line.{Line};
@@ -10,7 +11,7 @@ use crate::bundle::Bundle;
 use crate::fault::ReadFault;
 use st_core::{Draft, Pid};
 
-/// The line of an event, if it is one that a text can have.
+/// Returns the number of an event's line, if it is below 2^64.
 fn event_line(draft: &Draft, pid: Pid, index: u64) -> u64
     ensures { event_line_number draft.now pid index < 2 ^ 64
         → result ≡ event_line_number draft.now pid index }
@@ -27,15 +28,15 @@ fn event_line(draft: &Draft, pid: Pid, index: u64) -> u64
     n
 }
 
-/// Whether the header is 2 though no line names a pid of another node. A call of its own, for one
-/// path in the proof.
+/// Returns whether the header is 2 though no line names a pid of another node. A function of its
+/// own, so that its caller's proof has one path and not two.
 fn is_needless(wide: bool, remote: bool) -> bool
     ensures { result ≡ (wide && not remote) }
 {
     wide && !remote
 }
 
-/// The bundle that the lines made.
+/// Returns the bundle of the lines, or the fault that only all of them show.
 pub(crate) fn finish(builder: BundleBuilder) -> Result<Bundle, ReadFault>
     ensures { (ls : List Line) → IsBuilt builder ls → length ls < 2 ^ 64
         → Finishes ls builder result }

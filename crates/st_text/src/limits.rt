@@ -1,7 +1,7 @@
 //! How much of a text the reader takes.
 
-/// The most bytes, processes, events and acts that a text may have. Those of lines are `u32`, so
-/// that no count of lines overflows.
+/// The most bytes, processes, events and acts that a text may have. The limits on lines are `u32`,
+/// so that the count of lines can't overflow.
 #[derive(Clone, Copy, Debug, PartialEq, Eq)]
 pub struct Limits {
     pub bytes: u64,
@@ -11,8 +11,8 @@ pub struct Limits {
 }
 
 impl Limits {
-    /// The limits of `read`: what a trace that people look at has, in memory of a few hundred
-    /// megabytes.
+    /// The limits of `read`: enough for a trace that people look at, in a few hundred megabytes of
+    /// memory.
     pub const STANDARD: Limits = Limits {
         bytes: 67_108_864,
         processes: 1_024,
@@ -20,10 +20,10 @@ impl Limits {
         acts: 4_000_000,
     };
 
-    /// Those of `seqtool`: what a service reports that starts a process for each request, and each
-    /// certificate of such a trace. The acts of 16,000,000 events are at most 98,065,536: six for
-    /// each event, 1,000,000 prints, and one for each process and each of 65,536 nodes. That many
-    /// of the longest lines have fewer bytes.
+    /// The limits of `seqtool`: enough for a service that starts a process for each request, and
+    /// for the certificate that an audit of its trace makes. The acts of 16,000,000 events are at
+    /// most 98,065,536: six for each event, 1,000,000 prints, and one for each process and each of
+    /// 65,536 nodes. The bytes suffice even if every line is as long as the longest.
     pub const GREATER: Limits = Limits {
         bytes: 17_179_869_184,
         processes: 1_000_000,

@@ -22,7 +22,7 @@ pub enum Line {
     Act(Act),
 }
 
-/// A line that a text has once, or once for each process.
+/// Reads a line that a text has once, or once for each process.
 #[tactic(auto, unfolding(crate::specs::Parsing::parse_rare))]
 fn parse_rare(bytes: &[u8]) -> Option<(Line, &[u8])>
     ensures { Gives (λ x. (x.0, x.1.now)) result (parse_rare bytes.now) }
@@ -43,7 +43,7 @@ fn parse_rare(bytes: &[u8]) -> Option<(Line, &[u8])>
     None
 }
 
-/// The commonest lines are tried first.
+/// Tries the commonest lines first.
 #[tactic(auto, unfolding(crate::specs::Parsing::parse_line))]
 fn parse_line(bytes: &[u8]) -> Option<(Line, &[u8])>
     ensures { Gives (λ x. (x.0, x.1.now)) result (parse_line bytes.now) }

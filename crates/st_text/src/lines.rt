@@ -1,5 +1,5 @@
-//! Lines on their way to a sink, whatever they say: the words and a newline of each wait in the
-//! buffer. Writing takes no memory.
+//! Writes lines of any kind to a sink: the words and the newline of each go into a buffer first.
+//! Writing takes no memory.
 
 ghost use Rattle.std.specs.Prelude.{◌≡◌, ◌+◌, ◌<◌, ◌++◌, ℕ, List};
 ghost use Rattle.std.specs.List.{flat_map};
@@ -63,8 +63,8 @@ impl TextLine for Act {
     }
 }
 
-/// Writes a line into the buffer, and first what waits there if too little room is left. Always
-/// inlined, so that no copy of the line is made on the way.
+/// Writes a line and its newline into the buffer; if a whole piece waits there, writes that piece
+/// to the sink first. Always inlined, so that the line isn't copied.
 #[inline(always)]
 pub fn write_line<S: ByteSink, L: TextLine>(
     sink: &mut S,

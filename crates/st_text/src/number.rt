@@ -1,5 +1,5 @@
-//! Decimal numbers: digits without a leading zero, up to the limit of their place. Every number of
-//! a text is read here.
+//! Reads decimal numbers: digits without a leading zero, up to the limit of their place. Every
+//! number of a text is read here.
 
 ghost use Rattle.std.specs.Prelude.{◌≡◌, ◌≤◌, ◌<◌, ◌+◌, ◌*◌, ◌^◌, ◌∷◌, ℕ, List, IfSome};
 ghost use Rattle.std.specs.Prelude.{MatchOption};
@@ -10,14 +10,14 @@ ghost use Rattle.st_text.specs.Parts.Digits.{HasRead};
 ghost use Rattle.st_text.specs.Parts.Words.{Gives};
 ghost use Rattle.st_text.specs.Parsing.{number};
 
-/// Another digit fits after any number below this one.
+/// The number below which any number has room for another digit.
 const FITS_BELOW: u64 = u64::MAX / 10;
 
-/// The digits that most numbers have at most after the first. If so many bytes are left, the
-/// compiler tests none of them for the end of the bytes, or for a number that is too great.
+/// The most digits that follow the first in most numbers. If at least `FEW` bytes are left, the
+/// compiler drops the tests for the end of the bytes and for a number that is too great.
 const FEW: usize = 4;
 
-/// The number with another digit after it, if that fits.
+/// Appends a digit to a number, if the result is at most `u64::MAX`.
 #[inline(always)]
 fn with_digit(n: u64, digit: u8) -> Option<u64>
     requires { digit < 10 }
@@ -29,7 +29,7 @@ fn with_digit(n: u64, digit: u8) -> Option<u64>
     n.checked_mul(10)?.checked_add(u64::from(digit))
 }
 
-/// The value of the digit that the bytes begin with, and the bytes after it.
+/// Returns the value of the digit that the bytes begin with, and the bytes after it.
 #[inline(always)]
 fn digit_at(bytes: &[u8]) -> Option<(u8, &[u8])>
     ensures { MatchOption result (prefix_len is_ascii_digit bytes.now ≡ 0)
@@ -41,7 +41,7 @@ fn digit_at(bytes: &[u8]) -> Option<(u8, &[u8])>
     }
 }
 
-/// The number `n`, if it is at most `most`, and the rest of the bytes.
+/// Returns `n` and the rest of the bytes, if `n` is at most `most`.
 #[inline(always)]
 fn at_most(most: u64, n: u64, rest: &[u8]) -> Option<(u64, &[u8])>
     requires { prefix_len is_ascii_digit rest.now ≡ 0 }
@@ -55,8 +55,8 @@ fn at_most(most: u64, n: u64, rest: &[u8]) -> Option<(u64, &[u8])>
     Some((n, rest))
 }
 
-/// The number of at most `most` that goes on after `n` with the digits in front of the bytes, and
-/// the bytes after it.
+/// Reads the rest of a number that is `n` so far, and returns the number, if it is at most `most`,
+/// and the bytes after it.
 #[inline(always)]
 fn more_digits(most: u64, n: u64, bytes: &[u8]) -> Option<(u64, &[u8])>
     ensures exact { (all : List ℕ) → HasRead all bytes.now n →
@@ -72,7 +72,7 @@ fn more_digits(most: u64, n: u64, bytes: &[u8]) -> Option<(u64, &[u8])>
     at_most(most, n, rest)
 }
 
-/// Does what `more_digits` does, in fewer steps if `FEW` bytes are left.
+/// Does what `more_digits` does, in fewer steps if at least `FEW` bytes are left.
 #[inline(always)]
 fn few_digits(most: u64, n: u64, bytes: &[u8]) -> Option<(u64, &[u8])>
     ensures exact { (all : List ℕ) → HasRead all bytes.now n →
@@ -94,7 +94,8 @@ fn few_digits(most: u64, n: u64, bytes: &[u8]) -> Option<(u64, &[u8])>
     more_digits(most, n, rest)
 }
 
-/// The number of at most `most` that the bytes begin with, and the bytes after it.
+/// Reads the number at the front of the bytes, and returns it, if it is at most `most`, and the
+/// bytes after it.
 #[inline(always)]
 pub(crate) fn number(most: u64, bytes: &[u8]) -> Option<(u64, &[u8])>
     ensures exact { Gives (λ x. (x.0, x.1.now)) result (number most bytes.now) }

@@ -1,4 +1,4 @@
-//! Whether a pid of another node than 0 is named: what a header has to say.
+//! Tests for pids of other nodes than 0, which decide the header.
 
 ghost use Rattle.std.specs.Prelude.{◌≡◌};
 ghost use Rattle.std.specs.List.{list_any, flat_map};
@@ -80,7 +80,7 @@ fn are_streams_remote(streams: &Streams) -> bool
     false
 }
 
-/// Whether any line of these parts names a pid of another node.
+/// Returns whether any line of a bundle with these parts names a pid of another node than 0.
 pub(crate) fn are_parts_remote(streams: &Streams, acts: Option<&[Act]>) -> bool
     ensures { result ≡ list_any is_remote (body (parts streams.now acts.entry)) }
 {

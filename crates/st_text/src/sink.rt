@@ -1,5 +1,4 @@
-//! Bytes on their way to a sink: all of a piece, and through a buffer on the stack. Nothing here
-//! knows of lines.
+//! Writes bytes to a sink, directly or through a buffer on the stack. Nothing here knows of lines.
 
 ghost use Rattle.std.specs.Prelude.{◌≡◌, ◌≤◌, ◌-◌, [], drop, OnOk, OnErr};
 ghost use Rattle.arrayvec.specs.ArrayVec.{array_vec_len};
@@ -30,7 +29,8 @@ pub fn put_all<S: ByteSink>(sink: &mut S, bytes: &[u8]) -> Result<(), Device>
     Ok(())
 }
 
-/// Writes what waits. After a failure it waits still, though the sink may have taken a part of it.
+/// Writes all bytes of the buffer, and empties it. After a failure they all stay in the buffer,
+/// though the sink may have taken some of them.
 pub fn flush<S: ByteSink>(sink: &mut S, buffer: &mut Buffer) -> Result<(), Device>
     ensures goes { WritesOn S.puts S.failed [] sink.old sink.new
         buffer.old.items buffer.new.items result }
@@ -43,7 +43,7 @@ pub fn flush<S: ByteSink>(sink: &mut S, buffer: &mut Buffer) -> Result<(), Devic
     Ok(())
 }
 
-/// Removes a piece, which was written, from the front.
+/// Removes a piece from the front of the buffer, after it was written.
 fn remove_piece(buffer: &mut Buffer)
     requires { piece_room ≤ array_vec_len buffer.old }
     ensures items { buffer.new.items ≡ drop piece_room buffer.old.items }
@@ -54,7 +54,7 @@ fn remove_piece(buffer: &mut Buffer)
     buffer.truncate(len - PIECE);
 }
 
-/// Makes room for a line: if a piece waits, it is written.
+/// Makes room for a line: writes a piece of the buffer to the sink if a whole one waits there.
 pub fn make_room<S: ByteSink>(sink: &mut S, buffer: &mut Buffer) -> Result<(), Device>
     ensures goes { WritesOn S.puts S.failed [] sink.old sink.new
         buffer.old.items buffer.new.items result }

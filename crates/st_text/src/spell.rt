@@ -1,5 +1,5 @@
-//! Values spelled into a buffer on the stack, which never takes memory. Each function appends the
-//! one spelling of its value; that there is room is its caller's to know. Nothing here knows of a
+//! Spells values into a buffer on the stack, without taking memory. Each function appends the one
+//! spelling of its value; its caller sees to it that there is room. Nothing here knows of a
 //! device.
 
 ghost use Rattle.std.specs.Prelude.{◌≡◌, ◌<◌, ◌+◌, ◌/◌, ◌%◌, [], ◌∷◌, ◌++◌, length, decimal};
@@ -12,14 +12,14 @@ ghost use Rattle.st_text.specs.Room.{component_room, want_room, flags_room, toke
 use arrayvec::ArrayVec;
 use st_core::{Act, Component, Event, Flags, Kind, Label, Pid, Serial, Token, Want};
 
-/// The bytes that are written at once: whole pages of the system's memory, since a file takes parts
-/// of a page more slowly.
+/// The number of bytes that are written at once: whole pages of the system's memory, since a file
+/// takes parts of a page more slowly.
 pub(crate) const PIECE: usize = 8192;
 
 /// The most bytes that a line and its newline take: an event's room, rounded up.
 const LINE: usize = 256;
 
-/// The most bytes that wait to be written: a piece less one, and a line.
+/// The size of the buffer: while less than a piece waits, there is room for a line.
 const BUFFER: usize = PIECE + LINE;
 
 /// Bytes that wait to be written.
@@ -86,7 +86,8 @@ fn put_four(buffer: &mut Buffer, number: u64)
     }
 }
 
-/// Appends a decimal number. Those of at most eight digits are written straight into the buffer.
+/// Appends a number in decimal. A number of at most eight digits is written straight into the
+/// buffer.
 pub fn put_number(buffer: &mut Buffer, number: u64)
     requires { HasRoom number_room buffer.old }
     ensures { Puts number_room (decimal number) buffer.old buffer.new }

@@ -1,5 +1,5 @@
-//! The words and small values at the front of some bytes: each function returns the value and the
-//! bytes after it; [`read_pid`] and [`read_number`] read a word of a command line.
+//! Readers of a word or a small value at the front of some bytes: each returns the value and the
+//! bytes after it. [`read_pid`] and [`read_number`] read a whole word of a command line.
 
 ghost use Rattle.std.specs.Prelude.{◌≡◌};
 ghost use Rattle.st_text.specs.Parts.Words.{Gives};
@@ -16,7 +16,7 @@ const MOST_PID: u64 = 65_535;
 /// The greatest label.
 const MOST_LABEL: u64 = 4_294_967_295;
 
-/// The bytes after a word that they begin with.
+/// Returns the bytes after the word, if they begin with it.
 #[inline]
 pub(crate) fn after<'a>(word: &[u8], bytes: &'a [u8]) -> Option<&'a [u8]>
     ensures { Gives (λ x. x.now) result (after word.now bytes.now) }
@@ -72,7 +72,7 @@ pub(crate) fn parse_serial(bytes: &[u8]) -> Option<(Serial, &[u8])>
     Some((Serial { prev, this }, rest))
 }
 
-/// A pid and the space after it.
+/// Reads a pid and the space after it.
 #[inline]
 #[tactic(auto, unfolding(crate::specs::Parsing::parse_actor))]
 pub(crate) fn parse_actor(bytes: &[u8]) -> Option<(Pid, &[u8])>
@@ -94,7 +94,7 @@ fn parse_bare_pid(bytes: &[u8]) -> Option<(Pid, &[u8])>
     Some((Pid::on(node as u16, number as u16), rest))
 }
 
-/// The pid that all the bytes spell, as `<0.31.0>` or `0.31.0`.
+/// Returns the pid that all the bytes spell, as `<0.31.0>` or `0.31.0`; else `None`.
 #[tactic(auto, unfolding(crate::specs::Parsing::pid_in))]
 pub fn read_pid(bytes: &[u8]) -> Option<Pid>
     ensures { result ≡ pid_in bytes.now }
@@ -107,7 +107,8 @@ pub fn read_pid(bytes: &[u8]) -> Option<Pid>
     if rest.is_empty() { Some(pid) } else { None }
 }
 
-/// The number that all the bytes spell.
+/// Returns the number that all the bytes spell in decimal, without a leading zero and at most
+/// `u64::MAX`; else `None`.
 #[tactic(auto, unfolding(crate::specs::Parsing::number_in))]
 pub fn read_number(bytes: &[u8]) -> Option<u64>
     ensures { result ≡ number_in bytes.now }

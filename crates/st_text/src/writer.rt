@@ -1,4 +1,4 @@
-//! Writing a bundle: its one text, to any sink, through a buffer on the stack. Writing takes no
+//! Writes a bundle: its one text, to any sink, through a buffer on the stack. Writing takes no
 //! memory.
 
 ghost use Rattle.std.specs.Prelude.{Some};
@@ -45,7 +45,7 @@ fn write_streams<S: ByteSink>(
     Ok(())
 }
 
-/// Writes the word `acts` and these acts into the buffer, a line each.
+/// Writes the word `acts` and the acts into the buffer, a line each.
 pub fn write_acts<S: ByteSink>(
     sink: &mut S,
     buffer: &mut Buffer,
@@ -74,7 +74,6 @@ fn write_body<S: ByteSink>(
     }
 }
 
-/// Writes all lines.
 fn write_lines<S: ByteSink>(
     sink: &mut S,
     buffer: &mut Buffer,

@@ -1,5 +1,4 @@
--- A text under way: the lines from the header on, all good, and what is kept of
--- them.
+-- A builder after some good lines, from the header on.
 use Rattle.std.specs.Prelude.{◌≡◌, Bool, true, List, [], ◌∷◌, ◌++◌, length, Option, Some, None}
 use Rattle.std.specs.Prelude.{is_some}
 use Rattle.std.specs.List.{count_by, list_any}
@@ -18,11 +17,11 @@ use Rattle.st_text.specs.Fault.{line_fault}
 use Rattle.st_text.specs.Growth.{is_kept_line}
 use Rattle.st_text.specs.Parts.Counts.{acts_len}
 
--- the lines of a header and what is after it
+-- a header, and the lines of these streams and acts
 abbrev pub so_far : Bool → List Stream → Option (List Act) → List Line
 so_far wide streams acts = lines.Header wide ∷ body (record { streams = streams; acts = acts })
 
--- what is kept is what these lines say
+-- the builder keeps what these lines say
 pub record IsBuilt (p : BundleBuilder) (ls : List Line) : Type 0 where
   pub lines : ls ≡ so_far p.wide p.draft p.acts
   pub count : p.lines ≡ length ls
@@ -36,20 +35,20 @@ pub record IsBuilt (p : BundleBuilder) (ls : List Line) : Type 0 where
   pub wide_is : p.wide ≡ list_any is_wide_header ls
   pub rising : IsRising (pids_of p.draft)
 
--- the line says l, which has no fault, and is one that has to be kept
+-- the next line has no fault, and a bundle holds it
 pub record NeedsRoom (limits : Limits) (ls : List Line) (said : Option Line) : Type 0 where
   pub line : Line
   pub said_is : said ≡ Some line
   pub good : line_fault limits ls (Some line) ≡ None
   pub kept : is_kept_line line ≡ true
 
--- a next line goes on, or has a fault, or there was no room for it
+-- the next line is taken, or has a fault, or there was no room for it
 abbrev pub Takes : Limits → List Line → Line → BundleBuilder → Step → Type 0
 Takes limits ls l new Goes = (line_fault limits ls (Some l) ≡ None) × IsBuilt new (ls ++ l ∷ [])
 Takes limits ls l new (Stops f) = line_fault limits ls (Some l) ≡ Some f
 Takes limits ls l new Halts = NeedsRoom limits ls (Some l)
 
--- the same of bytes that may say no line
+-- the step after the next bytes, which have a fault if they aren't a line
 abbrev pub TakesLine : Limits → List Line → Option Line → BundleBuilder → Step → Type 0
 TakesLine limits ls (Some l) new step = Takes limits ls l new step
 TakesLine limits ls None new Goes = ⊥

@@ -6,7 +6,7 @@ abbrev pub acts_len : Option (List Act) → ℕ
 acts_len None = 0
 acts_len (Some list) = length list
 
--- how many lines they take, with the word before them
+-- how many lines the acts take, with the word before them
 abbrev pub acts_lines : Option (List Act) → ℕ
 acts_lines None = 0
 acts_lines (Some list) = 1 + length list

@@ -1,4 +1,4 @@
--- The lines so far and the unfinished line, as the functions of `cutter.rt` tell of them.
+-- The lines so far and the unfinished line, in the terms of `cutter.rt`.
 use Rattle.std.specs.Prelude.{◌≡◌, ℕ, ◌<◌, ◌==◌, Bool, true, false, List, [], ◌∷◌, ◌++◌, length}
 use Rattle.std.specs.Prelude.{Option, Some, None}
 use Rattle.std.specs.List.{AllByRecursion}
@@ -13,12 +13,12 @@ use Rattle.st_text.specs.Parts.Builder.{IsBuilt, NeedsRoom}
 
 -- ---- the lines so far, and the next one
 
--- these are the lines so far
+-- the builder has taken these lines; there are none if there is no builder
 abbrev pub IsStateAfter : Option BundleBuilder → List Line → Type 0
 IsStateAfter None ls = ls ≡ []
 IsStateAfter (Some p) ls = IsBuilt p ls
 
--- the line says l, which has no fault, and is kept
+-- the bytes say line l, which has no fault, and the builder has taken it
 pub record Adds (limits : Limits) (ls : List Line) (said : Option Line) (new : Option BundleBuilder)
     (l : Line) : Type
     0 where

@@ -1,4 +1,4 @@
--- The end of good lines: a bundle, or a fault that only the whole of them shows.
+-- The end of good lines: a bundle, or a fault that only all of them show.
 use Rattle.std.specs.Prelude.{◌≡◌, ℕ, ◌+◌, List, [], ◌∷◌, length, Some, None, Result, Ok, Err}
 use Rattle.std.specs.Prelude.{if◌then◌else◌}
 use Rattle.st_core.specs.declared.types.Pid.{Pid}
@@ -12,7 +12,7 @@ use Rattle.st_text.specs.declared.builder.BundleBuilder.{BundleBuilder}
 use Rattle.st_text.specs.Fault.{closing_fault}
 use Rattle.st_text.specs.Parts.Builder.{so_far}
 
--- the line of the event at this index of p, if the first of these processes is at line n
+-- the number of the line of p's event with index i, if the first of these processes is on line n
 abbrev pub line_at_place : (Pid → ℕ) → ℕ → List Pid → Pid → ℕ → ℕ
 line_at_place count n [] p i = n
 line_at_place count n (q ∷ ps) p i =

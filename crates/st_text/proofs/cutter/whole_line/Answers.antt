@@ -1,4 +1,4 @@
--- A line longer than the longest says nothing.
+-- Bytes longer than the longest line aren't a line.
 use Rattle.std.proofs.Common.{sym, arith}
 use Rattle.st_text.proofs.CutterSteps.{long_says_none, outgrown_says_none}
 use Rattle.st_text.proofs.cutter.whole_line.Goals as goal

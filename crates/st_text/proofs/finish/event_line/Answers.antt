@@ -1,4 +1,4 @@
--- Each process takes a line and one for each of its events, until the one that is looked for.
+-- Each process before the event's own takes one line, and one for each of its events.
 use Rattle.std.proofs.Common.{◌≡◌, ◌+◌, ◌∙◌, ℕ, List, [], drop, get_or, length, sym, ap, arith}
 use Rattle.std.proofs.Common.{length-drop}
 use Rattle.std.proofs.lemmas.List.{nil_from_length}

@@ -1,4 +1,4 @@
--- The rest of the processes, counted from here, come to the same line.
+-- Counting on from here over the other processes comes to the event's line.
 use Rattle.std.proofs.Common.{◌≡◌, ◌<◌, ◌^◌, drop, length}
 use Rattle.st_core.specs.Streams.{events_of}
 use Rattle.st_text.specs.Parts.Finish.{event_line_number, line_at_place}

@@ -1,4 +1,4 @@
--- Both definitions go through the lines from the front and stop at the first.
+-- Both definitions go through the lines from the front, and stop at the first line that fails.
 use Rattle.st_text.proofs.FirstFault.{fails_first, first_unknown}
 use Rattle.st_text.proofs.laws.fault_is_first.Goals as goal
 

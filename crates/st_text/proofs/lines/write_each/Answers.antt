@@ -1,11 +1,11 @@
--- The lines go one after the other.
+-- The lines are written one after the other.
 use Rattle.std.proofs.Common.{◌≡◌, Bool, List, ℕ, ◌++◌, refl, subst}
 use Rattle.st_text.specs.Spelling.{ended_line}
 use Rattle.st_text.specs.Writing.{Goes, WritesPart}
 use Rattle.st_text.proofs.Puts.{goes_still, one_more, one_failed, all_done, on_err}
 use Rattle.st_text.proofs.lines.write_each.Goals as goal
 
--- the line that was written is the one that was read
+-- the line that was written is the one that the loop took from the list
 module _ {S X : Type 0} (puts : S → List ℕ → S → Type 0) (failed : S → Bool) (f : X → List ℕ)
     (v w : X)
     (same : v ≡ w) where

@@ -1,4 +1,4 @@
--- The lines so far went.
+-- The lines so far were written.
 use Rattle.std.proofs.Common.{take}
 use Rattle.std.specs.List.{flat_map}
 use Rattle.st_text.specs.Spelling.{ended_line}

@@ -1,4 +1,4 @@
--- Room is made, and the words and the newline wait.
+-- After room is made, the words and the newline wait in the buffer.
 use Rattle.std.proofs.Common.{ℕ, List, [], ◌∷◌, ◌++◌, ap, append_assoc, ◌∙◌}
 use Rattle.st_text.specs.Spelling.{ended_line}
 use Rattle.st_text.proofs.Puts.{part_longer, goes_then, goes_buffer, on_err}

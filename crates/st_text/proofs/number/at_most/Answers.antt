@@ -1,4 +1,4 @@
--- All digits are read, so that the number is what they are worth.
+-- All digits are read, so the number is their value.
 use Rattle.std.proofs.Common.{arith}
 use Rattle.st_text.proofs.Digits.{none_of_more, number_read}
 use Rattle.st_text.proofs.number.at_most.Goals as goal

@@ -1,4 +1,4 @@
--- A digit more is that of the number too, unless the number has become too great for any.
+-- The next digit is one of the number too; if it doesn't fit, the number is too great.
 use Rattle.std.proofs.Common.{arith}
 use Rattle.st_text.proofs.Digits.{goes_on, none_that_fits}
 use Rattle.st_text.proofs.number.few_digits.Goals as goal

@@ -1,4 +1,5 @@
--- The digits are read one after the other, so that they are the decimal of what they are worth.
+-- The digits are read one after the other, and don't begin with 0, so they are the decimal
+-- spelling of their value.
 use Rattle.std.proofs.Common.{arith}
 use Rattle.st_text.proofs.Digits.{begins, none_in_front, none_behind_zero, zero_alone}
 use Rattle.st_text.proofs.number.number.Goals as goal

@@ -1,5 +1,5 @@
--- Each call's bytes are added to those before; at the source's end the feed's answer is that of
--- them all.
+-- Each call's bytes go after those before, and at the source's end the feed's result is that of
+-- all the bytes.
 use Rattle.std.proofs.Common.{◌≡◌, ◌<◌, ◌≤◌, ◌+◌, ◌∙◌, [], ◌++◌, List, ℕ, Some, None, take, drop}
 use Rattle.std.proofs.Common.{length, refl, sym, subst, arith}
 use Rattle.std.proofs.lemmas.List.{length-append, length-take, length-drop, take-append-le}

@@ -1,5 +1,5 @@
--- A piece is the front of what waits, and what is after it waits on. If less than a piece waits
--- nothing has to be written.
+-- The piece is the front of the waiting bytes, and the bytes after it wait on. If less than a
+-- piece waits, nothing has to be written.
 use Rattle.std.proofs.Common.{◌≡◌, ◌++◌, ◌∙◌, ap, take, drop, sym}
 use Rattle.std.proofs.lemmas.List.{take-append-drop}
 use Rattle.st_text.specs.Room.{piece_room}

@@ -1,4 +1,4 @@
--- The bytes that were put and those that are left are all bytes.
+-- The bytes that were put, and then those that are left, are all the bytes.
 use Rattle.std.proofs.Common.{length}
 use Rattle.st_text.proofs.Puts.{HasPut}
 use Rattle.st_text.proofs.sink.put_all.Given as goal

@@ -1,4 +1,4 @@
--- The parts of an event are one after the other.
+-- The parts of an event are put one after the other.
 use Rattle.std.proofs.Common.{◌≡◌, ◌++◌, ℕ, List, append_assoc, arith}
 use Rattle.std.specs.Prelude.{codes, decimal}
 use Rattle.st_text.specs.Spelling as spelled

@@ -1,4 +1,4 @@
--- A number's hundredth part is before its last two digits.
+-- The digits before a number's last two spell its quotient by 100.
 use Rattle.std.proofs.Common.{arith, append_assoc}
 use Rattle.st_text.proofs.Decimals.{last_two}
 use Rattle.st_text.proofs.spell.put_four.Goals as goal

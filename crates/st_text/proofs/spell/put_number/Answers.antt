@@ -1,4 +1,4 @@
--- The digits before the last four of a number are its ten thousandth part.
+-- The digits before a number's last four spell its quotient by 10,000.
 use Rattle.std.proofs.Common.{arith, append_assoc}
 use Rattle.st_text.proofs.Decimals.{last_four}
 use Rattle.st_text.proofs.spell.put_number.Goals as goal

@@ -1,4 +1,4 @@
--- The table has the digits.
+-- The table has the two digits of each number.
 use Rattle.st_text.proofs.Decimals.{pair_at}
 use Rattle.st_text.proofs.spell.put_pair.Goals as goal
 

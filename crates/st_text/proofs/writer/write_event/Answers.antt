@@ -1,4 +1,4 @@
--- The bytes that wait last go with a flush.
+-- A flush writes the bytes that wait last.
 use Rattle.st_text.specs.Spelling as spelled
 use Rattle.st_text.proofs.Puts.{finishes, goes_buffer}
 use Rattle.st_text.proofs.Spellings.{event_some}

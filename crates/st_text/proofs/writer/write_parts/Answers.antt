@@ -1,4 +1,4 @@
--- The bytes that wait last go with a flush.
+-- A flush writes the bytes that wait last.
 use Rattle.st_text.specs.Text.{parts, spelling}
 use Rattle.st_text.proofs.Puts.{finishes}
 use Rattle.st_text.proofs.Spellings.{text_some}

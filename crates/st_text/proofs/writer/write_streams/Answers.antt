@@ -1,4 +1,4 @@
--- The texts of the processes go one after the other.
+-- The texts of the processes are written one after the other.
 use Rattle.std.proofs.Common.{◌≡◌, ap, ◌∙◌, sym, List, ℕ}
 use Rattle.std.specs.List.{flat_map}
 use Rattle.st_core.specs.declared.types.Pid.{Pid}

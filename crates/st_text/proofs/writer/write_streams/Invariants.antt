@@ -1,4 +1,4 @@
--- The processes so far went.
+-- The processes so far were written.
 use Rattle.std.proofs.Common.{take}
 use Rattle.std.specs.List.{flat_map}
 use Rattle.st_core.specs.Streams.{events_of}

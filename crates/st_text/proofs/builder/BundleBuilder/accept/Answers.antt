@@ -1,4 +1,4 @@
--- Bytes that say no line have the fault of their line.
+-- Bytes that aren't a line have the fault `Line`.
 use Rattle.st_text.proofs.BuilderFaults.{unsaid_fault}
 use Rattle.st_text.proofs.builder.BundleBuilder.accept.Goals as goal
 

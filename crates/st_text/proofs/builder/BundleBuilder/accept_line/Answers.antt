@@ -1,4 +1,4 @@
--- A second header never may. The word before the acts is judged by no limit, so by each.
+-- A second header may never come, and the word before the acts is judged without a limit.
 use Rattle.st_text.proofs.BuilderFaults.{header_fault}
 use Rattle.st_text.proofs.builder.BundleBuilder.accept_line.Goals as goal
 

@@ -1,4 +1,4 @@
--- If no act is unlisted each is listed.
+-- If no act is unlisted, each act is listed.
 use Rattle.std.proofs.Common.{sym}
 use Rattle.st_core.specs.Run.{pids_of}
 use Rattle.st_text.specs.Text.{acts_or_none, is_listed}

@@ -1,5 +1,5 @@
--- A fault that was met comes first, then an unfinished line or none at all, then what the whole
--- shows.
+-- The fault of a line comes first; then Truncated, if a line is unfinished or there is none at
+-- all; then the fault that only all lines show.
 use Rattle.std.proofs.Common.{◌∙◌, sym, arith}
 use Rattle.std.proofs.lemmas.Bool.{eqb-true, eqb-false}
 use Rattle.std.proofs.lemmas.List.{nil_from_length}

@@ -1,4 +1,4 @@
--- No bytes hold no line and no unfinished one.
+-- Without bytes there is no line, and no unfinished line.
 use Rattle.st_text.proofs.CutterSteps.{holds_nothing}
 use Rattle.st_text.proofs.cutter.Cutter.new.Goals as goal
 

@@ -1,4 +1,4 @@
--- Each newline ends one line, and what is after the last joins the unfinished one.
+-- Each newline ends a line, and the bytes after the last newline join the unfinished line.
 use Rattle.std.proofs.Common.{◌≡◌, ◌∙◌, ◌++◌, ◌∷◌, [], List, ℕ, refl, sym, ap, subst, append_assoc}
 use Rattle.std.proofs.lemmas.List.{append-nil}
 use Rattle.st_text.specs.Parts.Cutter.{HasNoNewline}

@@ -1,4 +1,4 @@
--- Too many bytes are too many for each text.
+-- If there were too many bytes, their fault is TooLarge.
 use Rattle.std.proofs.Common.{Bool, subst}
 use Rattle.st_text.specs.Fed.{FedAs}
 use Rattle.st_text.proofs.Newlines.{fault_too_large}
