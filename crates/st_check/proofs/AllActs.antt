@@ -1,4 +1,4 @@
--- Once the loop is through, what it kept of the first acts it kept of all of them.
+-- After the loop the acts that were taken are all the acts.
 use Rattle.std.proofs.Common.{ℕ, ◌≤◌, List, length, take, subst, take_all}
 use Rattle.st_core.specs.declared.types.Act.{Act}
 use Rattle.st_core.specs.State.{State}

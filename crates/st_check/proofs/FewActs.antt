@@ -1,5 +1,5 @@
--- No clock is above the number of acts so far, so a stamp has a value while there are at most TOP
--- acts, and nobody is missing.
+-- No clock is above the number of acts so far, so each stamp has a value while there are at most
+-- TOP acts; and each actor and receiver is there.
 use Rattle.std.proofs.Common.{◌≡◌, ℕ, ◌+◌, ◌<◌, ◌≤◌, true, false, cond, List, [], ◌∷◌}
 use Rattle.std.proofs.Common.{length, map, get_or, Option, Some, None, is_some, option_map}
 use Rattle.std.proofs.Common.{option_and_then, All, refl, sym, ◌∙◌, ap, subst, arith, if◌then◌else◌}
@@ -45,13 +45,13 @@ there (r ∷ s) p among = elim (pid_eq r.pid p) as (λ b. pid_eq r.pid p ≡ b �
 
 -- A STAMP
 
--- the actor's part has one value at both bounds
+-- the actor's part of a step has one value, at both bounds
 record ActsAlike (high low : ℕ) (r : Process) (a : Act) : Type 0 where
   done : Acted
   at_high : acted high r a ≡ Some done
   at_low : acted low r a ≡ Some done
 
--- a stamp has one value at both bounds
+-- a stamp has one value, at both bounds
 record StampsAlike (stamps : ℕ → Option LocalState) (high low : ℕ) : Type 0 where
   stamped : LocalState
   at_high : stamps high ≡ Some stamped
@@ -154,7 +154,7 @@ later_sound k s all = λ i d within.
 
 -- ONE STEP
 
--- acts have a step at both bounds
+-- an act has one step, at both bounds
 record StepsAlike (high low : ℕ) (s : State) (a : Act) : Type 0 where
   outcome : Outcome
   at_high : step high s a ≡ Some outcome

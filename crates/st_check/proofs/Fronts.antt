@@ -1,4 +1,4 @@
--- The item after a front of a list is at the length of the front.
+-- The item after a front of a list has the front's length as its index.
 use Rattle.std.proofs.Common.{◌≡◌, List, [], ◌∷◌, ◌++◌, length, Some, refl, sym, ◌∙◌, ap}
 use Rattle.std.proofs.Common.{append_assoc}
 use mathlib.Core.List.{IsPrefix}
@@ -26,7 +26,7 @@ front_more xs ys e front next =
     (sym (slice_get_behind xs zs) ∙ ap (λ l. slice_get l (length xs)) front.1 ∙ next) in
     (found.0, append_assoc xs (e ∷ []) found.0 ∙ ap (λ l. xs ++ l) found.1 ∙ front.1)
 
--- and if it is a front, that is the next element
+-- the last element of a front is the one after the front without it
 pub front_next : {A : Type 0} (xs ys : List A) (e : A) → IsPrefix (xs ++ e ∷ []) ys
     → slice_get ys (length xs) ≡ Some e
 front_next xs ys e front =

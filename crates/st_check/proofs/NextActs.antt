@@ -1,5 +1,5 @@
--- One more act changes what is kept as the definitions say; the act of a number comes right after
--- the acts before it.
+-- One more act changes the counts, the tags and the pairs as the definitions say, and act n comes
+-- right after the first n acts.
 use Rattle.std.proofs.Common.{◌≡◌, ℕ, ◌+◌, ◌<◌, ◌⊎◌, false, List, [], ◌∷◌, ◌++◌, length, map, take}
 use Rattle.std.proofs.Common.{get_or, Option, Some, None, is_some, refl, sym, ◌∙◌}
 use Rattle.std.proofs.Common.{ap, subst, arith, inl, inr, length-take-le, if◌then◌else◌}
@@ -26,7 +26,7 @@ use Rattle.st_check.specs.declared.comparison.Comparison.{Comparison}
 use Rattle.st_check.proofs.OneMoreAct.{pair_of}
 use Rattle.st_check.proofs.PassedActs.{unlisted_stuck, run_more, passed_more, differs_more}
 
--- as many counts as streams
+-- there are as many counts as streams
 pub length-counts : (top : ℕ) (streams : List Stream) (acts : List Act) (s : State)
     (counts : List ℕ)
     (tags : List (List ℕ)) (ps : List (ℕ × ℕ)) → IsPassed top streams acts s counts tags ps
@@ -40,7 +40,7 @@ pub length-tags : (top : ℕ) (streams : List Stream) (acts : List Act) (s : Sta
 length-tags top streams acts s counts tags ps p =
     ap length p.are_tags ∙ length-map (pids_of streams) (tags_of acts p.outcomes)
 
--- an act that isn't refused because memory ran out has no step
+-- an act that the world refuses has no step, unless memory ran out
 pub fault_stuck : (top : ℕ) (s : State) (a : Act) (f : StepFault) → IsFault top s a f
     → (f ≡ fault.Memory) ⊎ (step top s a ≡ None)
 fault_stuck top s a fault.Memory is = inl refl
@@ -82,7 +82,7 @@ module _ (top : ℕ) (streams : List Stream) (acts : List Act) (n : ℕ) (d : Ac
   stop_at fault.ClockFull (inl memory) = absurd (cc)
   stop_at fault.ClockFull (inr none) = stuck_at none
 
-  -- the world refuses it
+  -- the world refuses the act
   pub refused_at : (f : StepFault) → IsFault top s (get_or acts n d) f
       → IsStop top streams (take (n + 1) acts) (stop_of f)
   refused_at f is = stop_at f (fault_stuck top s (get_or acts n d) f is)
@@ -105,7 +105,7 @@ module _ (top : ℕ) (streams : List Stream) (acts : List Act) (n : ℕ) (a : Ac
     (counts : List ℕ)
     (tags : List (List ℕ)) (ps : List (ℕ × ℕ)) (number : length acts ≡ n)
     (p : IsPassed top streams acts s counts tags ps) (o : Outcome) (h : step top s a ≡ Some o) where
-  -- its process is listed, since it has a step
+  -- the actor is listed, since the act has a step
   pub listed_at : (me : Pid) → me ≡ actor a
       → AllByRecursion (λ q. pid_eq q me ≡ false) (pids_of streams) → ⊥
   listed_at me is apart =

@@ -1,4 +1,4 @@
--- One more act at the end adds one outcome, and leaves all that came of the acts before as it was.
+-- One more act at the end adds one outcome, and leaves what the acts before came to as it was.
 use Rattle.std.proofs.Common.{◌≡◌, ℕ, ◌+◌, suc, List, [], ◌∷◌, ◌++◌, length, Option, Some, None}
 use Rattle.std.proofs.Common.{is_some, option_map, option_and_then, option_to_list, refl, sym, ◌∙◌}
 use Rattle.std.proofs.Common.{ap, arith, append-nil, append_assoc, if◌then◌else◌}

@@ -1,4 +1,4 @@
--- All that is kept is told by the run so far, and one more act changes it at its own process alone.
+-- The run so far determines the state, and one more act adds to its actor's stream alone.
 use Rattle.std.proofs.Common.{◌≡◌, ℕ, ◌+◌, ◌<◌, Bool, true, false, List, [], ◌∷◌, ◌++◌}
 use Rattle.std.proofs.Common.{length, map, get_or, set, replicate, Option, Some, None, IsSome}
 use Rattle.std.proofs.Common.{is_some, option_map, option_to_list, refl, sym, ◌∙◌}
@@ -33,7 +33,7 @@ map_constant : {A B : Type 0} (c : B) (xs : List A) → replicate (length xs) c 
 map_constant c [] = refl
 map_constant c (x ∷ xs) = ap (λ ys. c ∷ ys) (map_constant c xs)
 
--- no acts pass
+-- the empty list of acts passes
 pub passed_start : (top : ℕ) (streams : List Stream) (pids : List Pid) (s : State) (counts : List ℕ)
     (tags : List (List ℕ)) (ps : List (ℕ × ℕ)) → pids ≡ pids_of streams → s ≡ zero_state pids
     → counts ≡ replicate (length pids) 0 → tags ≡ replicate (length pids) [] → ps ≡ []
@@ -85,7 +85,7 @@ unlisted_stuck top streams acts s counts tags ps a p apart =
 
 -- A STEP
 
--- the run of the acts with one more, by its step
+-- the run of the acts and one more, by the step of that one
 pub run_more : (top : ℕ) (streams : List Stream) (acts : List Act) (s : State) (counts : List ℕ)
     (tags : List (List ℕ)) (ps : List (ℕ × ℕ)) (a : Act) (first : Option Outcome)
     (p : IsPassed top streams acts s counts tags ps) → step top s a ≡ first
@@ -96,7 +96,7 @@ run_more top streams acts s counts tags ps a first p h =
 
 module _ (acts : List Act) (a : Act) (os : List Outcome) (o : Outcome)
     (even : length os ≡ length acts) where
-  -- the streams of the others stay
+  -- the streams of other processes stay
   pub stream_other : (q : Pid) → pid_eq (actor a) q ≡ false
       → stream (acts ++ a ∷ []) (os ++ o ∷ []) q ≡ stream acts os q
   stream_other q apart =
@@ -106,14 +106,14 @@ module _ (acts : List Act) (a : Act) (os : List Outcome) (o : Outcome)
   no_event true = refl
   no_event false = refl
 
-  -- an act without a report leaves all
+  -- an act without a report leaves all streams as they were
   pub stream_silent : (q : Pid) → o.report ≡ None
       → stream (acts ++ a ∷ []) (os ++ o ∷ []) q ≡ stream acts os q
   stream_silent q silent =
       stream-append acts a os o q even
       ∙ rw (silent, no_event (pid_eq (actor a) q)) (append-nil (stream acts os q))
 
-  -- the actor's grows by what it reports
+  -- the actor's stream grows by the event that the act reports
   pub stream_own : (e : Event) → o.report ≡ Some e
       → stream (acts ++ a ∷ []) (os ++ o ∷ []) (actor a) ≡ stream acts os (actor a) ++ e ∷ []
   stream_own e is =
@@ -136,7 +136,7 @@ module _ (acts : List Act) (a : Act) (os : List Outcome) (o : Outcome)
       (actor a) rising at
       (λ q apart. ap length (stream_other q (pid_eq-swap (actor a) q ∙ apart))))
 
-  -- a front of a process's stream stays one
+  -- the events that a process has reported stay the front of its stream
   front_kept : (x : Stream) (report : Option Event) → o.report ≡ report
       → ForSome report (λ e. pid_eq (actor a) x.pid ≡ true
       → slice_get x.events (reported_count acts os x.pid) ≡ Some e)
@@ -158,7 +158,7 @@ module _ (acts : List Act) (a : Act) (os : List Outcome) (o : Outcome)
         | false ↦ λ apart. subst (λ es. IsPrefix es x.events) (sym (stream_other x.pid apart)) front
       ] refl
 
--- the act passes if what it reports is the next event of its actor's stream
+-- the act passes if it reports the next event of its actor's stream, or nothing
 pub passed_more : (top : ℕ) (streams : List Stream) (acts : List Act) (s : State) (counts : List ℕ)
     (tags : List (List ℕ)) (ps : List (ℕ × ℕ)) (a : Act) (o : Outcome) (i : ℕ) (n : ℕ)
     (later : List (List ℕ))
@@ -202,7 +202,7 @@ passed_more top streams acts s counts tags ps a o i n later rising at number p h
           ∙ sym (pairs_from-append (λ q. []) 0 acts a os o even);
     }
 
--- and it differs if it reports another
+-- the act differs if it reports another event
 pub differs_more : (top : ℕ) (streams : List Stream) (acts : List Act) (s : State) (counts : List ℕ)
     (tags : List (List ℕ)) (ps : List (ℕ × ℕ)) (a : Act) (o : Outcome) (i : ℕ) (e : Event)
     → IsRising (pids_of streams) → slice_get (pids_of streams) i ≡ Some (actor a)

@@ -1,5 +1,5 @@
--- Pids that rise are apart, so a list with an item for each that differs for one pid alone differs
--- at its place alone.
+-- Rising pids differ from each other, so if a list has an item for each pid and only one pid's
+-- item changes, the list changes only at that pid's place.
 use Rattle.std.proofs.Common.{◌≡◌, ℕ, ◌<◌, zero, suc, false, cond, List, [], ◌∷◌, length, map}
 use Rattle.std.proofs.Common.{get_or, set, Some, None, option_map, refl, ◌∙◌, ap, subst, arith}
 use Rattle.std.specs.List.{AllByRecursion, slice_get}
@@ -10,7 +10,7 @@ use Rattle.st_core.specs.Run.{Stream, pids_of}
 use Rattle.st_core.specs.Streams.{stream_of, events_of}
 use Rattle.st_core.proofs.ForCallers.{pid_eq-same, IsBelow-apart, all_at, all_apart}
 
--- two lists agree if no pid is p
+-- lists whose items differ for p alone agree if p isn't among the pids
 pub map_apart : {B : Type 0} (f g : Pid → B) (ps : List Pid) (p : Pid)
     → AllByRecursion (λ q. pid_eq q p ≡ false) ps
     → ((q : Pid) → pid_eq q p ≡ false → g q ≡ f q) → map g ps ≡ map f ps
@@ -18,7 +18,7 @@ map_apart f g [] p apart same = refl
 map_apart f g (q ∷ ps) p apart same =
     ap (λ x. x ∷ map g ps) (same q apart.0) ∙ ap (λ xs. f q ∷ xs) (map_apart f g ps p apart.1 same)
 
--- a list that differs for p alone is the list before, set at the place of p
+-- a list whose items change for p alone is the old list, set at the place of p
 pub map_at : {B : Type 0} (f g : Pid → B) (ps : List Pid) (i : ℕ) (p : Pid) → IsRising ps
     → slice_get ps i ≡ Some p
     → ((q : Pid) → pid_eq q p ≡ false → g q ≡ f q) → map g ps ≡ set (map f ps) i (g p)
@@ -32,7 +32,7 @@ map_at f g (q ∷ ps) (suc i) p rising at same =
     let apart : pid_eq q p ≡ false = IsBelow-apart q p (all_at (IsBelow q) ps i p rising.0 at) in
     ap (λ x. x ∷ map g ps) (same q apart) ∙ ap (λ xs. f q ∷ xs) (map_at f g ps i p rising.1 at same)
 
--- the entry of p
+-- the item at the place of p is that of p
 pub entry_at : {B : Type 0} (f : Pid → B) (ps : List Pid) (i : ℕ) (p : Pid) (d : B)
     → slice_get ps i ≡ Some p
     → get_or (map f ps) i d ≡ f p
@@ -46,7 +46,7 @@ above p [] k d all within = absurd (omega arith)
 above p (x ∷ streams) zero d all within = all.0
 above p (x ∷ streams) (suc k) d all within = above p streams k d all.1 (omega arith)
 
--- the stream of each pid that is among streams is its own
+-- looking up the pid of a stream finds the events of that stream
 pub events_at : (streams : List Stream) (k : ℕ) (d : Stream) → IsRising (pids_of streams)
     → k < length streams
     → events_of streams (get_or streams k d).pid ≡ (get_or streams k d).events

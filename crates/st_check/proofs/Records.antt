@@ -31,7 +31,7 @@ use Rattle.st_check.proofs.PassedActs.{state_pids, stream_other, stream_silent, 
 
 -- THE PROCESSES OF RECORDED STREAMS
 
--- who is listed is among the pids
+-- recorded streams list exactly the processes of the run
 lists-reported : (pids : List Pid) (acts : List Act) (os : List Outcome) (p : Pid)
     → lists (reported_streams pids acts os) p ≡ is_among pids p
 lists-reported [] acts os p = refl
@@ -55,7 +55,7 @@ names-reported pids acts os e =
 
 -- RUNS OF ONE MORE ACT
 
--- the report of the last act
+-- what holds for the reports of all acts holds for the last one
 last_report : (pids : List Pid) (acts : List Act) (os : List Outcome) (a : Act) (o : Outcome)
     → length os ≡ length acts → AllZip (ReportsAmong pids) (acts ++ a ∷ []) (os ++ o ∷ [])
     → ReportsAmong pids a o
@@ -63,7 +63,7 @@ last_report pids [] [] a o even all = all.0
 last_report pids (b ∷ acts) (x ∷ os) a o even all = last_report pids acts os a o (omega arith) all.1
 last_report pids acts os a o even all = absurd (omega arith)
 
--- what the act does to each recorded stream
+-- one more act adds its report to the recorded stream of its actor
 module _ (acts : List Act) (a : Act) (os : List Outcome) (o : Outcome)
     (even : length os ≡ length acts) where
   record_one : (e : Event) → o.report ≡ Some e → (q : Pid)
@@ -119,7 +119,7 @@ module _ (top : ℕ) (pids : List Pid) (acts : List Act) (n : ℕ) (d : Act) (ke
   even : length p.outcomes ≡ length (take n acts)
   even = length-run top (zero_state pids) (take n acts) p.outcomes p.runs
 
-  -- with no step there is no run
+  -- without a step there is no run
   pub no_run_at : step top s (get_or acts n d) ≡ None → run top pids (take (n + 1) acts) ≡ None
   no_run_at h =
       subst (λ xs. run top pids xs ≡ None) more
@@ -134,14 +134,14 @@ module _ (top : ℕ) (pids : List Pid) (acts : List Act) (n : ℕ) (d : Act) (ke
         ∙ ap (option_map (λ x. p.outcomes ++ x ∷ []))
         (ap (λ x. step top x (get_or acts n d)) (sym p.is_state) ∙ h)
 
-    -- its report is its actor's own
+    -- the act's report is its actor's own
     pub own_at : (e : Event) → o.report ≡ Some e → is_own (actor (get_or acts n d)) e ≡ true
     own_at e is =
         (last_report pids (take n acts) p.outcomes (get_or acts n d) o even
         (run_named top pids (take n acts ++ get_or acts n d ∷ []) (p.outcomes ++ o ∷ []) whole) e
         is).own
 
-    -- its actor is listed
+    -- the act's actor is listed
     pub listed_at : lists streams (actor (get_or acts n d)) ≡ true
     listed_at =
         let t = step_parts top s (get_or acts n d) o h in
@@ -154,7 +154,7 @@ module _ (top : ℕ) (pids : List Pid) (acts : List Act) (n : ℕ) (d : Act) (ke
         ∙ ap (λ ps. is_among ps (actor (get_or acts n d))) (sym are)
         ∙ process_among s (actor (get_or acts n d)) t.before t.is_before
 
-    -- the record with it
+    -- the record takes the act
     pub recorded_at : (me : Pid) (streams' : List Stream) (replies' : List Reply)
         → me ≡ actor (get_or acts n d)
         → streams' ≡ with_report streams me o.report
@@ -250,7 +250,7 @@ opened_more pids k d within =
     (get_or pids k d))
     ∙ ap (λ ps. reported_streams ps [] []) (sym (take_more pids k d within))
 
--- a pid of those that rise comes after those opened before it
+-- a rising pid comes after the pids that were opened before it
 pub comes_last : (pids : List Pid) (k : ℕ) (d : Pid) (draft : List Stream) → IsRising pids
     → k < length pids
     → draft ≡ reported_streams (take k pids) [] [] → ComesLast draft (get_or pids k d)
@@ -259,12 +259,12 @@ comes_last pids k d draft rising within are =
     (opened_last (take k pids) (get_or pids k d)
     (rising_at pids k (get_or pids k d) rising (slice_get-get_or pids k d within)))
 
--- a step that is refused, and not because memory ran out, isn't there
+-- an act that is refused has no step, if memory didn't run out
 pub no_step_but : {P Q : Type 0} → P ⊎ Q → (P → ⊥) → Q
 no_step_but (inl p) other = absurd (other p)
 no_step_but (inr q) other = q
 
--- the serials of recorded streams rise
+-- in each event of recorded streams prev is less than this
 pub recorded_rises : (top : ℕ) (pids : List Pid) (acts : List Act) (keeps : Bool) (s : State)
     (streams : List Stream)
     (replies : List Reply) → IsReplayedTo top pids acts keeps s streams replies

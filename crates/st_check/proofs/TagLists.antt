@@ -25,7 +25,7 @@ pushed t to n x = if pid_eq x to then t x ++ n ∷ [] else t x
 pushed_other : (t : Tags) (to : Pid) (n : ℕ) (q : Pid) → pid_eq q to ≡ false → pushed t to n q ≡ t q
 pushed_other t to n q apart = ap (λ b. cond b (t q ++ n ∷ []) (t q)) apart
 
--- no list is the receiver's
+-- a send to a process that isn't listed changes no tags
 pub push_missing : (lists : List (List ℕ)) (pids : List Pid) (to : Pid) (n : ℕ)
     → AllByRecursion (λ p. pid_eq p to ≡ false) pids → (t : Tags) → lists ≡ map t pids
     → lists ≡ map (pushed t to n) pids
@@ -56,7 +56,7 @@ past_end xs k none =
       | inr past ↦ past
     ]
 
--- what a take leaves, also if nothing lay at the place
+-- a take removes the number at the place, if there is one
 pub take_leaves : (old new : Arena ℕ) (list place : ℕ) (result : Option ℕ)
     → result ≡ slice_get (get_or old.lists list []) place
     → OnSome result (new.lists ≡ set old.lists list (remove (get_or old.lists list []) place))

@@ -17,7 +17,7 @@ use Rattle.st_check.specs.declared.verdict.Reports.TheVariants as reports
 use Rattle.st_check.specs.declared.verdict.ReplayFault.{ReplayFault}
 use Rattle.st_check.specs.declared.verdict.ReplayFault.TheVariants as fault
 
--- the checker's result as a verdict
+-- the checker's verdict in the terms of the definition
 abbrev pub verdict_of : Verdict → verdicts.Verdict
 verdict_of (told.Stuck n) = verdicts.Stuck n
 verdict_of (told.Differs n) = verdicts.Differs n
@@ -30,22 +30,22 @@ FollowsAll top streams acts (verdicts.Yes ps) =
     (os : List Outcome) → run top (pids_of streams) acts ≡ Some os → Follows acts os ps
 FollowsAll top streams acts v = Unit {0}
 
--- on a yes, each reported receive of that run is in a pair
+-- on a yes, each reported receive of the run is in a pair
 abbrev pub PairsAll : ℕ → List Stream → List Act → verdicts.Verdict → Type 0
 PairsAll top streams acts (verdicts.Yes ps) =
     (os : List Outcome) → run top (pids_of streams) acts ≡ Some os → AllPaired os ps
 PairsAll top streams acts v = Unit {0}
 
--- in each event of the streams the serial rises
+-- in each event of the streams prev is less than this
 abbrev pub AllRise : List Stream → Type 0
 AllRise streams = All (λ x. All (λ e. e.serial.prev < e.serial.this) x.events) streams
 
--- on a yes, the serials of the streams rise
+-- on a yes, prev is less than this in each event of the streams
 abbrev pub RisesOnYes : List Stream → verdicts.Verdict → Type 0
 RisesOnYes streams (verdicts.Yes ps) = AllRise streams
 RisesOnYes streams v = Unit {0}
 
--- what each process reported in the run of the acts
+-- the stream of each process: the events that it reported in the run of the acts
 abbrev pub reported_streams : List Pid → List Act → List Outcome → List Stream
 reported_streams pids acts os = map (λ p. record { pid = p; events = stream acts os p }) pids
 
@@ -70,22 +70,22 @@ pub record SticksAt (top : ℕ) (pids : List Pid) (acts : List Act) (n : ℕ) : 
   pub before : IsSome (run top pids (take n acts))
   pub none : run top pids (take (n + 1) acts) ≡ None
 
--- what a replay returns
+-- a replay returns the streams and replies of the run, or the first act that has no step
 abbrev pub IsReplay : ℕ → List Pid → List Act → Replayed → Type 0
 IsReplay top pids acts (replayed.Ran streams replies) = RunsWith top pids acts streams replies
 IsReplay top pids acts (replayed.Stuck n) = SticksAt top pids acts n
 
--- what acts that are replayed report
+-- a replay without replies returns the streams of the run, or the first act that has no step
 abbrev pub AreReports : ℕ → List Pid → List Act → Reports → Type 0
 AreReports top pids acts (reports.Ran streams) = RunReports top pids acts streams
 AreReports top pids acts (reports.Stuck n) = SticksAt top pids acts n
 
--- when there is no replay: the pids don't rise; or they do, and memory ran out
+-- why there is no replay: the pids don't rise, or they do and memory ran out
 abbrev pub IsReplayFault : List Pid → ReplayFault → Type 0
 IsReplayFault pids fault.Memory = IsRising pids
 IsReplayFault pids fault.NotRising = ¬ IsRising pids
 
--- if there is a run, the serials of its streams rise
+-- if there is a run, prev is less than this in each event of its streams
 abbrev pub RisesOnRun : Replayed → Type 0
 RisesOnRun (replayed.Ran streams replies) = AllRise streams
 RisesOnRun (replayed.Stuck n) = Unit {0}

@@ -1,4 +1,4 @@
--- The state while acts pass, of the checker or of whoever compares acts that it steps itself.
+-- The state while acts pass, in the checker or in a caller that steps a world itself.
 use Rattle.std.specs.Prelude.{◌≡◌, ℕ, ◌+◌, ◌<◌, ◌≤◌, IsSome, slice_get, List, [], ◌∷◌, length, map}
 use Rattle.std.specs.Prelude.{slice_set, slice_index, slice_index_or, remove, Option, Some, None}
 use Rattle.st_core.specs.declared.types.Pid.{Pid}
@@ -40,19 +40,19 @@ abbrev pub counts_with : List ℕ → ℕ → Option Event → List ℕ
 counts_with counts place None = counts
 counts_with counts place (Some e) = slice_set counts place (slice_index counts place + 1)
 
--- the lists after the number at this place of one was taken out
+-- the lists after the number at this place of one list was taken out
 abbrev pub without_tag : List (List ℕ) → ℕ → Option ℕ → List (List ℕ)
 without_tag lists list None = lists
 without_tag lists list (Some place) =
     slice_set lists list (remove (slice_index_or lists list []) place)
 
--- the pair of a receive of this number that took out a send's number, if it did
+-- the pair of receive n and the send whose number it took out, if it took one out
 abbrev pub pair_to : ℕ → Option ℕ → List (ℕ × ℕ)
 pair_to n None = []
 pair_to n (Some s) = (n, s) ∷ []
 
--- acts that pass, the state that they lead to, how many events each process reported, the tags of
--- each queue, and the pairs
+-- the acts pass, and these are the state after them, the number of events that each process
+-- reported, the tags of each queue, and the pairs
 pub record IsPassed (top : ℕ) (streams : List Stream) (acts : List Act) (s : State)
     (counts : List ℕ)
     (tags : List (List ℕ)) (ps : List (ℕ × ℕ)) : Type 0 where
@@ -63,11 +63,11 @@ pub record IsPassed (top : ℕ) (streams : List Stream) (acts : List Act) (s : S
   pub are_tags : tags ≡ map (tags_of acts outcomes) (pids_of streams)
   pub are_pairs : ps ≡ pairs acts outcomes
 
--- acts that pass, by what a comparison keeps of them
+-- the acts pass and lead to s, and the comparison has their counts, tags and pairs
 abbrev pub IsPassedBy : ℕ → List Stream → List Act → State → Comparison → Type 0
 IsPassedBy top streams acts s c = IsPassed top streams acts s c.counts.items c.tags.lists c.pairs
 
--- they lead somewhere
+-- the acts pass and lead to some state, and the comparison has their counts, tags and pairs
 abbrev pub HasPassed : ℕ → List Stream → List Act → Comparison → Type 0
 HasPassed top streams acts c = (s : State) × IsPassedBy top streams acts s c
 
@@ -80,13 +80,13 @@ pub record IsEven (streams : List Stream) (c : Comparison) : Type 0 where
 abbrev pub Differ : ℕ → List Stream → List Act → Type 0
 Differ top streams acts = IsSome (run top (pids_of streams) acts) × ¬ Passes top streams acts
 
--- an act stops because memory ran out, or has no step
+-- why the check stops at an act: memory ran out, or the act has no step
 abbrev pub stop_of : StepFault → Stop
 stop_of fault.Memory = stop.Memory
 stop_of fault.Unknown = stop.Stuck
 stop_of fault.ClockFull = stop.Stuck
 
--- why acts whose last one doesn't pass stop there, as far as it shows
+-- the check stops at the last of the acts for this reason; if memory ran out nothing is known
 abbrev pub IsStop : ℕ → List Stream → List Act → Stop → Type 0
 IsStop top streams acts stop.Memory = Unit {0}
 IsStop top streams acts stop.Stuck = run top (pids_of streams) acts ≡ None

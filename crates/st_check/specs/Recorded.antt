@@ -1,5 +1,5 @@
--- The record of a replay as long as acts have a run. For the contracts of its parts alone: what it
--- returns is in `Answers`.
+-- The record of a replay while the acts have a run, for the contracts of its parts alone; the
+-- result of a replay is in `Answers`.
 use Rattle.std.specs.Prelude.{◌≡◌, ℕ, Bool, List, [], map, Some, if◌then◌else◌}
 use Rattle.st_core.specs.declared.types.Pid.{Pid}
 use Rattle.st_core.specs.declared.types.Act.{Act}
@@ -16,7 +16,8 @@ use Rattle.st_check.specs.Answers.{reported_streams, SticksAt}
 abbrev pub kept_replies : Bool → List Outcome → List Reply
 kept_replies keeps os = if keeps then map (λ o. o.reply) os else []
 
--- acts that have a run, the state that it leads to, its streams, and its replies if they are kept
+-- the acts have a run, and these are the state after it, its streams, and its replies if they are
+-- kept
 pub record IsReplayedTo (top : ℕ) (pids : List Pid) (acts : List Act) (keeps : Bool) (s : State)
     (streams : List Stream)
     (replies : List Reply) : Type 0 where
@@ -35,7 +36,7 @@ pub record IsRun (keeps : Bool) (top : ℕ) (pids : List Pid) (acts : List Act)
   pub are_streams : streams ≡ reported_streams pids acts outcomes
   pub are_replies : replies ≡ kept_replies keeps outcomes
 
--- what is recorded of acts
+-- the record of all acts: their run, or the first act that has no step
 abbrev pub IsRunRecord : Bool → ℕ → List Pid → List Act → Replayed → Type 0
 IsRunRecord keeps top pids acts (replayed.Ran streams replies) =
     IsRun keeps top pids acts streams replies

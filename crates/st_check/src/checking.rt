@@ -9,12 +9,13 @@ use crate::verdict::{CheckFault, Verdict};
 use st_core::{Act, Streams};
 use std::alloc::Global;
 
-/// Whether the acts are a run from zero clocks in which each process reports exactly its stream.
+/// Judges whether the acts are a run from zero clocks in which each process reports exactly its
+/// stream.
 ///
-/// Its time grows with the acts, the events and the walks in the queues. It fails only if there is
-/// no memory for its tables, some rows a process, for the message of a send or its number, or for
-/// the pair of a reported receive. An index of a long queue takes memory too, and is done without
-/// if there is none.
+/// The time grows with the acts, the events and the walks in the queues. Fails only if there is no
+/// memory for the tables, which have some rows for each process, for the message of a send or its
+/// number, or for the pair of a reported receive. The index of a long queue takes memory too, but
+/// the check goes on without an index if there is none.
 pub fn check<const TOP: u64>(
     alloc: Global,
     streams: &Streams,

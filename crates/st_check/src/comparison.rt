@@ -1,5 +1,4 @@
-//! Acts compared with streams one by one, by what their steps in a world returned: how far each
-//! stream was matched, the tags of each queue and the pairs.
+//! Compares acts with streams, one act at a time, by the outcome of each act's step in a world.
 
 ghost use Rattle.std.specs.Prelude.{◌≡◌, ◌<◌, ◌≤◌, ◌++◌, ◌↔◌, ℕ, [], ◌∷◌, length, slice_get};
 ghost use Rattle.std.specs.Prelude.{slice_index};
@@ -23,20 +22,20 @@ use st_core::{Act, Event, Pid, Sequence, Streams};
 use st_world::Outcome;
 use std::alloc::{AllocError, Global};
 
-/// The comparison of acts that pass with the streams, without the world. Whoever steps a world
-/// anyway has the verdict of `check` by it, without a second world.
+/// The comparison of acts with streams while the acts pass, without a world. A caller that steps a
+/// world anyway gets the verdict of `check` from a comparison, without a second world.
 #[derive(Drop)]
 pub struct Comparison {
     /// How many events each process reported, in the order of the streams.
     counts: Vec<u64>,
     /// The numbers of the sends whose messages lie in each process's queue.
     tags: Lists<u64>,
-    /// Each reported receive and the send whose message it took.
+    /// The numbers of each reported receive and of the send whose message it took.
     pairs: Sequence<(u64, u64)>,
 }
 
 impl Comparison {
-    /// No acts yet. Fails if memory runs out.
+    /// Makes the comparison of no acts. Fails if memory runs out.
     pub fn new(alloc: Global, streams: &Streams) -> Result<Comparison, AllocError>
         ensures { IfOk result (λ c. (top : ℕ) →
             IsPassedBy top streams.now [] (zero_state (pids_of streams.now)) c) }
@@ -51,9 +50,9 @@ impl Comparison {
         })
     }
 
-    /// Takes the next act, of this number, by the outcome of its step. False if it reports another
-    /// event than its actor's next; then the acts don't pass, and nothing is known of what is kept.
-    /// Fails if memory runs out.
+    /// Takes the next act, which has this number, with the outcome of its step. Returns false if
+    /// the act reports an event that isn't its actor's next; then the acts don't pass, and nothing
+    /// is known of the comparison any more. Fails if memory runs out.
     #[inline]
     pub fn advance(
         &mut self,
@@ -81,8 +80,8 @@ impl Comparison {
         Ok(true)
     }
 
-    /// Counts the event that the process at this place reported, if it did. False if it isn't the
-    /// next of its events.
+    /// Counts the event that the process at this place reported, if it reported one. Returns false
+    /// if that isn't the next of its events.
     fn count(&mut self, place: usize, events: &[Event], report: Option<Event>) -> bool
         requires { place < length self.old.counts.items }
         ensures next { IsTrue result ↔
@@ -121,7 +120,7 @@ impl Comparison {
         None
     }
 
-    /// The verdict of the acts so far, which pass.
+    /// Returns the verdict on the acts so far, which pass.
     pub fn into_verdict(self, streams: &Streams) -> Verdict
         requires { IsEven streams.now self }
         ensures { (top : ℕ) (acts : List ActValue) (s : State) →
@@ -157,7 +156,7 @@ fn is_same(one: &Event, other: &Event) -> bool
     *one == *other
 }
 
-/// Puts the pair of this receive at the end, if it has one.
+/// Adds the pair of a receive and the send whose message it took, if there is one.
 fn pair(pairs: &mut Sequence<(u64, u64)>, receive: u64, send: Option<u64>) -> Result<(), AllocError>
     ensures { OnOk result (pairs.new ≡ pairs.old ++ pair_to receive send) }
 {

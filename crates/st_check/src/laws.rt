@@ -3,7 +3,8 @@
 
 ghost use Rattle.st_check.specs.Laws.{FewActsRun};
 
-/// At most TOP acts of listed processes have a run, so none of them is stuck.
+/// Says that acts of listed processes have a run if there are at most TOP of them, so that none is
+/// stuck.
 pub fn few_acts_run()
     ensures { FewActsRun }
 {}

@@ -1,8 +1,8 @@
 //! The exact checker of certificates, and the replay of acts.
 //!
-//! `check` returns the definition's verdict of streams and acts, `replay` what acts report and
-//! reply, `reports` what they report alone. All step a `World`; none reads or writes text. By a
-//! `Comparison` whoever steps a `World` for another purpose has the same verdict.
+//! `check` returns the verdict on streams and acts, `replay` returns what acts report and reply,
+//! and `reports` only what they report. All step a `World`; none reads or writes text. A caller
+//! that steps a `World` for another purpose gets the same verdict from a `Comparison`.
 #![tactic(auto)]
 
 mod checking;

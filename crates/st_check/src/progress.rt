@@ -1,4 +1,4 @@
-//! Acts that pass one by one: the world that they lead to, and how they compare with the streams.
+//! The state of a check: the world after the acts so far, and their comparison with the streams.
 
 ghost use Rattle.std.specs.Prelude.{◌≡◌, ◌<◌, ◌+◌, [], length, take, IfOk, IfErr, List, OnOk};
 ghost use Rattle.st_check.specs.Answers.{verdict_of};
@@ -23,9 +23,9 @@ pub(crate) struct Progress<const TOP: u64> {
 pub(crate) enum Stop {
     /// Memory ran out.
     Memory,
-    /// It has no step.
+    /// The act has no step.
     Stuck,
-    /// It reports another event than its actor's next.
+    /// The act reports an event that isn't its actor's next.
     Differs,
 }
 
@@ -39,7 +39,7 @@ fn stop_of(fault: StepFault) -> Stop
 }
 
 impl<const TOP: u64> Progress<TOP> {
-    /// No acts yet.
+    /// Makes the state before the first act.
     pub(crate) fn new(alloc: Global, streams: &Streams) -> Result<Progress<TOP>, AllocError>
         ensures { IfOk result (λ p. IsPassedBy TOP streams.now [] p.world p.comparison) }
     {

@@ -15,7 +15,7 @@ use st_core::{Act, AddFault, Draft, Event, OpenFault, Pid, Reply, Sequence};
 use st_world::{NewFault, StepFault, World};
 use std::alloc::{AllocError, Global};
 
-/// The record of acts as long as they have a run.
+/// The record of the acts so far, which have a run.
 #[derive(Drop)]
 struct Recording<const TOP: u64> {
     world: World<TOP>,
@@ -25,8 +25,8 @@ struct Recording<const TOP: u64> {
     replies: Sequence<Reply>,
 }
 
-/// Returns the reports and replies of the acts in their run from zero clocks over these processes,
-/// if they have one.
+/// Runs the acts from zero clocks over these processes, and returns what each process reported and
+/// what each act replied, or the first act that has no step.
 pub fn replay<const TOP: u64>(
     alloc: Global,
     pids: &[Pid],
@@ -61,7 +61,7 @@ pub fn reports<const TOP: u64>(
     }
 }
 
-/// Returns the reports of the acts in their run, and their replies if these are kept.
+/// Runs the acts, and returns their reports, and their replies if `keeps_replies` is set.
 fn record_run<const TOP: u64>(
     alloc: Global,
     pids: &[Pid],
@@ -95,7 +95,7 @@ fn record_run<const TOP: u64>(
 }
 
 impl<const TOP: u64> Recording<TOP> {
-    /// No acts yet.
+    /// Makes the record of no acts.
     fn new(alloc: Global, pids: &[Pid], keeps_replies: bool) -> Result<Recording<TOP>, ReplayFault>
         ensures recorded { IfOk result
             (λ r. IsReplayedTo TOP pids.now [] keeps_replies r.world r.streams r.replies) }
@@ -155,7 +155,7 @@ fn keep(replies: &mut Sequence<Reply>, reply: Reply, keeps_replies: bool) -> Res
     Ok(())
 }
 
-/// Adds the event that a listed process reported, if it did.
+/// Adds the event that a listed process reported, if it reported one.
 fn record(streams: &mut Draft, pid: Pid, report: Option<Event>) -> Result<(), AllocError>
     requires listed { lists streams.old pid ≡ true }
     requires own { ForSome report (λ e. is_own pid e ≡ true) }
@@ -172,7 +172,7 @@ fn record(streams: &mut Draft, pid: Pid, report: Option<Event>) -> Result<(), Al
     }
 }
 
-/// A draft of these processes, with no events.
+/// Makes a draft that lists these processes, without events.
 fn open_all(alloc: Global, pids: &[Pid]) -> Result<Draft, AllocError>
     requires { IsRising pids.now }
     ensures { IfOk result (λ draft. draft ≡ reported_streams pids.now [] []) }

@@ -44,9 +44,9 @@ fn take_tag(tags: &mut Lists<u64>, list: usize, place: Option<u64>) -> Option<u6
     tags.take_at(list, place?)
 }
 
-/// Keeps the tags in step with the queues over an act whose step was taken; `list` is the actor's,
-/// and `place` the one at which a receive took its message. Returns the number of the send whose
-/// message it took.
+/// Keeps the tags in step with the queues after the step of an act; `list` is the actor's, and
+/// `place` is where in its queue a receive found its message. Returns the number of the send whose
+/// message a receive took.
 pub(crate) fn retag(
     tags: &mut Lists<u64>,
     streams: &Streams,

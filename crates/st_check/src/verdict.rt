@@ -3,19 +3,19 @@
 use st_core::{Pid, Reply, Sequence, Streams};
 use thiserror::Error;
 
-/// Whether acts are a certificate of streams. Acts are numbered from 0.
+/// The verdict on acts as a certificate of streams. Acts are numbered from 0.
 #[derive(Debug, Drop)]
 pub enum Verdict {
     /// The act with this number has no step: its process or its receiver isn't there, or a clock is
     /// full. All acts before it pass.
     Stuck(u64),
-    /// The act with this number reports something else than the next event of its actor's stream.
+    /// The act with this number reports an event that isn't the next one of its actor's stream.
     /// All acts before it pass.
     Differs(u64),
-    /// All acts pass, and this is the least process with events left.
+    /// All acts pass, and this is the least pid of a process with events left.
     Left(Pid),
-    /// The acts are a run in which each process reports exactly its stream. For each reported
-    /// receive, by rising number, its number and that of the send whose message it took.
+    /// The acts are a run in which each process reports exactly its stream. Each pair has the
+    /// number of a reported receive and that of the send whose message it took; the receives rise.
     Yes(Sequence<(u64, u64)>),
 }
 
@@ -27,7 +27,7 @@ pub enum CheckFault {
     Memory,
 }
 
-/// The outcome of acts that are replayed.
+/// The outcome of a replay.
 #[derive(Debug, Drop)]
 pub enum Replayed {
     /// The acts have a run: what each process reported in it, and each act's reply.
@@ -36,7 +36,7 @@ pub enum Replayed {
     Stuck(u64),
 }
 
-/// The reports of acts that are replayed.
+/// The outcome of a replay without replies.
 #[derive(Debug, Drop)]
 pub enum Reports {
     /// The acts have a run: what each process reported in it.
@@ -51,7 +51,7 @@ pub enum ReplayFault {
     /// Memory ran out. Comes only if the pids rise.
     #[error("no memory")]
     Memory,
-    /// The pids don't rise strictly. Looked at first.
+    /// The pids don't rise strictly, which is tested first.
     #[error("the pids don't rise")]
     NotRising,
 }

@@ -1,5 +1,5 @@
--- After the loop all acts passed, so the verdict is that of what is kept; and what a yes shows
--- holds in every run.
+-- After the loop all acts have passed, so the state gives the verdict; and what a yes shows holds
+-- in every run.
 use Rattle.std.proofs.Common.{arith, take}
 use Rattle.st_check.specs.Answers.{verdict_of}
 use Rattle.st_check.proofs.AllActs.{all}

@@ -1,4 +1,4 @@
--- The acts so far pass, and what is kept is theirs.
+-- The acts so far pass, and the state is that after them.
 use Rattle.std.proofs.Common.{take}
 use Rattle.st_check.specs.Progress.{IsPassedBy}
 use Rattle.st_check.proofs.checking.check.Given as goal

@@ -1,5 +1,5 @@
--- The actor is listed, since its act has a step. It reports another event; or each part of what is
--- kept moves with it.
+-- The actor is listed, since the act has a step. Either the act reports another event, or the
+-- counts, the tags and the pairs take it.
 use Rattle.std.proofs.Common.{ℕ, List, ◌++◌, Option, sym, ◌∙◌, ap, arith}
 use Rattle.std.proofs.lemmas.Bool.{false≢true}
 use Rattle.std.proofs.lemmas.Option.{slice_get_within}

@@ -1,4 +1,5 @@
--- An act stops if it is refused or reports another event; else what is kept moves with it.
+-- The check stops if the world refuses the act or the act reports another event; else world and
+-- comparison have taken the act.
 use Rattle.std.proofs.Common.{take}
 use Rattle.std.proofs.lemmas.Bool.{MatchBool-at_true, MatchBool-at_false}
 use Rattle.st_check.proofs.NextActs.{differs_next, many, passed_even, passes_next, refused_at}

@@ -1,4 +1,4 @@
--- The comparison, without the world, gives the verdict.
+-- The comparison gives the verdict without the world.
 use Rattle.st_check.proofs.progress.Progress.into_verdict.Goals as goal
 
 pub returns : goal.returns
