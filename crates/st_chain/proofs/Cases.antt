@@ -47,7 +47,7 @@ missing_cause = refl
 missing_back : IsBackFrom passed (place_at passed a 7) []
 missing_back = refl
 
--- of two earlier receives with one count the nearer, and none that comes later
+-- the nearer of two earlier receives with one count is the cause, and no later one
 abbrev twice : List Stream
 twice = of a (got 17 0 2 b a 5 ∷ got 17 1 2 a a 5 ∷ printed 17 2 3 a 7 ∷ got 17 2 4 b a 6 ∷ [])
     ∷ of b [] ∷ []

@@ -1,4 +1,4 @@
--- The event at an index is the first of those from it on.
+-- The event at an index is the first of the events from that index on.
 use Rattle.std.proofs.Common.{◌≡◌, ◌≢◌, ℕ, ◌+◌, ◌≤◌, zero, suc, cond, List, [], ◌∷◌, drop, length}
 use Rattle.std.proofs.Common.{Some, slice_get, refl, ◌∙◌, ap, arith}
 use Rattle.std.proofs.lemmas.Bool.{eq-eqb, ne_eqb}
@@ -18,7 +18,7 @@ module _ (label : Label) (i : ℕ) (es : List Event) (e : Event) (at : slice_get
   next : suc i ≡ i + 1
   next = omega arith
 
-  -- one with the label is the first
+  -- an event with the label is the first
   pub labelled_here : e.label.0 ≡ label.0
       → indexes_from label i es ≡ i ∷ indexes_from label (i + 1) es
   labelled_here is = front label i i es e at
@@ -26,7 +26,7 @@ module _ (label : Label) (i : ℕ) (es : List Event) (e : Event) (at : slice_get
       (labelled_indexes label (i + 1) (drop (suc i) es))) (eq-eqb e.label.0 label.0 is)
       ∙ ap (λ (n : ℕ). i ∷ labelled_indexes label (i + 1) (drop n es)) next
 
-  -- another is passed over
+  -- an event with another label is passed over
   pub passed_over : e.label.0 ≢ label.0
       → indexes_from label i es ≡ indexes_from label (i + 1) es
   passed_over is = front label i i es e at
@@ -41,7 +41,7 @@ nothing_left label i (suc k) [] past = refl
 nothing_left label i zero (e ∷ es) past = absurd (omega arith)
 nothing_left label i (suc k) (e ∷ es) past = nothing_left label i k es (omega arith)
 
--- past the last event there is none
+-- past the last event no index is left
 pub none_labelled : (label : Label) (i : ℕ) (es : List Event) → length es ≤ i
     → indexes_from label i es ≡ []
 none_labelled label i es past = nothing_left label i i es past

@@ -6,7 +6,7 @@ use Rattle.st_core.specs.declared.types.Event.{Event}
 use Rattle.st_core.specs.Run.{Stream}
 use Rattle.st_core.specs.Streams.{events_of}
 
--- the indexes of those of these events that have the label, if the first of them is at index i
+-- the indexes of the events that have the label, if the first of these events is at index i
 abbrev pub labelled_indexes : Label → ℕ → List Event → List ℕ
 labelled_indexes label i [] = []
 labelled_indexes label i (e ∷ es) =
@@ -17,6 +17,6 @@ labelled_indexes label i (e ∷ es) =
 abbrev pub chain : List Stream → Pid → Label → List ℕ
 chain streams p label = labelled_indexes label 0 (events_of streams p)
 
--- those of them that are i or greater
+-- the indexes of the events with the label from index i on
 abbrev pub indexes_from : Label → ℕ → List Event → List ℕ
 indexes_from label i events = labelled_indexes label i (drop i events)

@@ -27,7 +27,7 @@ impl<'a> Model for Chain<'a> {
 }
 
 impl<'a> Chain<'a> {
-    /// The chain of these events of a process.
+    /// Makes the chain of a process's events with the label.
     pub(crate) fn new(events: &'a [Event], label: Label) -> Chain<'a>
         ensures { result ≡ labelled_indexes label 0 events.entry.now }
     {
@@ -39,7 +39,7 @@ impl<'a> Chain<'a> {
     }
 }
 
-/// The first index from this one on whose event has the label.
+/// Returns the first index from `start` on whose event has the label.
 fn next_index(events: &[Event], label: Label, start: usize) -> Option<usize>
     ensures some { IfSome result (λ i. indexes_from label start events.now
         ≡ i ∷ indexes_from label (i + 1) events.now) }

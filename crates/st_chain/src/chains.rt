@@ -1,7 +1,7 @@
-//! The chains and the causes of all events, and the way back over them.
+//! The chains and the causes of all events, and the way back from an event over its causes.
 //!
-//! The last receive whose count is the prev of a send or print is found once, in one pass over all
-//! events of a process; the rest is read from the streams and their pairing.
+//! One pass over the events of a process finds the last receive whose count is the prev of each
+//! send and print; all else is read from the streams and their pairing.
 
 ghost use Rattle.std.specs.Prelude.{◌≡◌, true, map, None, Some, IfOk};
 ghost use Rattle.std.specs.Prelude.{slice_get, option_and_then};
@@ -32,7 +32,7 @@ fn back_at(list: &[Option<u64>], index: u64) -> Option<u64>
     }
 }
 
-/// The last receive before the send or print at this place that its prev is of.
+/// Finds the last receive before the send or print at this place that has its prev as count.
 fn receive_before(
     streams: &Streams,
     backs: &[Sequence<Option<u64>>],
@@ -51,8 +51,8 @@ fn receive_before(
     }
 }
 
-/// The chains of streams and the causes of their events. A contract sees it as the streams. It
-/// borrows them and their pairing, and keeps 16 bytes an event.
+/// The chains of streams and the causes of their events. A contract sees the streams alone.
+/// `Chains` borrows the streams and their pairing, and takes 16 bytes for each event.
 #[derive(Drop)]
 pub struct Chains<'a> {
     alloc: Global,
@@ -74,8 +74,7 @@ impl<'a> Model for Chains<'a> {
 }
 
 impl<'a> Chains<'a> {
-    /// The chains of streams, by the pairing that was made from them. Fails only if memory runs
-    /// out.
+    /// Makes the chains of streams, by the pairing of the streams. Fails only if memory runs out.
     pub fn new(
         alloc: Global,
         streams: &'a Streams,
@@ -93,8 +92,9 @@ impl<'a> Chains<'a> {
         })
     }
 
-    /// The indexes of a process's events with this label, rising; none if the process isn't listed.
-    /// Takes no memory: each step goes over the process's events to the next one with the label.
+    /// Returns the indexes of a process's events with this label, rising; none if the process
+    /// isn't listed. Takes no memory: each step goes over the process's events to the next one
+    /// with the label.
     pub fn of(&self, pid: Pid, label: Label) -> Chain<'a>
         ensures { result ≡ chain self.now pid label }
     {
@@ -120,9 +120,10 @@ impl<'a> Chains<'a> {
         }
     }
 
-    /// The event at this place, its cause, and so on until a hidden send or a start; nothing if
-    /// there is no event. It ends: no cause counts more than its event. Fails only if memory runs
-    /// out.
+    /// Returns the place of the event, that of its cause, and so on, up to an event whose cause is
+    /// a hidden send or a start; an empty list if there is no event. The way back ends, since a
+    /// cause has a smaller count than its event, or is the send of a receive. Fails only if memory
+    /// runs out.
     pub fn back(&self, pid: Pid, index: u64) -> Result<Vec<(Pid, u64)>, AllocError>
         ensures { IfOk result (λ v. IsBackFrom self.now (place_at self.now pid index) v.items) }
     {
@@ -135,7 +136,7 @@ impl<'a> Chains<'a> {
         Ok(list)
     }
 
-    /// The place, if an event is there.
+    /// Returns the place, if an event is there.
     fn place(&self, pid: Pid, index: u64) -> Option<(Pid, u64)>
         ensures { result ≡ place_at self.now pid index }
     {
@@ -145,12 +146,12 @@ impl<'a> Chains<'a> {
         }
     }
 
-    /// The event that the event at this place follows.
+    /// Returns the place of the cause of the event at this place, if the cause is an event.
     fn before(&self, pid: Pid, index: u64) -> Option<(Pid, u64)>
         ensures before { result ≡ place_of_cause (cause_at self.now pid index) }
         ensures accepted { refusal self.now ≡ None }
     {
-        // Reading a field shows what the type keeps: that pairing accepted the streams, so that the
+        // Reading a field shows the type's invariant: pairing accepted the streams, so that the
         // way back ends.
         let _ = &self.backs;
         match self.cause(pid, index) {

@@ -2,7 +2,7 @@
 //! from an event over its causes.
 //!
 //! The cause of a receive is its send, which `st_pair` has found. The cause of a send or print is
-//! the receive from which its process had its prev. Nothing here knows of the machine.
+//! the receive whose count is its prev. Nothing here knows of the machine.
 #![tactic(auto)]
 
 mod cause;

@@ -1,7 +1,8 @@
-//! The last receive before each send and print of a process that its prev is of.
+//! Finds, for each send and print of a process, the last receive before it that has its prev as
+//! count.
 //!
-//! Mostly that is the last receive of all before it. So a table from a count to the last receive
-//! with it is filled only as far as an event asks for another one.
+//! Mostly that is the last receive of any count. So the table of the last receive with each count
+//! is filled only when an event asks for an earlier receive, and only up to that event.
 
 ghost use Rattle.std.specs.Prelude.{◌≡◌, ◌+◌, ◌≤◌, ℕ, List, Some, length, map, slice_get, IfOk};
 ghost use Rattle.std.specs.Prelude.{OnOk};
@@ -16,19 +17,20 @@ use st_core::{Event, Kind, Sequence, Streams};
 use std::alloc::{AllocError, Global};
 use std::collections::BTreeMap;
 
-/// The receives among the events of a process that were passed.
+/// The receives among the events of a process that a walk has passed.
 #[derive(Drop)]
 pub struct Passed {
-    /// The count and the index of the last one.
+    /// The count and the index of the last receive.
     pub last: Option<(u64, u64)>,
-    /// Under its count the index of the last receive with it, among the noted events.
+    /// The index of the last receive with each count, among the noted events.
     pub places: BTreeMap<u64, u64>,
-    /// How many of the passed events are noted.
+    /// How many of the passed events `places` takes into account.
     pub noted: usize,
 }
 
 impl Passed {
-    /// The last receive with this count among the events before the index, which were passed.
+    /// Returns the last receive with this count among the events before the index, all of which
+    /// were passed.
     fn find(&mut self, events: &[Event], index: usize, this: u64) -> Result<Option<u64>, AllocError>
         requires within { index ≤ length events.now }
         requires passed { ArePassed events.now index self.old }
@@ -46,7 +48,7 @@ impl Passed {
     }
 }
 
-/// Notes, under its count, a receive's index.
+/// Notes a receive's index under its count, and nothing for other events.
 fn note(places: &mut BTreeMap<u64, u64>, event: &Event, index: u64) -> Result<(), AllocError>
     ensures { (es : List EventValue) → slice_get es index ≡ Some event.now
         → ((this : ℕ) → get nat_cmp places.old this ≡ received_before es this index)
@@ -64,7 +66,7 @@ fn note(places: &mut BTreeMap<u64, u64>, event: &Event, index: u64) -> Result<()
     }
 }
 
-/// Notes the receives among the events from one index to another.
+/// Notes the receives among the events from index `from` up to index `to`.
 fn note_all(
     places: &mut BTreeMap<u64, u64>,
     events: &[Event],
@@ -84,7 +86,8 @@ fn note_all(
     Ok(())
 }
 
-/// For each send and print of one process the last receive before it that its prev is of.
+/// Returns, for each send and print of one process, the last receive before it that has its prev
+/// as count; `None` for a receive.
 fn backs(alloc: Global, events: &[Event]) -> Result<Vec<Option<u64>>, AllocError>
     ensures { IfOk result (λ v. v.items ≡ backs_from events.now 0 events.now) }
 {
@@ -108,7 +111,7 @@ fn backs(alloc: Global, events: &[Event]) -> Result<Vec<Option<u64>>, AllocError
     Ok(found)
 }
 
-/// The receives before the sends and prints of all processes.
+/// Returns the `backs` of each process.
 pub fn all_backs(alloc: Global, streams: &Streams) -> Result<Vec<Sequence<Option<u64>>>, AllocError>
     ensures backs { IfOk result
         (λ v. v.items ≡ map (λ s. backs_from s.events 0 s.events) streams.now) }

@@ -4,7 +4,7 @@ use Rattle.st_chain.specs.Causes.{backs_from}
 use Rattle.st_chain.specs.Kept.{ArePassed}
 use Rattle.st_chain.proofs.receives.backs.Given as goal
 
--- what is found with what is left comes to all
+-- the backs that were found, and then those of the events that are left, are all the backs
 abbrev pub invariant-loop-i : goal.invariant-loop-i
 invariant-loop-i l = record {
   passed : ArePassed l.events l.i l.passed;

@@ -1,5 +1,5 @@
--- Each turn adds the cause of the last place, and ends if there is none; no cause counts more than
--- its effect.
+-- Each turn adds the cause of the last place, and the loop ends if the cause isn't an event; no
+-- cause has a greater count than its event.
 use Rattle.std.proofs.Common.{List, ℕ, [], subst, append-nil}
 use Rattle.st_core.specs.declared.types.Pid.{Pid}
 use Rattle.st_chain.specs.Causes.{place_at, IsBackFrom}
