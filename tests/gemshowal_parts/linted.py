@@ -7,6 +7,7 @@ import random
 import time
 
 from hostile_use.program import Answer, Check, expect
+from shared import passed_round
 
 # A process that prints once, and the head of a bundle in which it is the only one.
 PRINT = "{seq_trace,17,{print,{0,1},<0.30.0>,[],7}}"
@@ -455,17 +456,6 @@ TRACES = 60
 LINES = 200
 
 
-def chain(messages, processes):
-    """Lines of a bundle: processes that pass a message round."""
-    pids = [f"<0.{30 + k}.0>" for k in range(processes)]
-    streams = {pid: [f"process {pid}"] for pid in pids}
-    for n in range(1, messages + 1):
-        sender, receiver = pids[(n - 1) % processes], pids[n % processes]
-        for kind, pid in (("send", sender), ("'receive'", receiver)):
-            streams[pid].append(f"{{seq_trace,17,{{{kind},{{{n - 1},{n}}},{sender},{receiver},{n}}}}}")
-    return ["seqtrace 1", *(line for pid in pids for line in streams[pid])]
-
-
 def lines_named(got):
     return [it["line"] for it in objects(got) if "line" in it]
 
@@ -475,7 +465,7 @@ def planted(program):
     `--fix` mends just those that have one remedy."""
     draw = random.Random("lint 7")
     for n in range(TRACES):
-        lines = chain(LINES // 2, draw.randrange(2, 6))
+        lines = passed_round(draw.randrange(2, 6), LINES // 2).splitlines()
         events = [k for k, line in enumerate(lines) if line.startswith("{")]
         wrong = {k: draw.choice(PLANTS) for k in draw.sample(events, draw.randrange(1, 30))}
         text = "".join(f"{wrong[k][0](line) if k in wrong else line}\n" for k, line in enumerate(lines)).encode()
@@ -500,7 +490,7 @@ def garbled(program):
     draw = random.Random("lint 8")
     statuses = set()
     for n in range(5 * TRACES):
-        text = bytearray("\n".join(chain(4, draw.randrange(1, 4))).encode() + b"\nacts\nlook <0.30.0>\n")
+        text = bytearray(passed_round(draw.randrange(1, 4), 4).encode() + b"acts\nlook <0.30.0>\n")
         for _ in range(draw.randrange(3)):
             place = draw.randrange(len(text))
             change = draw.randrange(3)

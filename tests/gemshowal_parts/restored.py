@@ -13,17 +13,13 @@ import slow_node
 import wrapped
 from hostile_use.program import Answer, Check, Program
 from linted import in_time
+from wrapped import line
 
 RUNS = 60
 # How often a token is sought in two texts. The time may grow so much more than the text does; a time is at least the seconds
 # that a start of the program may take.
 GROWING, MOST_GROWTH, LEAST_SECONDS = (8_000, 32_000), 2, 0.05
-CLIENT, SERVER = "<0.30.0>", "<0.31.0>"
-
-
-def line(kind, prev, this, sender=CLIENT, to=SERVER, value=7, label=1):
-    to = "[]" if kind == "print" else to
-    return f"{{seq_trace,{label},{{{kind},{{{prev},{this}}},{sender},{to},{value}}}}}\n"
+CLIENT, SERVER = wrapped.PARENT, wrapped.CHILD
 
 
 def trace(client, server=()):
