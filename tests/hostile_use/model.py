@@ -1,12 +1,16 @@
 """The output that the program owes, by slow readings of `docs/FORMATS.md` and of the rules: the reader's first refusal,
 and what the slow auditor of `tests/models` says of a text that has none."""
 
-import importlib.util
 import re
+import sys
 from functools import cache
 from pathlib import Path
 
-from .program import Answer
+sys.path.insert(0, str(Path(__file__).resolve().parents[1] / "models"))
+
+import slow_seqaudit as slow  # noqa: E402
+
+from .program import Answer  # noqa: E402
 
 GREATEST = {"n": 2**64 - 1, "l": 2**32 - 1}
 MOST_BYTES, MOST_PROCESSES, MOST_EVENTS, MOST_ACTS = 67_108_864, 1_024, 1_000_000, 4_000_000
@@ -81,17 +85,6 @@ def first_fault(text):
         return "line 1"
     unlisted = next((number for number, pids in named if not set(pids) <= set(listed)), None)
     return f"unknown {unlisted}" if unlisted else None
-
-
-def load_slow_model():
-    path = Path(__file__).parents[1] / "models/slow_seqaudit.py"
-    spec = importlib.util.spec_from_file_location("slow_seqaudit", path)
-    module = importlib.util.module_from_spec(spec)
-    spec.loader.exec_module(module)
-    return module
-
-
-slow = load_slow_model()
 
 
 def replayed(text):
