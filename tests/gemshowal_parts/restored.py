@@ -39,14 +39,14 @@ BACK_LATE = line("'receive'", 3, 10, SERVER, CLIENT, 8)
 # A trace in words, its text, the status, and the sentences in their order.
 SAID = (
     ("a token that was put back", trace([ASK, REPLIED, AGAIN], [ASKED, REPLY, ASKED_AGAIN]), 0,
-     ["fits: 6 events of 2 processes; nothing is known to be missing; 1 token was put back\n",
+     ["fits: 6 events of 2 processes; nothing is known to be missing; 1 token was put back, or there was a reset\n",
       "  <0.30.0>#2: the token of <0.30.0>#0 was put back\n", "that a standard node has such a run, and its words, are only tested"]),
     ("the same without sends", trace([REPLIED, line("print", 0, 2)], [ASKED, line("print", 0, 1, SERVER)]), 0,
-     ["fits: 4 events of 2 processes, with 2 sends that nobody reported; 2 tokens were put back in the run that was found\n",
+     ["fits: 4 events of 2 processes, with 2 sends that nobody reported; 2 tokens were put back in the run that was found, or there was a reset\n",
       "Another run may have fewer tokens put back, or others. This one has:\n"]),
     ("the same without receives", trace([ASK, line("print", 2, 3), AGAIN], [REPLY]), 0,
      ["fits: 4 events of 2 processes, with 2 receives that nobody reported; 1 message has no reported receive, and may still wait; "
-      "1 token was put back in the run that was found\n", "  <0.30.0>#2: the token of <0.30.0>#0 was put back\n"]),
+      "1 token was put back in the run that was found, or there was a reset\n", "  <0.30.0>#2: the token of <0.30.0>#0 was put back\n"]),
     ("prints that weren't reported", trace([ASK, REPLIED, line("send", 0, 4, value=9)], [ASKED, REPLY, line("'receive'", 0, 4, value=9)]), 0,
      ["fits: 6 events of 2 processes, with 2 counts that no event here has; 1 token was put back in the run that was found\n"]),
     ("a token that was put back where a receive may not have been reported",
@@ -56,7 +56,7 @@ SAID = (
       "  <0.31.0>#4~1: <0.31.0> receives an unknown message from <0.31.0>, serial {0,1}, label 1\n"]),
     ("a reset", trace([ASK, REPLIED, line("send", 0, 1, value=9)], [ASKED, REPLY, line("'receive'", 0, 1, value=9),
                                                                     line("send", 1, 2, SERVER, CLIENT, 10)]), 0,
-     ["; 2 tokens were put back\n", "  <0.30.0>#2: a token that it had made, {0,0}, was put back\n",
+     ["; 2 tokens were put back, or there was a reset\n", "  <0.30.0>#2: a token that it had made, {0,0}, was put back\n",
       "A reset would explain 2 put-backs, as two runs in one trace would: between <0.30.0>#1 and <0.30.0>#2, between <0.31.0>#1 and <0.31.0>#2.\n"]),
     ("a serial that no token gives", trace([line("print", 0, 1), AGAIN, LATER_REPLIED, line("send", 1, 2)], [ASKED_AGAIN, LATER, line("'receive'", 1, 2)]), 1,
      ["fits if something wasn't reported: 1 of 4 serials isn't explained by what was\n", "  <0.30.0>#3 {1,2}: nothing that <0.30.0> had gives it\n",
@@ -73,7 +73,7 @@ SAID = (
      ["fits if something wasn't reported: 1 of 6 serials isn't explained by what was\n"]),
     ("a tracer that came late", trace([line("send", 0, 4), BACK_LATE], [line("'receive'", 0, 3, value=6), *LATE]), 0,
      ["fits: 7 events of 2 processes, with 1 send that nobody reported; the counters of 2 processes go on from before; 1 message has no "
-      "reported receive, and may still wait; 1 token was put back\n",
+      "reported receive, and may still wait; 1 token was put back, or there was a reset\n",
       "  <0.31.0>#0: the send of value 6 by <0.30.0> wasn't reported, and can have come before the trace\n"]),
     ("the same, if only the sender's counter shows it",
      trace([line("send", 0, 4)], [line("'receive'", 0, 3, value=6), line("print", 3, 4, SERVER), line("print", 3, 5, SERVER), line("print", 3, 5, SERVER, value=9)]), 1,

@@ -2,6 +2,7 @@
 import sys
 
 import slow_seqaudit as model
+from hostile_use.program import Check
 
 SHOWN = 30  # The most checks that failed of which is told.
 
@@ -42,6 +43,17 @@ def passed_round(processes, messages):
         for kind, pid in (("send", sender), ("'receive'", receiver)):
             streams[pid].append(f"{{seq_trace,17,{{{kind},{{{n - 1},{n}}},{sender},{receiver},{n}}}}}\n")
     return "seqtrace 1\n" + "".join(line for pid in pids for line in streams[pid])
+
+
+def is_so(name, got, *wanted, status=None):
+    """The check that what it says has these words, in this order, and ends with this status."""
+    said, at = got.output.decode() + got.complaint.decode(), 0
+    for words in wanted:
+        at = said.find(words, at)
+        if at < 0:
+            return Check(name, f"it lacks {words!r}\ngot {said}")
+        at += len(words)
+    return Check(name, f"status {got.status}, not {status}" if status not in (None, got.status) else None)
 
 
 def run_parts(parts, given, chosen=()):

@@ -10,6 +10,7 @@ from pathlib import Path
 
 import slow_node
 from hostile_use.program import Check
+from shared import is_so
 
 RUNS = 60
 TOP = Path(__file__).resolve().parents[2]
@@ -97,12 +98,7 @@ FAULTS = (("a count with a plus", b"{0,1}", b"{0,+1}", b"line 3 "), ("a count of
 def audits(program, name, cases):
     """Whether `audit` of each case's text has its status, and says its sentences in their order."""
     for what, text, status, wanted in cases:
-        got = program.run(("audit",), text)
-        said, at = got.output.decode() + got.complaint.decode(), 0
-        for words in wanted:
-            at = said.find(words, max(at, 0))
-        is_right = at >= 0 and got.status == status
-        yield Check(f"{name}: {what}", None if is_right else f"wanted {status} {wanted}\ngot {got.status} {said}")
+        yield is_so(f"{name}: {what}", program.run(("audit",), text), *wanted, status=status)
 
 
 def sentences(program):
@@ -236,12 +232,7 @@ TOLD = (
 
 def causes(program):
     for what, (pid, *words), text, wanted in TOLD:
-        got = program.run(("why", "-", pid, *words), text)
-        said, at = got.output.decode(), 0
-        for sentence in wanted:
-            at = said.find(sentence, max(at, 0))
-        is_right = at >= 0 and got.status == 0
-        yield Check(f"why of a wrapped trace: {what}", None if is_right else f"wanted {wanted}\ngot {got.status} {said}{got.complaint}")
+        yield is_so(f"why of a wrapped trace: {what}", program.run(("why", "-", pid, *words), text), *wanted, status=0)
 
 
 def holds(premises, process, first, i):
