@@ -1,38 +1,9 @@
 //! Maps, sets and heaps.
 
 use crate::alloc::{AllocError, AllocFailed, Global};
-use std::collections::{binary_heap, btree_map, btree_set};
+use std::collections::btree_set;
 use std::hash::Hash;
 use std::ops::RangeBounds;
-
-/// The calls of a map that allocate no memory. As theirs.
-macro_rules! calls_without_memory {
-    () => {
-        pub fn get(&self, key: &K) -> Option<&V> {
-            self.inner.get(key)
-        }
-
-        pub fn get_mut(&mut self, key: &K) -> Option<&mut V> {
-            self.inner.get_mut(key)
-        }
-
-        pub fn remove(&mut self, key: &K) -> Option<V> {
-            self.inner.remove(key)
-        }
-
-        pub fn contains_key(&self, key: &K) -> bool {
-            self.inner.contains_key(key)
-        }
-
-        pub fn len(&self) -> usize {
-            self.inner.len()
-        }
-
-        pub fn is_empty(&self) -> bool {
-            self.inner.is_empty()
-        }
-    };
-}
 
 /// As theirs, but the hash is Rust's own, with a seed for each map.
 #[derive(Debug)]
@@ -41,11 +12,29 @@ pub struct HashMap<K, V> {
 }
 
 impl<K: Eq + Hash, V> HashMap<K, V> {
-    calls_without_memory!();
-
     /// As theirs.
     pub fn new(_: Global) -> HashMap<K, V> {
         HashMap { inner: std::collections::HashMap::new() }
+    }
+
+    /// As theirs.
+    pub fn get(&self, key: &K) -> Option<&V> {
+        self.inner.get(key)
+    }
+
+    /// As theirs.
+    pub fn remove(&mut self, key: &K) -> Option<V> {
+        self.inner.remove(key)
+    }
+
+    /// As theirs.
+    pub fn contains_key(&self, key: &K) -> bool {
+        self.inner.contains_key(key)
+    }
+
+    /// As theirs.
+    pub fn is_empty(&self) -> bool {
+        self.inner.is_empty()
     }
 
     /// As theirs.
@@ -95,35 +84,24 @@ pub struct BTreeMap<K, V> {
 }
 
 impl<K: Ord, V> BTreeMap<K, V> {
-    calls_without_memory!();
-
     /// As theirs.
     pub fn new(_: Global) -> BTreeMap<K, V> {
         BTreeMap { inner: std::collections::BTreeMap::new() }
     }
 
-    /// See `BTreeMap`.
-    pub fn insert(&mut self, key: K, value: V) -> Result<Option<V>, AllocFailed<(K, V)>> {
-        Ok(self.inner.insert(key, value))
-    }
-
-    /// The place of a key. See `BTreeMap`.
-    pub fn entry(&mut self, key: K) -> Result<btree_map::Entry<'_, K, V>, AllocError> {
-        Ok(self.inner.entry(key))
+    /// As theirs.
+    pub fn get(&self, key: &K) -> Option<&V> {
+        self.inner.get(key)
     }
 
     /// As theirs.
-    pub fn iter(&self) -> btree_map::Iter<'_, K, V> {
-        self.inner.iter()
+    pub fn remove(&mut self, key: &K) -> Option<V> {
+        self.inner.remove(key)
     }
-}
 
-impl<'a, K, V> IntoIterator for &'a BTreeMap<K, V> {
-    type Item = (&'a K, &'a V);
-    type IntoIter = btree_map::Iter<'a, K, V>;
-
-    fn into_iter(self) -> Self::IntoIter {
-        self.inner.iter()
+    /// See `BTreeMap`.
+    pub fn insert(&mut self, key: K, value: V) -> Result<Option<V>, AllocFailed<(K, V)>> {
+        Ok(self.inner.insert(key, value))
     }
 }
 
@@ -139,19 +117,9 @@ impl<T: Ord> BTreeSet<T> {
         BTreeSet { inner: std::collections::BTreeSet::new() }
     }
 
-    /// As theirs.
-    pub fn len(&self) -> usize {
-        self.inner.len()
-    }
-
     /// See `BTreeMap`.
     pub fn insert(&mut self, item: T) -> Result<bool, AllocFailed<T>> {
         Ok(self.inner.insert(item))
-    }
-
-    /// As theirs.
-    pub fn contains(&self, item: &T) -> bool {
-        self.inner.contains(item)
     }
 
     /// As theirs.
@@ -198,11 +166,6 @@ impl<T: Ord> BinaryHeap<T> {
     }
 
     /// As theirs.
-    pub fn peek(&self) -> Option<&T> {
-        self.inner.peek()
-    }
-
-    /// As theirs.
     pub fn len(&self) -> usize {
         self.inner.len()
     }
@@ -210,10 +173,5 @@ impl<T: Ord> BinaryHeap<T> {
     /// As theirs.
     pub fn is_empty(&self) -> bool {
         self.inner.is_empty()
-    }
-
-    /// As theirs.
-    pub fn iter(&self) -> binary_heap::Iter<'_, T> {
-        self.inner.iter()
     }
 }

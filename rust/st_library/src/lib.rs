@@ -26,7 +26,6 @@ pub mod rayon;
 pub mod rt;
 pub mod sha2;
 pub mod slab;
-pub mod slice;
 pub mod snapshot;
 pub mod sync;
 pub mod test;

@@ -18,11 +18,10 @@ macro_rules! panic {
     ($rt:expr; $($rest:tt)*) => {{ let _ = &$rt; ::std::panic!($($rest)*) }};
 }
 
-/// A list of n copies, or of these items. As theirs.
+/// A list of n copies. As theirs.
 #[macro_export]
 macro_rules! vec {
     (in $alloc:expr; $item:expr; $n:expr) => { $crate::vec::Vec::filled($alloc, $item, $n) };
-    (in $alloc:expr; $($item:expr),+ $(,)?) => { $crate::vec::Vec::from_array($alloc, [$($item),+]) };
 }
 
 /// A text. Theirs returns an error if memory runs out, and this ends the program.

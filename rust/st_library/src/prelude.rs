@@ -4,7 +4,6 @@ pub use crate::boxed::Box;
 pub use crate::iter::CollectIn;
 pub use crate::process::Expect;
 pub use crate::rt::{AllocGlobal, HostRuntime};
-pub use crate::slice::{ArraySlice, SliceSort};
 pub use crate::vec::Vec;
 // Before Rust 1.87 `from_utf8` is the module's alone.
 pub use std::str;

@@ -4,10 +4,8 @@
 pub mod prelude {
     use crate::alloc::{AllocError, Global};
     use crate::thread::Threads;
-    use ::rayon::iter::{IndexedParallelIterator, IntoParallelIterator, ParallelIterator};
     use ::rayon::slice::ParallelSliceMut;
     use ::rayon::{ThreadPool, ThreadPoolBuilder};
-    use std::ops::Range;
     use std::sync::OnceLock;
 
     /// The threads that share the work; none if they can't be started. Rayon's own pool would end the program then.
@@ -38,40 +36,5 @@ pub mod prelude {
             None => items.sort_by_key(key),
         }
         Ok(())
-    }
-
-    /// A range whose numbers several threads take.
-    pub trait IntoParIter {
-        /// As theirs.
-        fn into_par_iter(self) -> ParRange;
-    }
-
-    impl IntoParIter for Range<usize> {
-        fn into_par_iter(self) -> ParRange {
-            ParRange { range: self, least: 1 }
-        }
-    }
-
-    /// A range, and how many of its numbers a thread takes at least.
-    #[derive(Debug)]
-    pub struct ParRange {
-        range: Range<usize>,
-        least: usize,
-    }
-
-    impl ParRange {
-        /// As theirs.
-        pub fn with_min_len(self, least: usize) -> ParRange {
-            ParRange { least, ..self }
-        }
-
-        /// Whether it holds for each number. As theirs, which takes the runtime too.
-        pub fn all<R: Threads, F: Fn(usize) -> bool + Sync + Send>(self, _: &R, holds: F) -> bool {
-            let ParRange { mut range, least } = self;
-            match pool() {
-                Some(pool) => pool.install(|| IntoParallelIterator::into_par_iter(range).with_min_len(least).all(holds)),
-                None => range.all(holds),
-            }
-        }
     }
 }

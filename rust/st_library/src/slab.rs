@@ -1,6 +1,6 @@
 //! Values under keys that are used again.
 
-use crate::alloc::{AllocError, AllocFailed, Global};
+use crate::alloc::{AllocError, Global};
 use std::ops::{Index, IndexMut};
 
 /// Values under keys, the same as theirs. Rust's slab ends the program if memory runs out as it grows. So before it does, room
@@ -35,14 +35,6 @@ impl<T> Slab<T> {
         Ok(())
     }
 
-    /// See `Slab`.
-    pub fn insert(&mut self, value: T) -> Result<usize, AllocFailed<T>> {
-        match self.reserve(1) {
-            Ok(()) => Ok(self.inner.insert(value)),
-            Err(AllocError) => Err(AllocFailed { value }),
-        }
-    }
-
     /// Theirs takes only a slab that has room; here one without grows.
     pub fn insert_reserved(&mut self, value: T) -> usize {
         self.inner.insert(value)
@@ -51,11 +43,6 @@ impl<T> Slab<T> {
     /// As theirs.
     pub fn remove(&mut self, key: usize) -> T {
         self.inner.remove(key)
-    }
-
-    /// As theirs.
-    pub fn get(&self, key: usize) -> Option<&T> {
-        self.inner.get(key)
     }
 }
 

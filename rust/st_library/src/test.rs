@@ -1,18 +1,11 @@
 //! The result of a test.
 
 use crate::rt::HostRuntime;
-use std::fmt::{Debug, Display};
+use std::fmt::Debug;
 
 /// Why a test failed. As theirs.
 pub struct Fail {
     why: String,
-}
-
-impl Fail {
-    /// As theirs.
-    pub fn new<D: Display>(why: D) -> Fail {
-        Fail { why: why.to_string() }
-    }
 }
 
 impl<E: Debug> From<E> for Fail {

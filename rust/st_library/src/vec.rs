@@ -32,13 +32,6 @@ impl<T> Vec<T> {
         Ok(all)
     }
 
-    /// As theirs. `vec![in alloc; item, item]` calls it.
-    pub fn from_array<const N: usize>(alloc: Global, items: [T; N]) -> Result<Vec<T>, AllocError> {
-        let mut all = Vec::with_capacity(alloc, N)?;
-        all.items.extend(items);
-        Ok(all)
-    }
-
     /// As theirs. `vec![in alloc; item; n]` calls it.
     pub fn filled(alloc: Global, item: T, n: usize) -> Result<Vec<T>, AllocError>
     where
@@ -96,25 +89,6 @@ impl<T> Vec<T> {
     }
 
     /// As theirs.
-    pub fn insert(&mut self, index: usize, item: T) -> Result<(), AllocFailed<T>> {
-        if self.items.try_reserve(1).is_err() {
-            return Err(AllocFailed { value: item });
-        }
-        self.items.insert(index, item);
-        Ok(())
-    }
-
-    /// As theirs.
-    pub fn remove(&mut self, index: usize) -> T {
-        self.items.remove(index)
-    }
-
-    /// As theirs.
-    pub fn retain<F: FnMut(&T) -> bool>(&mut self, keep: F) {
-        self.items.retain(keep);
-    }
-
-    /// As theirs.
     pub fn pop(&mut self) -> Option<T> {
         self.items.pop()
     }
@@ -122,21 +96,6 @@ impl<T> Vec<T> {
     /// As theirs.
     pub fn clear(&mut self) {
         self.items.clear();
-    }
-
-    /// As theirs.
-    pub fn truncate(&mut self, len: usize) {
-        self.items.truncate(len);
-    }
-
-    /// As theirs.
-    pub fn capacity(&self) -> usize {
-        self.items.capacity()
-    }
-
-    /// As theirs.
-    pub fn shrink_to_fit(&mut self) {
-        self.items.shrink_to_fit();
     }
 
     /// As theirs.
