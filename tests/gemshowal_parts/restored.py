@@ -12,13 +12,12 @@ from pathlib import Path
 import slow_node
 import wrapped
 from hostile_use.program import Answer, Check, Program
-from linted import in_time
 from wrapped import line
 
 RUNS = 60
-# How often a token is sought in two texts. The time may grow so much more than the text does; a time is at least the seconds
-# that a start of the program may take.
-GROWING, MOST_GROWTH, LEAST_SECONDS = (8_000, 32_000), 2, 0.05
+# How often a token is sought in two texts. The processor's time may grow so much more than the text does; it is at least the
+# seconds that a start of the program may take, and a run that takes the most is ended.
+GROWING, MOST_GROWTH, LEAST_SECONDS, SECONDS = (8_000, 32_000), 2, 0.05, 60
 CLIENT, SERVER = wrapped.PARENT, wrapped.CHILD
 
 
@@ -222,7 +221,7 @@ def sought_tokens(count):
 
 def growth(program):
     """The time for a token that only its own process had grows as the text does."""
-    least = [min(in_time(program, ("audit", "--json"), sought_tokens(count))[1] for _ in range(3)) for count in GROWING]
+    least = [min(program.measure(("audit", "--json"), [sought_tokens(count)], SECONDS)[2] for _ in range(3)) for count in GROWING]
     is_right = least[1] < MOST_GROWTH * GROWING[1] / GROWING[0] * max(least[0], LEAST_SECONDS)
     yield Check("audit of tokens that are looked for", None if is_right else str(least), note=f"{least[1]:.1f} s for {3 * GROWING[1]:,} events")
 
