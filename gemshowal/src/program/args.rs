@@ -275,7 +275,7 @@ impl Conditions {
         !self.are_of_time() || time().is_some_and(|time| self.cover(time))
     }
 
-    /// Returns whether they are met by an event that happened so much later than the first one.
+    /// Returns whether an event that happened this long after the first one meets them.
     pub(crate) fn cover(&self, time: Time) -> bool {
         let seconds = time as f64 / 1e9;
         self.from.is_none_or(|from| seconds >= from) && self.to.is_none_or(|to| seconds <= to)
@@ -397,7 +397,7 @@ impl Command {
         }
     }
 
-    /// Returns whether it writes a text, so that it takes one input.
+    /// Returns whether the command writes a text, and so takes a single input.
     fn writes_text(&self) -> bool {
         match self {
             Command::Audit(audit) => audit.acts.is_some(),
@@ -406,7 +406,7 @@ impl Command {
         }
     }
 
-    /// Returns the option for which there is no JSON to write.
+    /// Returns the option that has no JSON.
     fn text_option(&self) -> Option<&'static str> {
         match self {
             Command::Chart(_) => Some("chart"),
@@ -422,14 +422,14 @@ impl Command {
 }
 
 impl Args {
-    /// Reads the words of this process, and returns the command's own with the rest.
+    /// Reads the command line, and returns the command's name with its arguments.
     pub(crate) fn read() -> Result<(String, Args), clap::Error> {
         let matches = Args::command().try_get_matches()?;
         let word = matches.subcommand_name().unwrap_or_default().to_owned();
         Ok((word, Args::from_arg_matches(&matches)?.checked()?))
     }
 
-    /// Refuses words that don't go together in ways that no single option tells.
+    /// Refuses arguments that don't go together.
     fn checked(self) -> Result<Args, clap::Error> {
         let command = &self.command;
         let wrong = |words: String| Err(Args::command().error(ErrorKind::ValueValidation, words));

@@ -19,7 +19,7 @@ pub(crate) enum Status {
 /// How a command ends on an input.
 pub(crate) type Ended = Result<Status, Failure>;
 
-/// The status of a program whose reader has gone, as a shell has it for one that a signal ended.
+/// The status after the reader has gone: the one that a shell gives a program ended by SIGPIPE.
 pub(crate) const PIPE: u8 = 141;
 
 /// The reason why there is no result. `{0}` is the input's name.

@@ -56,7 +56,7 @@ impl Input {
         path.strip_suffix(".seqtrace").unwrap_or(&path).to_owned()
     }
 
-    /// Returns whether the text is that of a node whose counters have wrapped. It is read later.
+    /// Returns whether the text is that of a node whose counters have wrapped. Leaves it unread.
     pub(crate) fn is_wrapped(&mut self) -> Result<bool, Failure> {
         let mut front = Vec::new();
         let read = self.reader.by_ref().take(WRAPPED.len() as u64).read_to_end(&mut front);

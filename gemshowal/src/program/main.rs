@@ -84,7 +84,7 @@ fn run_on(command: &Command, task: Task<'_>) -> Ended {
     }
 }
 
-/// Opens an input, and does the command on it. In place of a result JSON has an object too.
+/// Opens an input, and runs the command on it. A failure has an object in JSON too.
 fn run_on_path(args: &Args, path: &Path, out: &mut Output, notes: &mut Notes) -> Ended {
     let Args { command, json, .. } = args;
     let opened = Input::open(path);
@@ -99,7 +99,7 @@ fn run_on_path(args: &Args, path: &Path, out: &mut Output, notes: &mut Notes) ->
         .or_else(|failure| report(failure, *json, out))
 }
 
-/// Writes in place of a result what there is to say of a failure.
+/// Writes what there is to say of a failure, in place of a result.
 fn report(failure: Failure, is_json: bool, out: &mut Output) -> Ended {
     out.forget();
     let ended = match failure {
@@ -115,7 +115,7 @@ fn report(failure: Failure, is_json: bool, out: &mut Output) -> Ended {
     ended
 }
 
-/// Does the command on one input after the other. The status is that of the worst.
+/// Runs the command on one input after the other. The status is the worst of theirs.
 fn run(word: &str, args: &Args) -> Result<u8, Failure> {
     if let Command::Pieces(pieces) = &args.command {
         return pieces::run(pieces, args.quiet);

@@ -18,7 +18,7 @@ pub(crate) fn seconds(time: i64) -> String {
     format!("{sign}{whole}.{:06} s", rest / MICRO.unsigned_abs())
 }
 
-/// Returns the unit in which a time has few digits.
+/// Returns the unit that shows a time with few digits.
 fn unit(time: u64) -> (i64, &'static str) {
     let units = [(1, "ns"), (MICRO, "us"), (MILLI, "ms")];
     let fits = |(size, _): &(i64, _)| time < (FEW * size) as u64;

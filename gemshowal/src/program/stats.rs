@@ -111,8 +111,8 @@ impl Process {
     }
 }
 
-/// Counts the messages by sender and receiver, of which at least one end was reported. One that
-/// both ends reported is counted at its send.
+/// Counts the messages with a reported end, by sender and receiver. A message with two is counted
+/// at its send.
 fn pairs(trace: &Trace, paired: &Paired<'_>, names: &Names) -> Vec<Pair> {
     let mut pairs = BTreeMap::<_, [u64; 3]>::new();
     for (place, event) in trace.events() {

@@ -27,7 +27,7 @@ const LEFT: usize = 190;
 const TOP: usize = 120;
 const NAMES: usize = 34;
 const ROWS_A_BLOCK: usize = 40;
-/// The lanes for which there is room, however few there are: the heading needs it.
+/// The least number of lanes that the drawing has room for: the heading needs it.
 const LEAST_LANES: usize = 4;
 
 // Limits of characters next to a mark, of a name above a lane or next to a row, and of the heading.
@@ -80,7 +80,7 @@ impl<'a> Drawing<'a> {
         marked.chain(names).chain(["</svg>\n".into()]).collect()
     }
 
-    /// Says what is drawn, what the trace lacks, and that it has no run if so.
+    /// Says what is drawn, what the trace lacks, and whether it has no run.
     fn heading(&self) -> String {
         let (rows, lanes) = (self.chart.rows.len() as u64, self.chart.lanes.len() as u64);
         let label = self.causes.names().label(self.chart.label);

@@ -112,7 +112,7 @@ fn write_entries(out: &mut Output, title: &str, entries: &[Durations]) -> io::Re
     write_table(out, &[title, "count", "median", "99 %", "greatest", "which"], rows.collect())
 }
 
-/// Writes a table whose first column is on the left; the others are as wide as they have to be.
+/// Writes a table whose first column is aligned left, and whose others are aligned right.
 fn write_table(out: &mut Output, titles: &[&str], rows: Vec<Vec<String>>) -> io::Result<()> {
     let more = rows.len().saturating_sub(LISTED);
     let titles = titles.iter().map(|title| (*title).to_owned()).collect();
@@ -177,8 +177,8 @@ impl Durations {
     }
 }
 
-/// Sums up the messages of which both ends have a time, by what the function makes of their
-/// receive. Those with the slowest message come first.
+/// Sums up the messages whose two ends have times, by a key of their receive, those with the
+/// slowest message first.
 fn by(trace: &Trace, names: &Names, key: impl Fn(&Event) -> String) -> Vec<Durations> {
     let mut groups: HashMap<String, Vec<(i64, Place)>> = HashMap::new();
     for (place, event) in trace.events() {

@@ -12,7 +12,7 @@ use std::io::{self, Write};
 /// The messages of the chosen events.
 #[derive(Default)]
 pub(super) struct Ends {
-    /// The senders and counts of those whose other ends are kept, too.
+    /// The sender and count of each message that is kept with both ends.
     stamps: HashSet<(Pid, u64)>,
     /// The others, each with how many sends and how many receives of it are chosen.
     chosen: HashMap<MessageContent, [u64; 2]>,
@@ -120,7 +120,7 @@ impl Kept {
     /// Returns the places that were asked for, each with its index and its line in what is kept.
     pub(super) fn places(&self) -> impl Iterator<Item = (Pid, u64, u64, u64)> + '_ {
         self.places.iter().map(|(&(pid, index), &now)| {
-            // The header and the process lines up to this one come before the event, too.
+            // Counts the header and the process lines above the event, too.
             let lines: u64 = self.processes.range(..pid).map(|(_, own)| 1 + own.count).sum();
             (pid, index, now, lines + now + 3)
         })

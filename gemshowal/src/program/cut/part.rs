@@ -1,4 +1,4 @@
-//! The parts of a trace, each of which can be read several times.
+//! The parts of a trace. Each can be read several times.
 
 use crate::input::{Input, Spooled};
 use crate::names::Names;
@@ -10,7 +10,7 @@ use std::collections::{BTreeMap, HashMap};
 use std::io::{self, BufReader, Read};
 use std::path::{Path, PathBuf};
 
-/// The most bytes of a text whose mistakes `lint` describes. Of a longer one the line is named.
+/// The most bytes of a text whose mistakes `lint` describes. In a longer text the line is named.
 const DESCRIBED: u64 = 67_108_864;
 
 pub(super) struct Part {

@@ -86,7 +86,7 @@ impl Times {
         Ok(self.events.remove(&place))
     }
 
-    /// Refuses times of another trace, in which there are events that the part hasn't.
+    /// Refuses the times of another trace: they have events that the part lacks.
     fn end(&mut self) -> Result<(), Failure> {
         match self.part.take() {
             Some(part) if !self.events.is_empty() => {

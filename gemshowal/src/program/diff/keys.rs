@@ -73,7 +73,7 @@ pub(super) fn all_keys(sides: [&Side<'_>; 2], ranks: Option<&[Ranks; 2]>) -> Key
 /// Returns the keys of processes by their own events: they tell which of them have the same process
 /// at the other end, but not yet which process.
 fn own_keys(side: &Side<'_>, ranks: Option<&Ranks>) -> Vec<u64> {
-    // For each process, the last one whose events name it, and the first of these events.
+    // Keeps for each process the last one whose events name it, and the first event that does.
     let mut named = vec![(NOBODY, 0); side.len()];
     let key = |place: usize| {
         let events = side.events(place).iter().zip(&side.items[place]).zip(&side.peers[place]);
@@ -104,7 +104,7 @@ fn refined(side: &Side<'_>, keys: &[u64]) -> Vec<u64> {
     next.into_iter().zip(told).map(|(own, told)| mix(own, told)).collect()
 }
 
-/// Returns whether two traces have the same keys, as far as these look.
+/// Returns whether two traces have the same keys, as far as the keys look.
 pub(super) fn are_alike(keys: &Keys) -> bool {
     let [ones, others] = keys[0].1.each_ref().map(|keys| {
         let mut sorted = keys.clone();

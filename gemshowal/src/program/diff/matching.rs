@@ -151,7 +151,7 @@ impl Search<'_> {
     }
 }
 
-/// The ground for which two processes are taken for the same.
+/// Why two processes are taken for the same.
 #[derive(Clone, Copy, Debug, PartialEq, Eq, Serialize)]
 #[serde(rename_all = "snake_case")]
 pub(super) enum Ground {
@@ -170,7 +170,7 @@ pub(super) enum Ground {
 }
 
 impl Ground {
-    /// Returns whether processes of different parts may well be taken for the same on this ground.
+    /// Returns whether processes of different parts may well be matched on this ground.
     pub(super) fn is_guess(self) -> bool {
         !matches!(self, Ground::Name | Ground::Pid | Ground::Events)
     }

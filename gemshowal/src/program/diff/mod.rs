@@ -1,6 +1,6 @@
 //! The command `diff`: what is new, gone or elsewhere in another trace, up to pids and counts.
 //!
-//! `matching` finds which process of the one trace has the part of which in the other, by names,
+//! `matching` finds which process of one trace plays the part of which in the other, by names,
 //! pids, messages and `keys`. `align` pairs the events of two processes that are matched, and
 //! `changes` has the others.
 

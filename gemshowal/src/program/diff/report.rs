@@ -18,7 +18,7 @@ pub(super) struct Text<'a> {
     pub(super) lines: LineNumbers<'a>,
 }
 
-/// An event of two matched processes whose counts have other ranks, the first of them all.
+/// The first event of two matched processes whose counts have other ranks.
 #[derive(Clone, Copy, Debug)]
 pub(super) struct Moved {
     pair: Pair,
@@ -29,7 +29,7 @@ pub(super) struct Moved {
 }
 
 impl Moved {
-    /// Finds it in traces of which all processes are matched and no event is changed.
+    /// Finds the event in traces whose processes are all matched and without other changes.
     pub(super) fn find(sides: [&Side<'_>; 2], ranks: &[Ranks; 2], pairs: &Pairs) -> Option<Moved> {
         let ([first, second], [ones, others]) = (sides, ranks);
         let has_same_counts = ones == others;

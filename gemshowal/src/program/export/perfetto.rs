@@ -1,5 +1,5 @@
 //! Trace events in Chrome's form, which Perfetto reads: a process for each node, a thread for each
-//! process, a flow for each message of which both ends are known, and slices.
+//! process, a flow for each message whose two ends are known, and slices.
 //!
 //! A short slice is an event. Around those of a process are what it did for a message, from its
 //! receive to the last stamp that follows it, and its calls, from the request to the reply.

@@ -1,5 +1,5 @@
 //! A log for ShiViz: two lines for each event, what it is, and its process with its vector clock as
-//! JSON: of each process how many of its events come before this one or are it.
+//! JSON: for each process the number of its events up to this one.
 
 use super::scene::{Place, Scene};
 use crate::names::Line;

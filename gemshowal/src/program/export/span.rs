@@ -12,10 +12,10 @@ use crate::Failure;
 use gemshowal::{Event, Kind, Label, Partner};
 use std::collections::BTreeMap;
 
-/// The kinds of spans, by the number that `opentelemetry/proto/trace/v1` has for such a kind.
+/// The kinds of spans, by their numbers in `opentelemetry/proto/trace/v1`.
 #[derive(Clone, Copy, Debug, PartialEq, Eq)]
 pub(super) enum About {
-    /// The events of a label, of which this one is the first: internal.
+    /// The events of a label, from its first event on: internal.
     Label = 1,
     /// The work of a process for the request of a call that it received here: of a server.
     Service = 2,

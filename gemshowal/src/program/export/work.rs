@@ -97,7 +97,7 @@ fn reference(text: &str) -> Option<&str> {
     rest.starts_with([',', ']', '}']).then_some(numbers)
 }
 
-/// The calls of which both the request and the receive of the reply were reported.
+/// The calls whose request and whose reply's receive were both reported.
 #[derive(Debug, Default)]
 pub(super) struct Calls {
     /// For each request's send the reply's receive.

@@ -17,13 +17,13 @@ pub(super) struct Findings<'a> {
     pub(super) count: u64,
     pub(super) by_fix: u64,
     pub(super) named: Vec<Mistake<'a>>,
-    /// The first one for which the reader refuses the text.
+    /// The first mistake for which the reader refuses the text.
     #[serde(skip)]
     pub(super) first_refused: Option<Mistake<'a>>,
 }
 
 impl<'a> Findings<'a> {
-    /// Finds the mistakes of the text of these bytes, of which this number are to be named.
+    /// Finds the mistakes of a text, and names this many of them.
     pub(super) fn of(text: &'a [u8], most: usize) -> Findings<'a> {
         let mut judge = Judge { most, ..Judge::default() };
         let first = lines(text).next().unwrap_or(Line { number: 1, bytes: b"", is_ended: true });
@@ -186,7 +186,7 @@ impl<'a> Judge<'a> {
         }
     }
 
-    /// Judges an act for which the pids at these places have to be listed.
+    /// Judges an act, and notes that these pids have to be listed.
     fn take_act(&mut self, line: Line<'a>, pids: &[(usize, Pid)]) {
         self.acts = self.acts.saturating_add(1);
         self.limit(line, "act", self.acts, LIMITS.acts);
@@ -209,7 +209,7 @@ impl<'a> Judge<'a> {
         }
     }
 
-    /// Judges the end of a text whose last line, if this is the one, has no newline.
+    /// Judges the end of the text if this line is its last and has no newline.
     fn take_end(&mut self, line: Line<'a>) {
         if line.is_ended || line.bytes.ends_with(b"\r") {
             return;

@@ -41,7 +41,7 @@ pub(crate) fn run(args: &Lint, task: Task<'_>) -> Ended {
     }
 }
 
-/// Describes the first mistake for which the reader refuses a text, to be said after its name.
+/// Describes the first mistake that makes the reader refuse a text, to be said after its name.
 pub(crate) fn first_refused(text: &[u8]) -> Option<String> {
     let mistake = Findings::of(text, 0).first_refused?;
     Some(format!(", {}; {}", mistake.place(), mistake.remedy))
@@ -56,8 +56,8 @@ pub(crate) fn read_act(line: &[u8]) -> Option<(Pids, usize)> {
     Some((scan.pids.iter().map(|&(_, pid)| pid).collect(), listed))
 }
 
-/// Judges a text, of which at most this number of mistakes is to be named. Of a text with mistakes
-/// the status says whether it is a trace.
+/// Judges a text, and names at most this many mistakes. The status of a text with mistakes says
+/// whether it is a trace.
 fn judge_text(
     bytes: &[u8],
     most: usize,

@@ -81,8 +81,8 @@ pub(super) fn escaped(text: &str) -> Cow<'_, str> {
 const LOSSES: &str = "nothing lost unread ended dropped left damaged newer no_events pauses \
     written_over taken nameless";
 
-/// Returns the losses of the conversion by `NAME.facts`, of which a line is the kind of the fact, a
-/// tab and a sentence; none if there is no file.
+/// Returns the losses of the conversion by `NAME.facts`, none if there is no file. A line is the
+/// kind of a fact, a tab and a sentence.
 pub(super) fn losses(facts: &Path) -> Result<Vec<String>, Failure> {
     let mut losses = Vec::new();
     let is_of_kind = |byte: u8| byte.is_ascii_lowercase() || byte == b'_';

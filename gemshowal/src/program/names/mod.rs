@@ -56,7 +56,7 @@ pub(crate) struct Names {
     times: Option<Times>,
 }
 
-/// The beginning of what is said of each message by which `spawn_request` asks for a process.
+/// The beginning of each message by which `spawn_request` asks for a process.
 const SPAWN_REQUEST: &str = "spawn erts_internal:spawn_init/1";
 
 impl Names {
@@ -96,7 +96,7 @@ impl Names {
         self.terms.processes.get(&pid).map(|process| &*process.about)
     }
 
-    /// Returns the word behind these ones in what is known of a process.
+    /// Returns the word after this text in what is known of a process.
     pub(crate) fn word_about(&self, pid: Pid, before: &str) -> Option<&str> {
         self.about(pid)?.split_once(before)?.1.split([',', ' ']).next()
     }

@@ -76,7 +76,7 @@ impl TimesFile {
         Ok(())
     }
 
-    /// Returns the events that happened so much later than the first one that it is wanted.
+    /// Returns the events whose time after the first event is wanted.
     pub(crate) fn events(&self, is: impl Fn(Time) -> bool) -> Result<HashSet<Place>, Failure> {
         let mut events = HashSet::new();
         self.each(|entry| match entry {

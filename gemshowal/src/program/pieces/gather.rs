@@ -21,7 +21,7 @@ struct Gathered {
     /// A process that no text lists.
     unlisted: Option<Pid>,
     found: Option<Found>,
-    /// How many events the reason's processes have in each part, as the places behind them.
+    /// For each process of the reason, the place after its last event in each part.
     parts: BTreeMap<Pid, Vec<Place>>,
     scattered: Counts,
     judged: Counts,
