@@ -20,7 +20,7 @@ use Rattle.node_machine.proofs.ForCallers.{count_once, given_ways, last_by_recei
 use Rattle.node_machine.proofs.ForCallers.{lasts_held, next_of_zero, takes_parts, tokens_more}
 use Rattle.node_machine.proofs.ForCallers.{tokens_parts}
 use Rattle.node_given.specs.declared.tokens.Tokens.{Tokens}
-use Rattle.node_given.specs.Walk.{AreFit, ends_in_take, IsKnown}
+use Rattle.node_given.specs.Walk.{AreFit, ends_in_take, IsKnown, IsPutBackNow}
 use Rattle.node_given.proofs.Knowledge.{ends_push, shown_taken}
 
 pub on_ok : {T E P Q : Type 0} (r : Result T E) → (P → Q) → OnOk r P → OnOk r Q
@@ -250,6 +250,15 @@ module _ (es : List Seen) (ks : List ℕ) (lift last : ℕ) (taking : Bool) (t :
         let most = lowered_clock es e token clock known.fit low fits next in
         let same = known.last_is in
         (lowered_held es e token low, omega arith)
+
+    -- a token that gives the stamp has its prev and this count
+    pub not_put_back : (IsAmong (tokens es) (record { prev = e.serial.prev; this = clock }) → ⊥)
+        → (token : Serial) → IsPutBackNow es e token → ⊥
+    not_put_back unheld token now =
+        let same = count_once token.this clock (tokens_fit es token known.fit now.held) fits
+        (sym now.count ∙ sym next) in
+        unheld (subst (IsAmong (tokens es)) (λ i. record { prev = now.prev i; this = same i })
+        now.held)
 
     pub not_given : NeedsPutBack es e
         → (IsAmong (tokens es) (record { prev = e.serial.prev; this = clock }) → ⊥)

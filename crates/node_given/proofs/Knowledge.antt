@@ -75,7 +75,7 @@ ends_push [] e = refl
 ends_push (d ∷ []) e = refl
 ends_push (d ∷ c ∷ es) e = ends_push (c ∷ es) e
 
-fit_push : (es : List Seen) (e : Seen) → AreFit es → e.serial.this < 2 ^ 60
+pub fit_push : (es : List Seen) (e : Seen) → AreFit es → e.serial.this < 2 ^ 60
     → AreFit (es ++ e ∷ [])
 fit_push es e fit here =
     all_append (λ (d : Seen). d.serial.this < 2 ^ 60) es (e ∷ []) fit (here, tt)

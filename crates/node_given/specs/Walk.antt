@@ -26,7 +26,7 @@ pub record IsPutBackNow (es : List Seen) (e : Seen) (token : Serial) : Type 0 wh
   pub count : e.serial.this ≡ stamp_count token.this
 
 -- the way is true of the event e after the events es; it names a put-back only if the stamp goes
--- on in no reading of them
+-- on in no reading of them, and one before a receive only if none right before the stamp gives it
 abbrev pub IsWay : List Seen → Seen → Way → Type 0
 IsWay es e way.Receive = is_receipt e ≡ true
 IsWay es e way.Plain = (is_receipt e ≡ false) × IsPlainly es e
@@ -34,6 +34,7 @@ IsWay es e (way.PutBack token) =
     (is_receipt e ≡ false) × NeedsPutBack es e × IsPutBackNow es e token
 IsWay es e (way.Lowered token) =
     (is_receipt e ≡ false) × NeedsPutBack es e × IsLowered es e token
+    × ((other : Serial) → ¬ (IsPutBackNow es e other))
 IsWay es e way.Ungiven = (is_receipt e ≡ false) × ¬ (IsGiven es e)
 
 -- whether the way names a token that was put back

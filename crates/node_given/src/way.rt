@@ -9,10 +9,11 @@ pub enum Way {
     Receive,
     /// The stamp goes on from the counts after the events.
     Plain,
-    /// This token, which the process held or can have made, was put back right before the stamp.
+    /// The stamp goes on from the counts after the events in no reading, but it does if this token,
+    /// which the process held or can have made, was put back right before it.
     PutBack(Serial),
-    /// This token was put back right before the receive before the stamp, whose count is the
-    /// stamp's prev.
+    /// No token that was put back right before the stamp gives it, but this one does if it was put
+    /// back right before the receive before it, whose count is its prev. Others may do so too.
     Lowered(Serial),
     /// No token that the process held gives the stamp.
     Ungiven,

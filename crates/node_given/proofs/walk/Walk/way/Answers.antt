@@ -4,7 +4,7 @@ use Rattle.std.specs.List.{list_any}
 use Rattle.std.proofs.lemmas.Bool.{false≢true}
 use Rattle.node_machine.specs.Readings.{is_next}
 use Rattle.node_machine.specs.Given.{tokens}
-use Rattle.node_given.proofs.Decisions.{not_given, plain_way, put_back_needed}
+use Rattle.node_given.proofs.Decisions.{not_given, not_put_back, plain_way, put_back_needed}
 use Rattle.node_given.proofs.walk.Walk.way.Goals as goal
 
 pub returns-then-some_goes_on : goal.returns-then-some_goes_on
@@ -44,6 +44,11 @@ returns-in-Some c = λ es kind known.
           (ap test (sym c.deref.ensures.value) ∙ sym c.some_goes_on.ensures
           ∙ c.if-some_goes_on.false),
       c.in-Some.ensures.found es known,
+      not_put_back es w.clocks.items w.lift w.last w.takes w.tokens known e
+          c.count_before-this.result c.count_before-this.ensures.next
+          c.count_before-this.ensures.fits
+          (λ held. false≢true (sym c.if-has.false ∙ c.has.ensures.missing (tokens es)
+          known.tokens_are held)),
     )
 
 pub returns-in-None : goal.returns-in-None
