@@ -121,6 +121,16 @@ module _ (top : ℕ) (streams : List Stream) where
       ap (λ (r : Pid). placed r i a) place.0 ∙ ap (λ (n : ℕ). placed q n a) place.1
       ∙ ap (λ (s : Never). placed q j s) reason
 
+  pub one_verdict : (one other : Option PlacedReason) → IsVerdictOn top streams one
+      → IsVerdictOn top streams other → one ≡ other
+  one_verdict None None a b = refl
+  one_verdict None (Some found) a b =
+      absurd (a found.pid found.index b.event found.never b.at b.holds)
+  one_verdict (Some found) None a b =
+      absurd (b found.pid found.index a.event found.never a.at a.holds)
+  one_verdict (Some found) (Some other) a b =
+      one_first found.pid other.pid found.index other.index found.never other.never a b
+
   -- the verdict is what `complete` names
   pub named : (found : Answer) (verdict : Option PlacedReason) → IsAnswer top streams found
       → IsVerdictOn top streams verdict → IsNamed found verdict

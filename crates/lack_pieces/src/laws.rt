@@ -33,6 +33,9 @@ pub fn verdict_is_the_first_of_pieces()
 
 /// There is one verdict on streams, and `complete` returns it, if it returns an answer.
 pub fn verdict_is_that_of_complete()
-    ensures { (top : ℕ) (streams : List Stream) (answer : Answer) (verdict : Option PlacedReason)
-        → IsAnswer top streams answer → IsVerdictOn top streams verdict → IsNamed answer verdict }
+    ensures one { (top : ℕ) (streams : List Stream) (one other : Option PlacedReason)
+        → IsVerdictOn top streams one → IsVerdictOn top streams other → one ≡ other }
+    ensures named { (top : ℕ) (streams : List Stream) (answer : Answer)
+        (verdict : Option PlacedReason) → IsAnswer top streams answer
+        → IsVerdictOn top streams verdict → IsNamed answer verdict }
 {}
