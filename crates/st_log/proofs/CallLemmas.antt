@@ -1,4 +1,4 @@
--- Brief forms are only appended, and so is what is kept whole: each brief form keeps its call.
+-- Brief forms and whole calls are only appended, so each brief form keeps its call.
 use Rattle.std.proofs.Common.{◌≡◌, ℕ, ◌+◌, List, [], ◌∷◌, ◌++◌, length, refl, sym, ap, ◌∙◌, arith}
 use Rattle.std.proofs.Common.{◌≤◌, ◌⊎◌, ⊎_elim, subst}
 use Rattle.std.specs.List.{AllByRecursion}
@@ -9,7 +9,7 @@ use Rattle.st_log.specs.declared.calls.Brief.{Brief}
 use Rattle.st_log.specs.declared.calls.Brief.TheVariants as brief
 use Rattle.st_log.specs.Briefs.{call_in, calls_in, no_call, IsBriefPlaced, IsCallLog}
 
--- ---- one call more is kept whole
+-- ---- one more whole call
 
 stays : (whole : List (Act × Reply)) (u : Act × Reply) (b : Brief)
     → IsBriefPlaced (length whole) b → call_in (whole ++ u ∷ []) b ≡ call_in whole b
@@ -48,7 +48,7 @@ placed_stay : (briefs : List Brief) (n : ℕ)
 placed_stay [] n placed = tt
 placed_stay (b ∷ briefs) n placed = (stays_placed n b placed.0, placed_stay briefs n placed.1)
 
--- ---- one brief form more
+-- ---- one more brief form
 
 placed_push : (briefs : List Brief) (b : Brief) (n : ℕ)
     → AllByRecursion (IsBriefPlaced n) briefs → IsBriefPlaced n b
@@ -58,7 +58,7 @@ placed_push (x ∷ briefs) b n placed one = (placed.0, placed_push briefs b n pl
 
 -- ---- both
 
--- what is kept whole is as it was, or has one call more
+-- the list of whole calls is as it was, or has one more call
 abbrev pub HasGrown : List (Act × Reply) → List (Act × Reply) → Act × Reply → Type 0
 HasGrown whole whole' u = (whole' ≡ whole) ⊎ (whole' ≡ whole ++ u ∷ [])
 
@@ -99,7 +99,7 @@ calls_pushed briefs briefs' whole whole' b u placed grown says more =
     ap (λ xs. calls_in xs whole') more ∙ map-append (call_in whole') briefs (b ∷ [])
     ∙ (λ i. calls_grown briefs whole whole' u placed grown i ++ says i ∷ [])
 
--- the inside after a push
+-- the invariant holds after a push
 pub calls_kept : (briefs briefs' : List Brief) (whole whole' : List (Act × Reply)) (b : Brief)
     (u : Act × Reply)
     (brief_room whole_room n m : ℕ)

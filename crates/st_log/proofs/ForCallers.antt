@@ -1,4 +1,5 @@
--- A binary search by a key ends where a search of the keys would, since both compare the same.
+-- A binary search by a key ends at the place at which a search of the keys ends, since both make
+-- the same comparisons.
 use Rattle.std.proofs.Common.{◌≡◌, ℕ, zero, suc, ◌<◌, List, [], ◌∷◌, length, map, get_or, arith}
 use Rattle.std.proofs.Common.{Result, Ok, Err}
 use Rattle.std.specs.List.Sorted.{IsBinarySearchResult, IsSearchInRange}
@@ -12,7 +13,7 @@ holds_key key P [] i within holds d = absurd (omega arith)
 holds_key key P (x ∷ xs) zero within holds d = holds x
 holds_key key P (x ∷ xs) (suc i) within holds d = holds_key key P xs i (omega arith) holds d
 
--- what a binary search by a key says of the keys
+-- the result of a binary search by a key is a result of the search in the list of keys
 pub search_keys : {X K : Type 0} (key : X → K) (order : K → Ordering) (xs : List X) (r : Result ℕ ℕ)
     → IsSearchInRange r (length xs) → IsBinarySearchResult (λ x. order (key x)) xs r
     → IsBinarySearchResult order (map key xs) r

@@ -1,4 +1,4 @@
--- The lemmas; what upper crates may cite is in `ForCallers`.
+-- The lemmas; upper crates cite only those of `ForCallers`.
 pub mod ForCallers
 pub mod CallLemmas
 pub mod RowLemmas

@@ -1,4 +1,4 @@
--- Rows are only appended, and so are the lists that they refer to: each row keeps its entry.
+-- Rows and the lists that they refer to are only appended, so each row keeps its entry.
 use Rattle.std.proofs.Common.{◌≡◌, ℕ, ◌+◌, ◌-◌, List, [], ◌∷◌, ◌++◌, length, Some, refl, sym, ap}
 use Rattle.std.proofs.Common.{◌∙◌, arith, suc, ◌≤◌, ⊎_elim, subst}
 use Rattle.std.specs.Prelude.{slice_get, slice_index_or}
@@ -18,9 +18,9 @@ use Rattle.st_log.specs.Rows.{of_call, without_rank_in, row_entry, entries_of, n
 use Rattle.st_log.specs.Rows.{HavePlaces, HasGrown, HasPlace, IsLog}
 use Rattle.st_log.specs.TracedActs.{no_traced, traced_rest, with_rank, without_rank}
 
--- ---- what has grown
+-- ---- lists that have grown
 
--- a list begins as another
+-- the second list begins with the first
 abbrev Begins : {T : Type 0} → List T → List T → Type 0
 Begins {T} xs xs' = (ys : List T) × (xs' ≡ xs ++ ys)
 
@@ -43,13 +43,13 @@ grown_length {T} xs xs' grown =
 
 -- ---- the lists that rows refer to
 
--- the calls, the acts under a token, and what is apart
+-- the lists that rows refer to: calls, acts under a token, and entries that are kept apart
 record Beside : Type 0 where
   calls : List (Act × Reply)
   traced : List TracedAct
   apart : List Unranked
 
--- each list begins as the other's
+-- each list of b' begins with that of b
 record AllBegin (b b' : Beside) : Type 0 where
   calls : Begins b.calls b'.calls
   traced : Begins b.traced b'.traced
@@ -70,7 +70,7 @@ stays b b' (content.Apart i) more placed =
     ap (λ xs. slice_index_or xs i nowhere) more.apart.1
     ∙ get_or_append_left b.apart more.apart.0 nowhere i placed
 
--- each length is at most the other's
+-- each list of b is at most as long as that of b'
 record AllAtMost (b b' : Beside) : Type 0 where
   calls : length b.calls ≤ length b'.calls
   traced : length b.traced ≤ length b'.traced
@@ -95,11 +95,11 @@ stays_placed b b' (content.Traced i) more placed = let most = more.traced in
 stays_placed b b' (content.Apart i) more placed = let most = more.apart in
     omega (arith, placed, most)
 
--- the rows refer to places that are there
+-- each place that a row says is in its list
 abbrev FitBeside : Beside → List LogRow → Type 0
 FitBeside b rows = HavePlaces (length b.calls) (length b.traced) (length b.apart) rows
 
--- the entries of rows
+-- the entries that rows stand for
 abbrev entries_beside : Beside → List LogRow → List Entry
 entries_beside b rows = entries_of b.calls b.traced b.apart rows
 
@@ -118,7 +118,7 @@ placed_stay b b' [] more placed = tt
 placed_stay b b' (r ∷ rows) more placed =
     (stays_placed b b' r.content more placed.0, placed_stay b b' rows more placed.1)
 
--- ---- one row more
+-- ---- one more row
 
 placed_push : (b : Beside) (rows : List LogRow) (r : LogRow) → FitBeside b rows
     → HasPlace (length b.calls) (length b.traced) (length b.apart) r.content
@@ -128,7 +128,7 @@ placed_push b (x ∷ rows) r placed one = (placed.0, placed_push b rows r placed
 
 -- ---- both
 
--- the lists that rows refer to grew by one item at most each
+-- each list that rows refer to has grown by at most one item
 record HaveGrown (calls calls' : List (Act × Reply)) (traced traced' : List TracedAct)
     (apart apart' : List Unranked)
     : Type 0 where
@@ -168,7 +168,7 @@ entries_pushed rows rows' calls calls' traced traced' apart apart' c e placed mo
     (r ∷ [])
     ∙ (λ i. old i ++ last i ∷ [])
 
--- the inside after a push
+-- the invariant holds after a push
 pub log_pushed : (rows rows' : List LogRow) (kept kept' : CallList)
     (traced traced' : List TracedAct)
     (apart apart' : List Unranked) (c : Content) (e : Entry)
@@ -202,7 +202,7 @@ log_pushed rows rows' kept kept' traced traced' apart apart' c e row_room traced
       places_fit = omega (arith, at_most, is.places_fit, fewer);
     }
 
--- ---- what is read
+-- ---- reads
 
 -- the last row has the last rank
 pub last_rank-rows : (low : ℕ) (rows : List LogRow) (calls : List (Act × Reply))

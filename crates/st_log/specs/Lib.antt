@@ -1,7 +1,7 @@
--- The definitions of public contracts: a log and calls, as contracts see them.
+-- A log and a list of calls, as contracts see them.
 pub mod Entries
 pub mod CallList
--- For the parts alone: how calls and entries are kept.
+-- How the crate keeps calls and entries. Public contracts need only `call_at`.
 pub mod Briefs
 pub mod TracedActs
 pub mod Rows

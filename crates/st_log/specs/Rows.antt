@@ -1,6 +1,7 @@
--- How a log keeps its entries: a row for each. That of a reset or a tracer change says all of its
--- entry. Any other says the place of the rest: among the calls if the act wasn't reported and
--- carried no token; else among the frequent acts under a token, or apart.
+-- How a log keeps its entries: each has a row. The row of a reset or a tracer change says the
+-- whole entry. Any other row says the rank and the place of the rest: among the calls if the act
+-- wasn't reported and carried no token; else among the frequent acts under a token, or among the
+-- entries that are kept apart.
 use Rattle.std.specs.Prelude.{◌≡◌, ℕ, ◌+◌, ◌<◌, ◌≤◌, ◌⊎◌, List, [], ◌∷◌, ◌++◌, length, map, None}
 use Rattle.std.specs.Prelude.{slice_index_or}
 use Rattle.std.specs.List.{AllByRecursion}
@@ -18,16 +19,16 @@ use Rattle.st_log.specs.Briefs.{call_at, no_call}
 use Rattle.st_log.specs.CallList.{CallList}
 use Rattle.st_log.specs.TracedActs.{no_traced, traced_rest, with_rank, without_rank}
 
--- a call that wasn't reported, and carried no token
+-- the entry, without its rank, of a call that wasn't reported and carried no token
 abbrev pub of_call : Act × Reply → Unranked
 of_call c = record { act = c.0; reply = c.1; report = None; carried = None }
 
--- stands for an entry that is at no place, which no log has
+-- the filler for a place without an entry: any entry would do
 abbrev pub nowhere : Unranked
 nowhere = of_call no_call
 
--- what a row's content says, if these calls and these acts under a token are kept, and these
--- entries are apart
+-- the entry, without its rank, that a row's content stands for, given the calls, the acts under a
+-- token and the entries that are kept apart
 abbrev pub without_rank_in : List (Act × Reply) → List TracedAct → List Unranked → Content
     → Unranked
 without_rank_in calls traced apart (content.Reset p) = of_call (act.Reset p, reply.Done)
@@ -38,35 +39,33 @@ without_rank_in calls traced apart (content.Traced i) =
     traced_rest (slice_index_or traced i no_traced)
 without_rank_in calls traced apart (content.Apart i) = slice_index_or apart i nowhere
 
--- the entry of a row
+-- the entry that a row stands for, given the three lists
 abbrev pub row_entry : List (Act × Reply) → List TracedAct → List Unranked → LogRow → Entry
 row_entry calls traced apart r = with_rank r.rank (without_rank_in calls traced apart r.content)
 
--- the entries of rows
+-- the entries that rows stand for, in order
 abbrev pub entries_of : List (Act × Reply) → List TracedAct → List Unranked → List LogRow
     → List Entry
 entries_of calls traced apart rows = map (row_entry calls traced apart) rows
 
--- the place of the content is below the number of calls, of acts under a token, or of
--- entries that are apart
+-- if the content says a place, the place is below the length of its list
 abbrev pub HasPlace : ℕ → ℕ → ℕ → Content → Type 0
 HasPlace calls traced apart (content.Call i) = i < calls
 HasPlace calls traced apart (content.Traced i) = i < traced
 HasPlace calls traced apart (content.Apart i) = i < apart
 HasPlace calls traced apart c = Unit {0}
 
--- the content says all of the entry but its rank, whatever the lists hold
+-- the content says the whole entry but its rank, without the lists
 pub record IsAll (e : Entry) (c : Content) : Type 0 where
   pub says : (calls : List (Act × Reply)) (traced : List TracedAct) (apart : List Unranked)
       → without_rank_in calls traced apart c ≡ without_rank e
   pub placed : (calls traced apart : ℕ) → HasPlace calls traced apart c
 
--- a list is as it was, or has one item more
+-- the second list is the first, or the first with one more item at its end
 abbrev pub HasGrown : {T : Type 0} → List T → List T → Type 0
 HasGrown {T} xs xs' = (xs' ≡ xs) ⊎ ((x : T) × (xs' ≡ xs ++ x ∷ []))
 
--- whichever form an entry is kept in, there is room for one more, and a number of 32 bits for its
--- place
+-- each list has room for one more item, whose place fits into 32 bits
 pub record HasRoomInAll (spare traced traced_capacity apart apart_capacity : ℕ) : Type 0 where
   pub call_room : 0 < spare
   pub traced_room : traced < traced_capacity
@@ -74,13 +73,13 @@ pub record HasRoomInAll (spare traced traced_capacity apart apart_capacity : ℕ
   pub apart_room : apart < apart_capacity
   pub apart_place : apart < 4294967295
 
--- the rows have their places
+-- each place that a row says is below the length of its list
 abbrev pub HavePlaces : ℕ → ℕ → ℕ → List LogRow → Type 0
 HavePlaces calls traced apart rows =
     AllByRecursion (λ (r : LogRow). HasPlace calls traced apart r.content) rows
 
--- what a log keeps inside: each row has its entry, and there is the room that is reserved. A place
--- is a number of 32 bits.
+-- the invariant of `Log`: each place that a row says is in its list, all lists have room for the
+-- reserved entries, and each place fits into 32 bits
 pub record IsLog (rows : List LogRow) (kept : CallList) (traced : List TracedAct)
     (apart : List Unranked) (row_capacity traced_capacity apart_capacity reserved : ℕ)
     : Type 0 where

@@ -1,5 +1,5 @@
-//! Acts with what they returned, in little memory. For each call a brief form is kept, which says
-//! all of it in 24 bytes, or at which place the whole of it is apart.
+//! Calls, which are acts with their replies, in little memory. Each call has a brief form of 24
+//! bytes, which says the call itself or its place in a list of whole calls.
 
 ghost use Rattle.std.specs.Prelude.{◌≡◌, ◌+◌, ◌-◌, ◌<◌, ◌≤◌, ◌↔◌, ◌⊎◌, [], ◌∷◌, ◌++◌, length};
 ghost use Rattle.std.specs.Prelude.{slice_get};
@@ -15,47 +15,47 @@ use st_core::{Act, Pid, Reply, Want};
 use std::alloc::{AllocError, Global};
 use std::marker::Model;
 
-/// The most calls: the place of one takes 32 bits.
+/// The most calls that a `CallLog` keeps: a place is a number of 32 bits.
 const MOST_CALLS: usize = 4_294_967_295;
 
-/// The greatest place of a queue that a brief form can say, in 32 bits.
+/// The greatest place in a queue that fits into the 32 bits of a brief form.
 const MOST_PLACE: u64 = 4_294_967_295;
 
-/// A call: all of it, if it is of a frequent form, or where it is whole.
+/// A call of a frequent form, or the place of a call in the list of whole calls.
 #[derive(Clone, Copy, PartialEq, Eq)]
 pub enum Brief {
     /// A send from the first to the second process, which returned `Done`.
     Send(Pid, Pid, u64),
     /// A print, which returned `Done`.
     Print(Pid, u64),
-    /// A receive of the first process that found nothing by this pattern.
+    /// A receive of the process that found no message for the pattern.
     Nothing(Pid, Want),
-    /// A receive of the first process that took the first message, from the second and of this
-    /// value.
+    /// A receive by `Want::First`: the actor, and the sender and the value of the message.
     First(Pid, Pid, u64),
-    /// A receive from the second process.
+    /// A receive by `Want::From` with the message's sender; the fields are those of `First`.
     From(Pid, Pid, u64),
-    /// A receive of this value.
+    /// A receive by `Want::Value` with the message's value; the fields are those of `First`.
     Value(Pid, Pid, u64),
-    /// A receive from the second process, of this value.
+    /// A receive by `Want::Both` with the message's sender and value; the fields are those of
+    /// `First`.
     Both(Pid, Pid, u64),
-    /// A receive of the first process by this place, which took a message from the second and of
-    /// this value.
+    /// A receive by `Want::Place`: the actor, the place, and the sender and the value of the
+    /// message.
     Place(Pid, u32, Pid, u64),
-    /// The call at this place among those that are kept whole.
+    /// The place of the call in the list of whole calls.
     Whole(u32),
 }
 
-// A frequent call takes 24 bytes in a seat.
+// Keeps a call of a frequent form at 24 bytes.
 const _: () = prove!(size_of::<Brief>() == 24);
 
-/// Acts with what they returned, in order. A send, a receive or a print takes 24 bytes if its act
-/// and reply are of one of the brief forms; any other call takes 88 more.
+/// Acts with their replies, in order. A call takes 24 bytes if it has a brief form, which most
+/// sends, receives and prints have, else 112.
 #[derive(Drop)]
 pub struct CallLog {
     briefs: Vec<Brief>,
     whole: Vec<(Act, Reply)>,
-    // The calls for which there is room in both lists, whatever they are.
+    // The number of further calls for which both lists have room.
     reserved: usize,
 }
 
@@ -77,8 +77,8 @@ impl Model for CallLog {
 }
 
 impl CallLog {
-    /// Makes an empty list of calls, with room for this many. Fails if memory runs out, or if there
-    /// are more than can be kept.
+    /// Makes an empty list with room for `capacity` calls. Fails if memory runs out, or if
+    /// `capacity` is above 4,294,967,295.
     pub fn with_capacity(alloc: Global, capacity: usize) -> Result<CallLog, AllocError>
         ensures calls { IfOk result (λ c. c.calls ≡ []) }
         ensures room { IfOk result (λ c. c.spare ≡ capacity) }
@@ -93,21 +93,21 @@ impl CallLog {
         })
     }
 
-    /// The number of calls.
+    /// Returns the number of calls.
     pub fn len(&self) -> usize
         ensures { result ≡ length self.now.calls }
     {
         self.briefs.len()
     }
 
-    /// Whether there are no calls.
+    /// Returns whether there are no calls.
     pub fn is_empty(&self) -> bool
         ensures { IsTrue result ↔ (self.now.calls ≡ []) }
     {
         self.briefs.is_empty()
     }
 
-    /// Returns the call at this place, counted from 0, if there is one.
+    /// Returns the call at `place`, counted from 0, if there is one.
     pub fn get(&self, place: usize) -> Option<(Act, Reply)>
         ensures { result ≡ slice_get self.now.calls place }
     {
@@ -118,21 +118,21 @@ impl CallLog {
         }
     }
 
-    /// The first call, if there is one.
+    /// Returns the first call, if there is one.
     pub fn first(&self) -> Option<(Act, Reply)>
         ensures { result ≡ slice_get self.now.calls 0 }
     {
         self.get(0)
     }
 
-    /// The last call, if there is one.
+    /// Returns the last call, if there is one.
     pub fn last(&self) -> Option<(Act, Reply)>
         ensures { result ≡ slice_get self.now.calls (length self.now.calls - 1) }
     {
         self.get(self.len().saturating_sub(1))
     }
 
-    /// The call at this place.
+    /// Returns the call at `place`.
     pub fn at(&self, place: usize) -> (Act, Reply)
         requires { place < length self.now.calls }
         ensures { result ≡ slice_index_or self.now.calls place result }
@@ -140,7 +140,7 @@ impl CallLog {
         self.briefs[place].call(self.whole.as_slice())
     }
 
-    /// The act of the call at this place.
+    /// Returns the act of the call at `place`.
     pub fn act_at(&self, place: usize) -> Act
         requires { place < length self.now.calls }
         ensures { result ≡ (call_at self.now.calls place).0 }
@@ -148,7 +148,7 @@ impl CallLog {
         self.briefs[place].act(self.whole.as_slice())
     }
 
-    /// Returns the reply of the call at this place.
+    /// Returns the reply of the call at `place`.
     pub fn reply_at(&self, place: usize) -> Reply
         requires { place < length self.now.calls }
         ensures { result ≡ (call_at self.now.calls place).1 }
@@ -156,7 +156,7 @@ impl CallLog {
         self.briefs[place].reply(self.whole.as_slice())
     }
 
-    /// The actor of the call at this place.
+    /// Returns the actor of the call at `place`.
     #[inline]
     pub fn actor_at(&self, place: usize) -> Pid
         requires { place < length self.now.calls }
@@ -165,7 +165,8 @@ impl CallLog {
         self.briefs[place].actor(self.whole.as_slice())
     }
 
-    /// Whether the act of the call at this place is one of a whole node.
+    /// Returns whether the call at `place` is a reset or a tracer change, which touches a whole
+    /// node.
     #[inline]
     pub fn is_wide_at(&self, place: usize) -> bool
         requires { place < length self.now.calls }
@@ -174,8 +175,8 @@ impl CallLog {
         self.briefs[place].is_wide(self.whole.as_slice())
     }
 
-    /// Whether the call at this place is seen to be the one at that place of the other calls. If it
-    /// isn't, nothing is known.
+    /// Returns true only if the call at `place` is equal to the call at `there` of `other`. If it
+    /// returns false, they may still be equal.
     pub fn is_seen_same(&self, place: usize, other: &CallLog, there: usize) -> bool
         requires here { place < length self.now.calls }
         requires there { there < length other.now.calls }
@@ -185,7 +186,8 @@ impl CallLog {
         self.briefs[place].is_seen_same(self.whole.as_slice(), theirs, other.whole.as_slice())
     }
 
-    /// Makes room for one call. Fails if memory runs out, or if there are as many as can be kept.
+    /// Makes room for one more call, if there is none. Fails if memory runs out, or if there are
+    /// 4,294,967,295 calls.
     pub fn reserve(&mut self) -> Result<(), AllocError>
         ensures calls { self.new.calls ≡ self.old.calls }
         ensures spare { self.old.spare ≤ self.new.spare }
@@ -204,7 +206,7 @@ impl CallLog {
         Ok(())
     }
 
-    /// Appends a call, for which there is room, and returns its place.
+    /// Appends a call into reserved room, and returns its place.
     pub fn push_reserved(&mut self, act: &Act, reply: &Reply) -> u32
         requires { 0 < self.old.spare }
         ensures place { result ≡ length self.old.calls }
@@ -219,7 +221,8 @@ impl CallLog {
     }
 }
 
-/// The brief form of the call, which is kept whole if it has none.
+/// Returns a brief form of the call. Only if none says the call itself, appends the call to
+/// `whole` and returns its place.
 fn keep_call(whole: &mut Vec<(Act, Reply)>, act: &Act, reply: &Reply) -> Brief
     requires room { vec_len whole.old < vec_capacity whole.old }
     requires places { vec_len whole.old < 4294967295 }
@@ -237,7 +240,7 @@ fn keep_call(whole: &mut Vec<(Act, Reply)>, act: &Act, reply: &Reply) -> Brief
     Brief::Whole(place)
 }
 
-/// The brief form of the call, if it has one that says all of it.
+/// Returns the brief form that says the call itself, if there is one.
 fn brief_of(act: &Act, reply: &Reply) -> Option<Brief>
     ensures { IfSome result (IsBrief act.now reply.now) }
 {
@@ -250,7 +253,8 @@ fn brief_of(act: &Act, reply: &Reply) -> Option<Brief>
     }
 }
 
-/// The brief form of a receive that took a message from this process and of this value.
+/// Returns the brief form of a receive that took a message with `value` from `from`, if there is
+/// one.
 fn brief_receive(me: Pid, want: Want, from: Pid, value: u64) -> Option<Brief>
     ensures { IfSome result (IsBrief (Act.Receive me want) (Reply.Mail from value)) }
 {
@@ -269,7 +273,7 @@ fn brief_receive(me: Pid, want: Want, from: Pid, value: u64) -> Option<Brief>
 }
 
 impl Brief {
-    /// The call, if these are the calls that are kept whole.
+    /// Returns the call, given the list of whole calls.
     fn call(self, whole: &[(Act, Reply)]) -> (Act, Reply)
         requires { IsBriefPlaced (length whole.now) self }
         ensures { result ≡ call_in whole.now self }
@@ -277,7 +281,7 @@ impl Brief {
         (self.act(whole), self.reply(whole))
     }
 
-    /// The call's act, of the same.
+    /// Returns the call's act, given the list of whole calls.
     fn act(self, whole: &[(Act, Reply)]) -> Act
         requires { IsBriefPlaced (length whole.now) self }
         ensures { result ≡ (call_in whole.now self).0 }
@@ -295,7 +299,7 @@ impl Brief {
         }
     }
 
-    /// Returns the call's reply, of the same.
+    /// Returns the call's reply, given the list of whole calls.
     fn reply(self, whole: &[(Act, Reply)]) -> Reply
         requires { IsBriefPlaced (length whole.now) self }
         ensures { result ≡ (call_in whole.now self).1 }
@@ -312,7 +316,8 @@ impl Brief {
         }
     }
 
-    /// The call's actor, of the same. Each form that isn't whole begins with it.
+    /// Returns the call's actor, given the list of whole calls. Each form but `Whole` begins with
+    /// it.
     #[inline]
     fn actor(self, whole: &[(Act, Reply)]) -> Pid
         requires { IsBriefPlaced (length whole.now) self }
@@ -331,7 +336,8 @@ impl Brief {
         }
     }
 
-    /// Whether the call's act is one of a whole node, of the same. No other form is of one.
+    /// Returns whether the call's act touches a whole node; only the form `Whole` can say one that
+    /// does.
     #[inline]
     fn is_wide(self, whole: &[(Act, Reply)]) -> bool
         requires { IsBriefPlaced (length whole.now) self }
@@ -343,8 +349,8 @@ impl Brief {
         }
     }
 
-    /// Whether the call is seen to be that of another form, if these are the calls that are kept
-    /// whole next to each.
+    /// Returns true only if both brief forms stand for equal calls, given the list of whole calls
+    /// of each.
     fn is_seen_same(self, whole: &[(Act, Reply)], other: Brief, others: &[(Act, Reply)]) -> bool
         requires placed { IsBriefPlaced (length whole.now) self }
         requires other { IsBriefPlaced (length others.now) other }

@@ -1,4 +1,5 @@
-//! The iterators of a log and of a seat's calls. Contracts see each as the list of what is left.
+//! Iterators over the entries of a log and over calls. Contracts see each as the list of items
+//! that are left.
 
 ghost use Rattle.std.specs.Prelude.{◌≡◌};
 ghost use Rattle.std.specs.Iterator.{item_count, YieldsFirst};
@@ -14,7 +15,7 @@ use std::marker::Model;
 #[derive(Drop)]
 pub struct Entries<'a> {
     log: &'a Log,
-    // The place of the next one.
+    // The place of the next entry.
     place: usize,
 }
 
@@ -30,7 +31,7 @@ impl<'a> Model for Entries<'a> {
 }
 
 impl Log {
-    /// The entries, in order.
+    /// Returns an iterator over the entries, in order.
     pub fn iter(&self) -> Entries<'_>
         ensures { result ≡ self.now.entries }
     {
@@ -72,11 +73,11 @@ impl<'a> IntoIterator for &'a Log {
     }
 }
 
-/// The acts that were accepted through a seat, with what they returned, in order.
+/// The calls of a `CallLog`, in order.
 #[derive(Drop)]
 pub struct Calls<'a> {
     log: &'a CallLog,
-    // The place of the next one.
+    // The place of the next call.
     place: usize,
 }
 
@@ -93,7 +94,7 @@ impl<'a> Model for Calls<'a> {
 }
 
 impl CallLog {
-    /// The calls, in order.
+    /// Returns an iterator over the calls, in order.
     pub fn iter(&self) -> Calls<'_>
         ensures { result ≡ self.now.calls }
     {

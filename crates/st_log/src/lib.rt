@@ -1,8 +1,8 @@
 //! The log of one process: the entries of the acts that touched it, in order and in little memory;
-//! and acts with what they returned, kept in the same way.
+//! and lists of acts with their replies.
 //!
-//! A contract sees a log as the list of its entries, and calls as the list of what was called.
-//! Which ranks entries have, and which acts they are of, is the caller's matter: a log keeps any.
+//! A contract sees a log as the list of its entries. A log takes entries of any acts with any
+//! ranks: which ones it should have is up to the caller.
 #![tactic(auto)]
 
 mod calls;

@@ -19,20 +19,20 @@ use st_core::{Act, Event, Pid, Reply};
 use std::alloc::{AllocError, Global};
 use std::marker::Model;
 
-/// The most entries of one form: a row has 32 bits for the place of an entry.
+/// The most entries of one form: a row has 32 bits for a place.
 const MOST_PLACES: usize = 4_294_967_295;
 
-/// The entries of the acts that touched one process, in order. One of a reset or a tracer change
-/// takes 16 bytes and at most as many again as room to grow. One of another act takes 40 if it
-/// wasn't reported and carried no token, else 56, if the act is of a frequent form (`calls`,
-/// `traced`); any other takes 192 at most.
+/// The entries of the acts that touched one process, in order. The entry of a reset or a tracer
+/// change takes 16 bytes, and at most 16 more as room to grow. The entry of a frequent act takes
+/// 40 bytes if it wasn't reported and carried no token (`calls`), else 56 (`traced`); any other
+/// takes at most 192.
 #[derive(Drop)]
 pub struct Log {
     rows: Vec<LogRow>,
     calls: CallLog,
     traced: Vec<TracedAct>,
     apart: Vec<Unranked>,
-    // The entries for which there is room in all lists, whatever is logged.
+    // The number of further entries for which each list has room.
     reserved: usize,
 }
 
@@ -55,8 +55,8 @@ impl Model for Log {
 }
 
 impl Log {
-    /// Makes an empty log with room for this many entries. Fails if memory runs out, or if there
-    /// are more than can be apart.
+    /// Makes an empty log with room for `capacity` entries. Fails if memory runs out, or if
+    /// `capacity` is above 4,294,967,295.
     pub fn with_capacity(alloc: Global, capacity: usize) -> Result<Log, AllocError>
         ensures entries { IfOk result (λ log. log.entries ≡ []) }
         ensures room { IfOk result (λ log. log.spare ≡ capacity) }
@@ -73,21 +73,21 @@ impl Log {
         })
     }
 
-    /// The number of entries.
+    /// Returns the number of entries.
     pub fn len(&self) -> usize
         ensures { result ≡ length self.now.entries }
     {
         self.rows.len()
     }
 
-    /// Whether there are no entries.
+    /// Returns whether there are no entries.
     pub fn is_empty(&self) -> bool
         ensures { IsTrue result ↔ (self.now.entries ≡ []) }
     {
         self.rows.is_empty()
     }
 
-    /// Returns the entry at this place, counted from 0, if there is one.
+    /// Returns the entry at `place`, counted from 0, if there is one.
     pub fn get(&self, place: usize) -> Option<Entry>
         ensures { result ≡ slice_get self.now.entries place }
     {
@@ -98,21 +98,21 @@ impl Log {
         }
     }
 
-    /// The first entry, if there is one.
+    /// Returns the first entry, if there is one.
     pub fn first(&self) -> Option<Entry>
         ensures { result ≡ slice_get self.now.entries 0 }
     {
         self.get(0)
     }
 
-    /// The last entry, if there is one.
+    /// Returns the last entry, if there is one.
     pub fn last(&self) -> Option<Entry>
         ensures { result ≡ slice_get self.now.entries (length self.now.entries - 1) }
     {
         self.get(self.len().saturating_sub(1))
     }
 
-    /// The entry at this place.
+    /// Returns the entry at `place`.
     pub fn at(&self, place: usize) -> Entry
         requires { place < length self.now.entries }
         ensures { result ≡ slice_index_or self.now.entries place result }
@@ -123,7 +123,7 @@ impl Log {
             .with_rank(row.rank)
     }
 
-    /// The rank of the entry at this place.
+    /// Returns the rank of the entry at `place`.
     pub fn rank_at(&self, place: usize) -> u64
         requires { place < length self.now.entries }
         ensures { result ≡ (entry_at self.now.entries place).rank }
@@ -131,7 +131,7 @@ impl Log {
         self.rows[place].rank
     }
 
-    /// The act of the entry at this place.
+    /// Returns the act of the entry at `place`.
     pub fn act_at(&self, place: usize) -> Act
         requires { place < length self.now.entries }
         ensures { result ≡ (entry_at self.now.entries place).act }
@@ -140,7 +140,7 @@ impl Log {
         content.act(&self.calls, self.traced.as_slice(), self.apart.as_slice())
     }
 
-    /// The actor of the entry at this place.
+    /// Returns the actor of the entry at `place`.
     #[inline(always)]
     pub fn actor_at(&self, place: usize) -> Pid
         requires { place < length self.now.entries }
@@ -150,7 +150,8 @@ impl Log {
         content.actor(&self.calls, self.traced.as_slice(), self.apart.as_slice())
     }
 
-    /// Whether the act of the entry at this place is one of a whole node.
+    /// Returns whether the entry at `place` is of a reset or a tracer change, which touches a
+    /// whole node.
     #[inline(always)]
     pub fn is_wide_at(&self, place: usize) -> bool
         requires { place < length self.now.entries }
@@ -160,7 +161,7 @@ impl Log {
         content.is_wide(&self.calls, self.traced.as_slice(), self.apart.as_slice())
     }
 
-    /// Returns the reply of the entry at this place.
+    /// Returns the reply of the entry at `place`.
     pub fn reply_at(&self, place: usize) -> Reply
         requires { place < length self.now.entries }
         ensures { result ≡ (entry_at self.now.entries place).reply }
@@ -169,7 +170,7 @@ impl Log {
         content.reply(&self.calls, self.traced.as_slice(), self.apart.as_slice())
     }
 
-    /// Returns the event that the entry at this place reported, if it did.
+    /// Returns the event that the entry at `place` reported, if it did.
     pub fn report_at(&self, place: usize) -> Option<Event>
         requires { place < length self.now.entries }
         ensures { result ≡ (entry_at self.now.entries place).report }
@@ -178,7 +179,8 @@ impl Log {
         content.report(&self.calls, self.traced.as_slice(), self.apart.as_slice())
     }
 
-    /// Whether the entry at this place is seen to be the one at that place of the other log.
+    /// Returns true only if the entry at `place` is equal to the entry at `there` of `other`. If
+    /// it returns false, they may still be equal.
     pub fn is_seen_same(&self, place: usize, other: &Log, there: usize) -> bool
         requires here { place < length self.now.entries }
         requires there { there < length other.now.entries }
@@ -205,7 +207,8 @@ impl Log {
         }
     }
 
-    /// The greatest rank, if ranks rise; 0 if the log is empty.
+    /// Returns the rank of the last entry, which is the greatest if ranks rise; 0 if the log is
+    /// empty.
     pub fn last_rank(&self) -> u64
         ensures { result ≡ last_rank 0 self.now.entries }
     {
@@ -215,7 +218,8 @@ impl Log {
         }
     }
 
-    /// Where a search by halves for this rank ends. If ranks rise and one is this, it is its place.
+    /// Searches for `rank` by halves. If ranks rise, returns the place of the entry with the rank,
+    /// or as the error the place at which it would stand.
     pub fn search(&self, rank: u64) -> Result<usize, usize>
         ensures range { IsSearchInRange result (length self.now.entries) }
         ensures position { IsBinarySearchResult (λ e. nat_cmp e.rank rank) self.now.entries result }
@@ -223,7 +227,8 @@ impl Log {
         self.rows.binary_search_by_key(&rank, |row| row.rank)
     }
 
-    /// Makes room for one entry. Fails if memory runs out, or if as many as can be apart do.
+    /// Makes room for one more entry, if there is none. Fails if memory runs out, or if
+    /// 4,294,967,295 entries are of one form.
     pub fn reserve(&mut self) -> Result<(), AllocError>
         ensures entries { self.new.entries ≡ self.old.entries }
         ensures spare { self.old.spare ≤ self.new.spare }
@@ -244,7 +249,7 @@ impl Log {
         Ok(())
     }
 
-    /// Appends an entry, for which there is room.
+    /// Appends an entry into reserved room.
     pub fn push_reserved(&mut self, entry: &Entry)
         requires { 0 < self.old.spare }
         ensures entries { self.new.entries ≡ self.old.entries ++ entry.now ∷ [] }
@@ -259,8 +264,8 @@ impl Log {
     }
 }
 
-/// Makes the row of an entry. If a row doesn't say all of it, the rest is kept in the smallest form
-/// that says it.
+/// Makes the content of the entry's row. If a row can't say the whole entry, keeps the rest in the
+/// smallest form that can.
 fn keep_content(
     calls: &mut CallLog,
     traced: &mut Vec<TracedAct>,

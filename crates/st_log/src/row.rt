@@ -1,7 +1,7 @@
-//! The rows of a log. They are small, since a reset or a tracer change puts one into the log of
-//! each process of its node. Such a row says all of its entry. Of any other entry it says the rank
-//! and where the rest is: among the calls, if the act wasn't reported and carried no token; else
-//! mostly among the short forms of acts under a token (`traced`).
+//! The rows of a log. They are small, since a reset or a tracer change adds a row to the log of
+//! each process of its node. Its row says the whole entry. Any other row says the rank and the
+//! place of the rest: among the calls if the act wasn't reported and carried no token; else mostly
+//! among the short forms of acts under a token (`traced`).
 
 ghost use Rattle.std.specs.Prelude.{◌≡◌, length, IfSome};
 ghost use Rattle.st_core.specs.Step.{actor};
@@ -15,33 +15,32 @@ use crate::traced_act::TracedAct;
 use crate::wide::is_wide;
 use st_core::{Act, Event, Pid, Reply, Token};
 
-/// The rank of an entry, and where the rest of it is.
+/// The rank of an entry, and the rest of the entry or its place.
 #[derive(Clone, Copy)]
 pub struct LogRow {
     /// The entry's rank.
     pub rank: u64,
-    /// The rest of the entry.
+    /// The rest of the entry, or the place of the rest.
     pub content: Content,
 }
 
-// An act of a node takes these bytes, and at most as many again as room to grow, at each
-// of its processes.
+// Keeps rows small: a reset or a tracer change adds one to the log of each process of its node.
 const _: () = prove!(size_of::<LogRow>() == 16);
 
-/// The content of an entry without its rank: for an act of a whole node all of it, for any other
-/// where it is.
+/// An entry without its rank: the entry itself if it is of a reset or a tracer change, else its
+/// place.
 #[derive(Clone, Copy)]
 pub enum Content {
-    /// A reset by this process, which returned `Done`.
+    /// A reset by the process, which returned `Done`.
     Reset(Pid),
-    /// A tracer change by this process, to some tracer or none, which returned whether the process
-    /// was traced before.
+    /// A tracer change: its actor, whether there is a tracer afterwards, and whether there was one
+    /// before.
     Tracer(Pid, bool, bool),
-    /// The call at this place, which wasn't reported and carried no token.
+    /// The place of a call that wasn't reported and carried no token.
     Call(u32),
-    /// An act under a token, in the form at this place.
+    /// The place of an act under a token.
     Traced(u32),
-    /// The entry at this place among those that are kept apart.
+    /// The place of an entry that is kept apart.
     Apart(u32),
 }
 
@@ -54,11 +53,11 @@ pub struct Unranked {
     pub reply: Reply,
     /// The event that the actor reported, if it did.
     pub report: Option<Event>,
-    /// The token of the message that a send sent, if it had one.
+    /// The token that a send's message carried, if it had one.
     pub carried: Option<Token>,
 }
 
-/// Makes the content of a row without its rank, if it says all of the entry: for a reset and a
+/// Makes the content that says the whole entry but its rank, if there is one: for a reset or a
 /// tracer change.
 pub fn content_of(entry: &Entry) -> Option<Content>
     ensures { IfSome result (IsAll entry.now) }
@@ -73,8 +72,7 @@ pub fn content_of(entry: &Entry) -> Option<Content>
 }
 
 impl Content {
-    /// The entry without its rank, if these are the calls, the acts under a token and the entries
-    /// that are kept apart.
+    /// Returns the entry without its rank, given the lists that places refer to.
     pub fn without_rank(self, calls: &CallLog, traced: &[TracedAct], apart: &[Unranked]) -> Unranked
         requires { HasPlace (length calls.now.calls) (length traced.now) (length apart.now) self }
         ensures { result ≡ without_rank_in calls.now.calls traced.now apart.now self }
@@ -90,8 +88,7 @@ impl Content {
         }
     }
 
-    /// The entry's act, if these are the calls, the acts under a token and the entries that are
-    /// kept apart.
+    /// Returns the entry's act, given the lists that places refer to.
     pub fn act(self, calls: &CallLog, traced: &[TracedAct], apart: &[Unranked]) -> Act
         requires { HasPlace (length calls.now.calls) (length traced.now) (length apart.now) self }
         ensures { result ≡ (without_rank_in calls.now.calls traced.now apart.now self).act }
@@ -105,7 +102,7 @@ impl Content {
         }
     }
 
-    /// The entry's actor, of the same.
+    /// Returns the entry's actor, given the lists that places refer to.
     #[inline(always)]
     pub fn actor(self, calls: &CallLog, traced: &[TracedAct], apart: &[Unranked]) -> Pid
         requires { HasPlace (length calls.now.calls) (length traced.now) (length apart.now) self }
@@ -119,7 +116,7 @@ impl Content {
         }
     }
 
-    /// Whether the entry's act is one of a whole node, of the same.
+    /// Returns whether the entry's act touches a whole node, given the lists that places refer to.
     #[inline(always)]
     pub fn is_wide(self, calls: &CallLog, traced: &[TracedAct], apart: &[Unranked]) -> bool
         requires { HasPlace (length calls.now.calls) (length traced.now) (length apart.now) self }
@@ -133,7 +130,7 @@ impl Content {
         }
     }
 
-    /// Returns the entry's reply; the lists are those of `entry`.
+    /// Returns the entry's reply, given the lists that places refer to.
     pub fn reply(self, calls: &CallLog, traced: &[TracedAct], apart: &[Unranked]) -> Reply
         requires { HasPlace (length calls.now.calls) (length traced.now) (length apart.now) self }
         ensures { result ≡ (without_rank_in calls.now.calls traced.now apart.now self).reply }
@@ -147,8 +144,7 @@ impl Content {
         }
     }
 
-    /// Returns the event that the entry reported, if it did; the lists are those of `entry`. No
-    /// call among the calls was reported.
+    /// Returns the event that the entry reported, if it did. No act in `calls` was reported.
     pub fn report(self, calls: &CallLog, traced: &[TracedAct], apart: &[Unranked]) -> Option<Event>
         requires { HasPlace (length calls.now.calls) (length traced.now) (length apart.now) self }
         ensures { result ≡ (without_rank_in calls.now.calls traced.now apart.now self).report }
@@ -162,7 +158,7 @@ impl Content {
 }
 
 impl Unranked {
-    /// That of a call which wasn't reported and carried no token.
+    /// Makes the entry, without a rank, of a call that wasn't reported and carried no token.
     fn of_call(call: (Act, Reply)) -> Unranked
         ensures { result ≡ of_call call }
     {
@@ -186,7 +182,7 @@ impl Unranked {
         }
     }
 
-    /// The entry with this rank.
+    /// Makes the entry with `rank`.
     pub fn with_rank(self, rank: u64) -> Entry
         ensures { result ≡ with_rank rank self }
     {

@@ -1,12 +1,12 @@
-//! Whether two entries or two calls are one. The functions over a single `==` are there for the
-//! proofs, which then have what each comparison says without the others.
+//! Comparisons of entries and of calls. Each function over a single `==` is there for the proofs,
+//! which cite it without the other comparisons.
 
 ghost use Rattle.std.specs.Prelude.{◌≡◌, ◌↔◌, IsTrue};
 
 use crate::entry::Entry;
 use st_core::{Act, Component, Event, Reply, Token};
 
-/// Whether they are the same entry.
+/// Returns whether the two entries are equal.
 pub fn is_same_entry(first: &Entry, second: &Entry) -> bool
     ensures { IsTrue result ↔ (first.now ≡ second.now) }
 {
@@ -17,21 +17,19 @@ pub fn is_same_entry(first: &Entry, second: &Entry) -> bool
         && is_same_token(&first.carried, &second.carried)
 }
 
-/// Whether this is the act with this reply.
+/// Returns whether the call is `act` with `reply`.
 pub fn is_call(call: &(Act, Reply), act: &Act, reply: &Reply) -> bool
     ensures { IsTrue result ↔ (call.now ≡ (act.now, reply.now)) }
 {
     is_same_act(&call.0, act) && is_same_reply(&call.1, reply)
 }
 
-/// Whether they are the same act.
 fn is_same_act(first: &Act, second: &Act) -> bool
     ensures { IsTrue result ↔ (first.now ≡ second.now) }
 {
     *first == *second
 }
 
-/// Whether they are the same reply.
 fn is_same_reply(first: &Reply, second: &Reply) -> bool
     ensures { IsTrue result ↔ (first.now ≡ second.now) }
 {
@@ -47,21 +45,19 @@ fn is_same_reply(first: &Reply, second: &Reply) -> bool
     }
 }
 
-/// Whether they are the same component, or both none.
 fn is_same_component(first: &Option<Component>, second: &Option<Component>) -> bool
     ensures { IsTrue result ↔ (first.now ≡ second.now) }
 {
     *first == *second
 }
 
-/// Whether they are the same report, or both none.
+/// Returns whether the two reports are equal, or both none.
 pub fn is_same_report(first: &Option<Event>, second: &Option<Event>) -> bool
     ensures { IsTrue result ↔ (first.now ≡ second.now) }
 {
     *first == *second
 }
 
-/// Whether they are the same token, or both none.
 fn is_same_token(first: &Option<Token>, second: &Option<Token>) -> bool
     ensures { IsTrue result ↔ (first.now ≡ second.now) }
 {

@@ -1,5 +1,5 @@
-//! Entries of the frequent acts under a token, in little memory. What such an act reported, and the
-//! token that its message carried, follow from the act, a label and a serial.
+//! Short forms for the entries of frequent acts under a token. The report and the token that a
+//! message carried follow from the short form.
 
 ghost use Rattle.std.specs.Prelude.{◌≡◌, IfSome, IsTrue};
 ghost use Rattle.st_core.specs.Step.{actor};
@@ -10,41 +10,41 @@ use crate::row::Unranked;
 use crate::same::is_same_report;
 use st_core::{Act, Event, Flags, Kind, Label, Pid, Reply, Serial, Token, Want};
 
-/// The forms of acts under a token.
+/// The form of an act under a token.
 #[derive(Clone, Copy, PartialEq, Eq)]
 pub enum TracedForm {
-    /// A send that wasn't reported. It carried a token with these flags, which its sender stamped.
+    /// A send that wasn't reported; its message carried a token from the sender with the flags.
     Send(Flags),
-    /// A send that was reported.
+    /// A send that was reported; its message carried a token from the sender with the flags.
     ReportedSend(Flags),
     /// A print that was reported.
     Print,
-    /// A receive that took the first message, and was reported.
+    /// A reported receive by `Want::First`.
     First,
-    /// A receive from the process that sent the message.
+    /// A reported receive by `Want::From` with the message's sender.
     From,
-    /// A receive of the message's value.
+    /// A reported receive by `Want::Value` with the message's value.
     Value,
-    /// A receive from the process that sent the message, and of its value.
+    /// A reported receive by `Want::Both` with the message's sender and value.
     Both,
 }
 
-/// An entry without its rank, of an act under a token.
+/// The entry of an act under a token, without its rank.
 #[derive(Clone, Copy, PartialEq, Eq)]
 pub struct TracedAct {
     form: TracedForm,
     label: Label,
     actor: Pid,
-    /// The receiver of a send, or the sender of the message that was taken; of a print its actor.
+    /// The receiver of a send, the sender of a received message, or the actor of a print.
     other: Pid,
     value: u64,
     serial: Serial,
 }
 
-// An act under a token takes 40 bytes in each log, and its row.
+// Keeps an act under a token at 40 bytes in each log, beside its row.
 const _: () = prove!(size_of::<TracedAct>() == 40);
 
-/// The form of the entry without its rank, if it has one that says all of it.
+/// Returns the short form that says the whole entry but its rank, if there is one.
 pub fn traced_of(entry: &Entry) -> Option<TracedAct>
     ensures { IfSome result (λ t. with_rank entry.now.rank (traced_rest t) ≡ entry.now) }
 {
@@ -55,8 +55,8 @@ pub fn traced_of(entry: &Entry) -> Option<TracedAct>
     None
 }
 
-/// The one act under a token that may say all of the entry: it does if it says the report too.
-/// There is none for a receive by place.
+/// Returns the only short form that may say the entry, if there is one. It does if it says the
+/// report too. A receive by place has none.
 fn likely_act(entry: &Entry) -> Option<TracedAct>
     ensures act { IfSome result (λ t. (traced_rest t).act ≡ entry.now.act) }
     ensures reply { IfSome result (λ t. (traced_rest t).reply ≡ entry.now.reply) }
@@ -97,7 +97,7 @@ fn likely_act(entry: &Entry) -> Option<TracedAct>
     })
 }
 
-/// Whether they are the same form.
+/// Returns true only if the two short forms are equal.
 pub fn is_same_form(first: &TracedAct, second: &TracedAct) -> bool
     ensures { IsTrue result → first.now ≡ second.now }
 {
@@ -105,7 +105,7 @@ pub fn is_same_form(first: &TracedAct, second: &TracedAct) -> bool
 }
 
 impl TracedAct {
-    /// The entry without its rank.
+    /// Returns the entry without its rank.
     pub fn without_rank(self) -> Unranked
         ensures { result ≡ traced_rest self }
     {
@@ -117,7 +117,7 @@ impl TracedAct {
         }
     }
 
-    /// The entry's actor.
+    /// Returns the entry's actor.
     #[inline]
     pub fn actor(self) -> Pid
         ensures { result ≡ actor (traced_rest self).act }
@@ -125,7 +125,7 @@ impl TracedAct {
         self.actor
     }
 
-    /// The entry's act.
+    /// Returns the entry's act.
     pub fn act(self) -> Act
         ensures { result ≡ (traced_rest self).act }
     {
@@ -176,7 +176,7 @@ impl TracedAct {
         })
     }
 
-    /// The token that the entry's message carried, if it had one.
+    /// Returns the token that the entry's message carried, if it had one.
     fn carried(self) -> Option<Token>
         ensures { result ≡ (traced_rest self).carried }
     {

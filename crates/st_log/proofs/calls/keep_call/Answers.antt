@@ -1,4 +1,4 @@
--- A brief form that says all of its call is placed, whatever is kept whole.
+-- A brief form that says the call itself has its place in a list of any length.
 use Rattle.std.proofs.Common.{length}
 use Rattle.st_log.proofs.calls.keep_call.Goals as goal
 

@@ -1,4 +1,4 @@
--- A content that says all of its entry is placed, whatever is apart.
+-- A content that says the whole entry has its place in lists of any length.
 use Rattle.std.proofs.Common.{length}
 use Rattle.st_log.proofs.log.keep_content.Goals as goal
 

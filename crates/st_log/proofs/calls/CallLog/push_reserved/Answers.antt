@@ -1,4 +1,4 @@
--- The brief form says all of the call, or where it is kept whole from now on.
+-- The brief form says the call itself, or the place of the call, which was just appended.
 use Rattle.std.proofs.Common.{◌≡◌, ◌<◌, ◌+◌, ◌-◌, ◌∙◌, ap, ◌++◌, ◌∷◌, [], sym, subst, arith}
 use Rattle.st_core.specs.declared.types.Act.{Act}
 use Rattle.st_core.specs.declared.types.Reply.{Reply}

@@ -1,4 +1,4 @@
--- The row says all of its entry, or where the rest of it is apart from now on.
+-- The new row says the whole entry, or the place of the rest, which was just appended.
 use Rattle.std.proofs.Common.{◌≡◌, ◌<◌, ◌+◌, ◌-◌, ◌∙◌, ap, ◌++◌, ◌∷◌, [], sym, subst, arith}
 use Rattle.st_log.specs.Entries.{Logged}
 use Rattle.st_log.proofs.RowLemmas.{entries_pushed, log_pushed}
