@@ -1,4 +1,4 @@
--- A lane that is no end of an item has a bar, and so a run of such lanes has as many bars.
+-- A lane that is no end of an item has a bar, so a run of n such lanes has n bars.
 use Rattle.std.proofs.Common.{◌≡◌, ℕ, ◌+◌, ◌-◌, ◌≤◌, zero, suc, Bool, true, false, ◌||◌, List, []}
 use Rattle.std.proofs.Common.{◌∷◌, ◌++◌}
 use Rattle.std.proofs.Common.{length, refl, sym, ap, subst, ◌∙◌, append_assoc, codes, arith}
@@ -19,7 +19,7 @@ use Rattle.st_chart.specs.declared.charted_item.ChartedItem.{ChartedItem}
 use Rattle.st_chart.specs.Chart.{is_at, is_end, mark}
 use Rattle.st_chart.specs.Parts.{bars, HasNoEndBeforeLast}
 
--- ---- bars one after the other
+-- ---- bars in a row
 
 pub bars_flat : (n : ℕ) → flat_map (λ t. t) (replicate n (codes "   |")) ≡ bars n
 bars_flat zero = refl
@@ -33,20 +33,20 @@ bars_then (suc m) n =
     (bars_then m n)
     ∙ ap bars next
 
--- all of them, if that many are left
+-- the bars before the left ones, and the left ones, are all bars
 pub bars_whole : (count left : ℕ) → left ≤ count → bars (count - left) ++ bars left ≡ bars count
 bars_whole count left within =
     let all : count - left + left ≡ count = omega (arith, within) in
     bars_then (count - left) left ∙ ap bars all
 
--- a run more
+-- after one more run, there are as many more bars
 pub bars_more : (count left run : ℕ) → left ≤ count → run ≤ left
     → bars (count - left) ++ bars run ≡ bars (count - (left - run))
 bars_more count left run within upto =
     let more : count - left + run ≡ count - (left - run) = omega (arith, within, upto) in
     bars_then (count - left) run ∙ ap bars more
 
--- the next run failed
+-- if the next run fails, a prefix of all bars was written
 pub bars_failed : {S : Type 0} (puts : S → List ℕ → S → Type 0) (failed : S → Bool)
     (count left run : ℕ)
     {a b c : S} {x y : List ℕ}
@@ -72,7 +72,7 @@ or_right : (a b : Bool) → (a || b) ≡ false → b ≡ false
 or_right true b none = absurd (cc)
 or_right false b none = none
 
--- an item happened at an end of it
+-- an item happens at one of its ends
 at_none : (x : ChartedItem) (p : Pid) → is_end x.event p ≡ false → is_at x p ≡ false
 at_none x p none = by x.item x.event.kind (or_left _ _ none)
     (or_right (pid_eq x.event.from p) _ none)
@@ -108,7 +108,7 @@ pub no_marks : (x : ChartedItem) (ps : List Pid) → length ps ≡ 0 → flat_ma
 no_marks x [] none = refl
 no_marks x (p ∷ ps) none = absurd (omega (arith, none))
 
--- if only the last can be an end, the others have bars
+-- if only the last lane can be an end, the others have bars
 pub run_marks : (x : ChartedItem) (ps others : List Pid) (last : Pid)
     → HasNoEndBeforeLast x.event ps
     → ps ≡ others ++ last ∷ [] → bars (length others) ++ mark x last ≡ flat_map (mark x) ps

@@ -1,4 +1,4 @@
--- Worked cases: the definitions computed. Nothing cites this file; it shows that the definitions
+-- Worked cases: the definitions, computed. No proof cites this file; it shows that the definitions
 -- say what is meant.
 use Rattle.std.specs.Prelude.{◌≡◌, true, List, [], ◌∷◌, ◌++◌, codes, refl}
 use Rattle.std.specs.Fmt.{digits}
@@ -15,7 +15,7 @@ use Rattle.st_core.proofs.Samples.{a, b, got, printed, of, hidden_sends}
 
 -- ---- a chart
 
--- their items, in their order
+-- the items of `hidden_sends`, in order
 abbrev in_order : List Item
 in_order = item.Reported a 0 ∷ item.Hidden b 0 ∷ item.Reported b 0 ∷ item.Reported b 1
     ∷ item.Hidden a 1

@@ -1,5 +1,5 @@
--- Two lists of pids that rise have the same pids in common, whichever of the two is gone through.
--- So the processes that are listed among the ends are the ends among those that are listed.
+-- Two rising lists have the same pids in common, whichever is gone through. So the processes that
+-- are found among the ends are the ends that are found among the processes.
 use Rattle.std.proofs.Common.{◌≡◌, ℕ, zero, suc, ◌+◌, ◌<◌, Bool, true, ◌&&◌, ◌||◌, ◌==◌}
 use Rattle.std.proofs.Common.{List, [], ◌∷◌, filter, cond, length, get_or, Result, Ok, Err, is_ok}
 use Rattle.std.proofs.Common.{refl, sym, ap, ◌∙◌, arith}
@@ -21,7 +21,7 @@ use Rattle.st_core.proofs.ForCallers.{pid_cmp-Equal, pid_eq-same, pid_eq-swap, r
 use Rattle.st_core.proofs.ForCallers.{is_eq-Equal, is_among-missing, missing_from_search, or_true}
 use Rattle.st_pair.proofs.ForCallers.{pid_total}
 
--- ---- pids compare as equal if they are one
+-- ---- pids that compare as equal are equal
 
 numbers_equal : (a b : ℕ) → is_eq (nat_cmp a b) ≡ (a == b)
 numbers_equal a b = grind (arith, nat_tests)
@@ -38,7 +38,7 @@ pids_equal p q =
 two_of : (a b c : Bool) → cond b true (cond a true c) ≡ (c || (a || b))
 two_of a b c = grind arith
 
--- whether a set that had old has p, after a is put in and then b
+-- whether a set has p after a and b are added, if `old` says whether it had p before
 pub both_noted : (a b p : Pid) (old one two : Bool) → one ≡ cond (is_eq (pid_cmp a p)) true old
     → two ≡ cond (is_eq (pid_cmp b p)) true one → two ≡ (old || (pid_eq a p || pid_eq b p))
 both_noted a b p old one two first second =

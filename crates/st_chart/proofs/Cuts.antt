@@ -1,4 +1,4 @@
--- No lane but those of an event's from and to is an end of it: so if the lanes are cut after these
+-- Only the lanes of an event's from and to are ends of it. So if the lanes are cut after these
 -- two, no part has an end before its last lane.
 use Rattle.std.proofs.Common.{◌≡◌, ◌≢◌, ℕ, ◌+◌, ◌-◌, ◌<◌, ◌≤◌, ◌||◌, Bool, true, false, inl, inr}
 use Rattle.std.proofs.Common.{List, [], ◌∷◌, length, take, drop, get_or, Option, Some, None, min}
@@ -18,7 +18,7 @@ use Rattle.st_core.proofs.ForCallers.{pid_eq-swap, pid_cmp-Equal, IsBelow-apart,
 use Rattle.st_chart.specs.Chart.{is_end}
 use Rattle.st_chart.specs.Parts.{IsNoOther, HasNoEndBeforeLast, AreCutAtEnds}
 
--- ---- a process among lanes that rise
+-- ---- a process among rising lanes
 
 pub found_once : (ps : List Pid) (p : Pid) (k : ℕ) → IsRising ps → k < length ps
     → HoldsAt (λ q. pid_cmp q p ≡ Equal) ps k → IsNoOther (Some p) ps (k + 1)
@@ -42,7 +42,7 @@ pub found_never : (ps : List Pid) (p : Pid) (n : ℕ) → AllByRecursion (λ q. 
 found_never ps p n none i d below apart =
     pid_eq-swap p (get_or ps i d) ∙ All-from_recursion (λ q. pid_eq q p ≡ false) ps none i d below
 
--- ---- some of the pids that rise
+-- ---- a part of rising pids
 
 kept_below : (p q : Pid) (rest : List Pid) (b : Bool) → IsBelow p q
     → AllByRecursion (IsBelow p) rest
@@ -65,14 +65,14 @@ some_rise f [] rising = tt
 some_rise f (p ∷ ps) rising =
     kept_rise p (filter f ps) (f p) (some_below f p ps rising.0) (some_rise f ps rising.1)
 
--- ---- lanes that are cut
+-- ---- cut lanes
 
--- of these lanes, counted from 1, none but the m-th and the n-th is an end
+-- no lanes but the m-th and the n-th, counted from 1, are ends
 abbrev OnlyThese : Event → List Pid → ℕ → ℕ → Type 0
 OnlyThese e ps m n =
     (i : ℕ) (d : Pid) → i < length ps → i + 1 ≢ m → i + 1 ≢ n → is_end e (get_or ps i d) ≡ false
 
--- a part, if neither of the two is in it but as its last
+-- a part has no end before its last lane, if the m-th and n-th lanes are at most its last
 part_clear : (e : Event) (ps part : List Pid) (start m n : ℕ) → OnlyThese e ps m n
     → start + length part ≤ length ps
     → ((i : ℕ) (d : Pid) → i < length part → get_or part i d ≡ get_or ps (start + i) d)
@@ -140,7 +140,7 @@ only_ends e ps m n from to i d below apart other =
     by None nowhere = refl
     by (Some q) nowhere = nowhere i d below other
 
--- cut after the event's from and its to, whichever comes first
+-- the lanes are cut at ends if they are cut after the event's from and its to, in either order
 pub cut_at_ends : (e : Event) (ps : List Pid) (m n low high : ℕ) → low ≡ min m n → high ≡ max m n
     → m ≤ length ps
     → n ≤ length ps → IsNoOther (Some e.from) ps m → IsNoOther e.to ps n

@@ -1,5 +1,5 @@
--- A process is a lane exactly if it is an end of an item that has the label: it doesn't matter
--- whether the items are gone through, or those that have the label.
+-- A process is a lane exactly if it is an end of an item that has the label, whether all items are
+-- gone through or only those that have the label.
 use Rattle.std.proofs.Common.{◌≡◌, Bool, false, ◌||◌, List, [], ◌∷◌}
 use Rattle.std.proofs.Common.{refl, sym, ap, ◌∙◌, filter, cond, Option, Some, None}
 use Rattle.std.specs.List.{list_any, cons_option}
@@ -36,7 +36,7 @@ module _ (streams : List Stream) (label : Label) where
       ap (λ (b : Bool). cond b (p ∷ filter f ps) (filter f ps)) (same p)
       ∙ ap (λ (qs : List Pid). cond (g p) (p ∷ qs) qs) (filter_same f g same ps)
 
-  -- the processes among these that are ends are the lanes
+  -- the listed processes that are ends are the lanes
   pub lanes_are : (items : List Item) (f : Pid → Bool)
       → ((p : Pid) → f p ≡ list_any (is_end_in streams label p) items)
       → filter f (pids_of streams) ≡ lanes streams (all_charted streams items label)

@@ -1,5 +1,5 @@
--- The lines go one after the other: those of the lanes by their numbers, and those of the items
--- that have the label.
+-- The lines follow each other: those of the lanes by number, then those of the items that have the
+-- label.
 use Rattle.std.proofs.Common.{◌≡◌, ℕ, ◌+◌, ◌<◌, List, [], ◌∷◌, ◌++◌, length, take, drop, get_or}
 use Rattle.std.proofs.Common.{arith}
 use Rattle.std.proofs.Common.{refl, sym, ap, subst, ◌∙◌, append_assoc, Bool, Option, Some, None}
@@ -15,7 +15,7 @@ use Rattle.st_chart.specs.declared.charted_item.ChartedItem.{ChartedItem}
 use Rattle.st_chart.specs.Chart.{charted_of, all_charted, item_line, lane_line, lane_lines}
 use Rattle.st_chart.specs.Parts.{line_in}
 
--- lanes after lanes are numbered on
+-- the numbers of lanes go on after those of the lanes before
 pub lanes_then : (k : ℕ) (ps qs : List Pid)
     → lane_lines k (ps ++ qs) ≡ lane_lines k ps ++ lane_lines (k + length ps) qs
 lanes_then k [] qs = ap (λ n. lane_lines n qs) (let e : k ≡ k + 0 = omega arith in e)
@@ -25,7 +25,7 @@ lanes_then k (p ∷ ps) qs =
     ∙ sym (append_assoc (lane_line k p) (lane_lines (k + 1) ps) (lane_lines (k + 1 + length ps) qs))
     ∙ ap (λ n. lane_line k p ++ lane_lines (k + 1) ps ++ lane_lines n qs) next
 
--- one lane more
+-- the line of one more lane follows those before
 lane_more : (ps : List Pid) (i : ℕ) (d : Pid) → i < length ps
     → lane_lines 1 (take (i + 1) ps) ≡ lane_lines 1 (take i ps) ++ lane_line (i + 1) (get_or ps i d)
 lane_more ps i d lt =
@@ -50,7 +50,7 @@ lanes_more puts failed ps i d {a} {c} {x} {z} lt g h =
     subst (λ (t : List ℕ). Goes puts failed t a c x z) (sym (lane_more ps i d lt))
     (goes_then puts failed (lane_lines 1 (take i ps)) (lane_line (i + 1) (get_or ps i d)) g h)
 
--- the next line failed
+-- if the next line fails, a prefix of all lines was written
 pub lanes_failed : {S : Type 0} (puts : S → List ℕ → S → Type 0) (failed : S → Bool) (ps : List Pid)
     (i : ℕ) (d : Pid)
     {a b c : S} {x y : List ℕ}
@@ -70,7 +70,7 @@ module _ (streams : List Stream) (label : Label) (caused : List Stream) (ps : Li
   abbrev pub line_by : Option ChartedItem → List ℕ
   line_by o = elim o [ None ↦ [] | Some c ↦ item_line caused ps c ]
 
-  -- an item's line, by what is shown of it
+  -- an item's line is that of the item with its event, if it is shown
   pub line_of : (x : Item) (o : Option ChartedItem) → charted_of streams label x ≡ o
       → line_in streams label caused ps x ≡ line_by o
   line_of x o is = ap line_by is

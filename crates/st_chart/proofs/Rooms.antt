@@ -1,4 +1,4 @@
--- If what waits can't be written after a front that went, a prefix of the whole was written.
+-- If the waiting bytes can't be written after a front that was, a prefix of the whole was written.
 use Rattle.std.proofs.Common.{◌≡◌, ℕ, Bool, List, [], ◌++◌, subst}
 use Rattle.st_text.specs.Writing.{WritesPart, Goes}
 use Rattle.st_text.proofs.ForCallers.{part_longer, part_then}

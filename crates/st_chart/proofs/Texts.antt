@@ -1,4 +1,4 @@
--- Each text has a line, so none is empty.
+-- Each text has at least one line, so none is empty.
 use Rattle.std.proofs.Common.{ℕ, ◌<◌, List, ◌++◌, length, codes}
 use Rattle.std.specs.List.{flat_map}
 use Rattle.st_core.specs.declared.types.Pid.{Pid}

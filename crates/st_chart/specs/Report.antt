@@ -1,4 +1,5 @@
--- The report of a finding, as bytes (own profile): the certificate, or the event and the reason.
+-- The report of a finding, as bytes (own profile): the bundle with a certificate, or the event
+-- that doesn't fit and the reason.
 use Rattle.std.specs.Prelude.{ℕ, List, [], ◌++◌, codes, decimal, Option, Some, None}
 use Rattle.std.specs.List.{flat_map}
 use Rattle.st_core.specs.declared.types.Pid.{Pid}
@@ -16,14 +17,14 @@ use Rattle.st_audit.specs.declared.finding.Finding.{Finding}
 use Rattle.st_audit.specs.declared.finding.Finding.TheVariants as finding
 use Rattle.st_chart.specs.Words.{place_words}
 
--- what the tried acts come to; a yes is spelled too, but is never a reason
+-- the verdict on the tried acts; a yes is spelled too, but is never a reason
 abbrev pub verdict_words : Verdict → List ℕ
 verdict_words (verdict.Stuck n) = codes "stuck " ++ decimal n
 verdict_words (verdict.Differs n) = codes "differs " ++ decimal n
 verdict_words (verdict.Left p) = codes "left " ++ spelled.pid p
 verdict_words (verdict.Yes pairs) = codes "yes"
 
--- the reason against an event of p, with the other place that it names
+-- the reason why an event of p doesn't fit, with the other place that the reason names
 abbrev pub reason_words : Pid → Reason → List ℕ
 reason_words p reason.PrevNotBefore = codes "prevnotbefore"
 reason_words p (reason.NotRising j) = codes "notrising " ++ place_words p j
@@ -36,7 +37,7 @@ reason_words p (reason.NotReplayed acts v) = codes "notreplayed " ++ verdict_wor
 abbrev pub unfit_line : Pid → ℕ → Reason → List ℕ
 unfit_line p i r = ended_line (codes "unfit " ++ place_words p i ++ codes " " ++ reason_words p r)
 
--- an event; nothing if there is none, and then no finding names the place
+-- an event; nothing if there is none, but a finding names only places of events
 abbrev pub event_words : Option Event → List ℕ
 event_words None = []
 event_words (Some e) = spelled.event e
@@ -48,8 +49,8 @@ place_line word p i e = (word ++ place_words p i ++ codes " ") ++ ended_line (ev
 abbrev pub event_line : List Stream → Pid → ℕ → List ℕ
 event_line streams p i = place_line (codes "event ") p i (event_at streams p i)
 
--- what the reason rests on: the event at the other place, or the acts that were tried, as a bundle
--- has them
+-- what the reason rests on: the event at the other place, or the tried acts, spelled as in a
+-- bundle
 abbrev pub evidence : List Stream → Pid → Reason → List ℕ
 evidence streams p (reason.NotRising j) = event_line streams p j
 evidence streams p (reason.Repeated q j) = event_line streams q j
@@ -61,7 +62,7 @@ evidence streams p r = []
 abbrev pub unfit_text : List Stream → Pid → ℕ → Reason → List ℕ
 unfit_text streams p i r = unfit_line p i r ++ event_line streams p i ++ evidence streams p r
 
--- the bundle with its acts, or why there is none
+-- the bundle with its acts if the streams fit, else why they don't
 abbrev pub report_text : List Stream → Finding → List ℕ
 report_text streams (finding.Fits acts pairs) =
     spelling (record { streams = streams; acts = Some acts })

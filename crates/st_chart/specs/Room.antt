@@ -1,4 +1,4 @@
--- How many bytes the parts of a line take in a buffer at most.
+-- The most bytes that the parts of a line take in a buffer.
 use Rattle.std.specs.Prelude.{ℕ, ◌+◌}
 use Rattle.st_text.specs.Room.{number_room, pid_room, serial_room}
 

@@ -1,4 +1,4 @@
--- The drawing of a sheet: the line of an item, and the whole chart.
+-- Drawing a sheet: the line of an item, and the whole chart.
 use Rattle.std.specs.Prelude.{ℕ, List}
 use Rattle.st_order.specs.declared.item.Item.{Item}
 use Rattle.st_chart.specs.declared.sheet.Sheet.{Sheet}
@@ -9,7 +9,7 @@ use Rattle.st_chart.specs.Parts.{line_in}
 abbrev pub line_on : Sheet → Item → List ℕ
 line_on s x = line_in s.streams.now s.label s.chains.now s.lanes.now x
 
--- the label, the lanes, and those of these items that have the label
+-- the lines of the label, of the lanes, and of the items that have the label
 abbrev pub sheet_lines : Sheet → List Item → List ℕ
 sheet_lines s items =
     chart_lines s.chains.now s.label s.lanes.now (all_charted s.streams.now items s.label)

@@ -1,4 +1,4 @@
--- The words of both reports and charts (own profile).
+-- The words that reports and charts share (own profile).
 use Rattle.std.specs.Prelude.{ℕ, List, ◌++◌, codes, decimal}
 use Rattle.st_core.specs.declared.types.Pid.{Pid}
 use Rattle.st_text.specs.Spelling as spelled

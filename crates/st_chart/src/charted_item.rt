@@ -15,12 +15,13 @@ use st_order::Item;
 pub(crate) struct ChartedItem {
     /// The item.
     pub(crate) item: Item,
-    /// The event that it is about: of a hidden send its receive.
+    /// The item's event: of a hidden send the event of its receive.
     pub(crate) event: Event,
 }
 
 impl ChartedItem {
-    /// The item with its event, if that has the label; none if no event is at its place.
+    /// Returns the item with its event, if there is an event at the item's place and it has the
+    /// label.
     pub(crate) fn of(streams: &Streams, label: Label, item: Item) -> Option<ChartedItem>
         ensures { result ≡ charted_of streams.now label item }
     {
@@ -36,7 +37,7 @@ impl ChartedItem {
         }
     }
 
-    /// Whether the item happened at this process.
+    /// Returns whether the item happened at the process.
     pub(crate) fn is_at(&self, pid: Pid) -> bool
         ensures { result ≡ is_at self.now pid }
     {
@@ -51,7 +52,7 @@ impl ChartedItem {
     }
 }
 
-/// Whether the process is the event's `to`.
+/// Returns whether the process is the event's `to`.
 fn is_receiver(event: &Event, pid: Pid) -> bool
     ensures { result ≡ option_map_or (λ q. pid_eq q pid) event.now.to false }
 {
@@ -61,14 +62,14 @@ fn is_receiver(event: &Event, pid: Pid) -> bool
     }
 }
 
-/// Whether the process is the event's `from` or `to`.
+/// Returns whether the process is the event's `from` or `to`.
 pub(crate) fn is_end(event: &Event, pid: Pid) -> bool
     ensures { result ≡ is_end event.now pid }
 {
     event.from == pid || is_receiver(event, pid)
 }
 
-/// Whether an item has the label.
+/// Returns whether any item has the label.
 pub(crate) fn is_any_charted(streams: &Streams, label: Label, items: &[Item]) -> bool
     ensures { result ≡ list_any (item_has_label streams.now label) items.now }
 {

@@ -25,7 +25,7 @@ use st_order::Item;
 use st_text::{Buffer, Device, put_bytes, put_number, put_pid};
 use std::alloc::Global;
 
-/// The number of lanes up to which marks are written faster one by one than in runs.
+/// The most lanes for which writing marks one by one is faster than in runs.
 const FEW: usize = 8;
 
 /// Appends the line that names the label.
@@ -85,7 +85,7 @@ fn write_each_mark<W: ByteSink>(
     Ok(())
 }
 
-/// Writes the bars of this many lanes, a run of them at a time.
+/// Writes `count` bars, a run at a time.
 fn write_bars<W: ByteSink>(writer: &mut W, page: &mut Page, count: usize) -> Result<(), Device>
     ensures { Draws W.ByteSink (bars count) writer.old writer.new page.old page.new result }
 {
@@ -98,7 +98,7 @@ fn write_bars<W: ByteSink>(writer: &mut W, page: &mut Page, count: usize) -> Res
     Ok(())
 }
 
-/// Writes an item's marks in these lanes, all of which but the last get bars.
+/// Writes an item's marks in lanes of which only the last may be an end: the others get bars.
 fn write_run<W: ByteSink>(
     writer: &mut W,
     page: &mut Page,
@@ -116,7 +116,7 @@ fn write_run<W: ByteSink>(
     put_on(writer, &mut page.waits, mark_of(charted, *last))
 }
 
-/// Writes an item's mark in each of many lanes: bars up to the lanes of its ends.
+/// Writes an item's marks in many lanes, in three runs: the lanes are cut after those of its ends.
 fn write_runs<W: ByteSink>(
     writer: &mut W,
     page: &mut Page,
@@ -215,7 +215,7 @@ fn write_chart<W: ByteSink>(
     write_items(writer, page, sheet, items)
 }
 
-/// Writes a chart with these lanes to the writer.
+/// Writes the whole chart, and sends what still waits on the page.
 fn send_chart<W: ByteSink>(
     alloc: Global,
     writer: &mut W,
@@ -231,10 +231,10 @@ fn send_chart<W: ByteSink>(
     turn(writer, &mut page.waits)
 }
 
-/// Writes the chart of the items that have this label, in their order: its lanes, and a line for
-/// each. An item at whose place there is no event has no label and is left out; each item of these
-/// streams has one. The chains are those of these streams. It takes memory for its lanes, without
-/// which it fails, and up to 128 kB for what waits for the writer, without which it is slower.
+/// Writes the chart of the items that have the label, in their order: a line for each lane, and
+/// one for each item. An item without an event at its place is left out. `chains` has to be that
+/// of `streams`. The lanes take memory, without which the chart fails with `Memory`; up to 128 kB
+/// for bytes that wait for the writer only make it faster.
 pub fn chart<W: ByteSink>(
     alloc: Global,
     writer: &mut W,

@@ -1,8 +1,8 @@
-//! Why there is no chart.
+//! Why a chart isn't written.
 
 use thiserror::Error;
 
-/// Why a chart wasn't written, or not whole.
+/// Why a chart wasn't written, or only a part of it.
 #[derive(Clone, Copy, Debug, PartialEq, Eq, Error)]
 pub enum ChartFault {
     /// Memory ran out. Nothing was written.
@@ -11,7 +11,7 @@ pub enum ChartFault {
     /// The writer failed. A prefix of the chart was written.
     #[error("the device failed")]
     Device,
-    /// No item has the label. Looked at first; nothing was written.
+    /// No item has the label. Comes before `Memory`; nothing was written.
     #[error("no item has the label")]
     NoLabel,
 }

@@ -15,7 +15,7 @@ use st_order::Item;
 use std::alloc::{AllocError, Global};
 use std::collections::BTreeSet;
 
-/// Notes the processes that the event is from and to.
+/// Adds the event's from and to to the set.
 fn note_ends(ends: &mut BTreeSet<Pid>, event: &Event) -> Result<(), AllocError>
     ensures { OnOk result ((p : PidValue) →
         contains pid_cmp ends.new p ≡ (contains pid_cmp ends.old p || is_end event.now p)) }
@@ -31,7 +31,7 @@ fn note_ends(ends: &mut BTreeSet<Pid>, event: &Event) -> Result<(), AllocError>
     Ok(())
 }
 
-/// The processes that an item with the label is from or to.
+/// Returns the ends of all items that have the label.
 fn ends_of(
     alloc: Global,
     streams: &Streams,
@@ -50,7 +50,6 @@ fn ends_of(
     Ok(ends)
 }
 
-/// Whether a process is one of these, which rise.
 fn is_listed(pids: &[Pid], pid: Pid) -> bool
     requires { IsRising pids.now }
     ensures { result ≡ is_among pids.now pid }
@@ -58,8 +57,8 @@ fn is_listed(pids: &[Pid], pid: Pid) -> bool
     pids.binary_search(&pid).is_ok()
 }
 
-/// Those of these pids that were noted. It looks up the noted ones, which are few if few items
-/// have the label.
+/// Returns the pids that are ends. Looks up each end, since there are few if few items have the
+/// label.
 fn ends_among(alloc: Global, pids: &[Pid], ends: &BTreeSet<Pid>) -> Result<Vec<Pid>, AllocError>
     requires { IsRising pids.now }
     ensures { IfOk result (λ noted. noted.items ≡ filter (contains pid_cmp ends.now) pids.now) }
@@ -73,7 +72,8 @@ fn ends_among(alloc: Global, pids: &[Pid], ends: &BTreeSet<Pid>) -> Result<Vec<P
     Ok(noted)
 }
 
-/// The lanes: of all processes, by rising pid, those that an item with the label is from or to.
+/// Returns the lanes, by rising pid: the listed processes that are the from or the to of an item
+/// with the label.
 pub(crate) fn lanes_of(
     alloc: Global,
     streams: &Streams,
@@ -88,7 +88,7 @@ pub(crate) fn lanes_of(
     ends_among(alloc, streams.pids(), &ends)
 }
 
-/// How many lanes there are up to that of a process, that one too; all if there is no such lane.
+/// Returns the number of lanes up to and with the process's lane, or of all lanes if it has none.
 fn lanes_to(lanes: &[Pid], pid: Option<Pid>) -> usize
     requires { IsRising lanes.now }
     ensures within { result ≤ length lanes.now }
@@ -103,8 +103,8 @@ fn lanes_to(lanes: &[Pid], pid: Option<Pid>) -> usize
     }
 }
 
-/// How many lanes there are up to the first end of an event, that one too, and how many up to the
-/// second; all if there is none.
+/// Returns the number of lanes up to and with the event's first end, and up to and with its
+/// second. An end that has no lane counts all lanes.
 pub(crate) fn lanes_to_ends(lanes: &[Pid], event: &Event) -> (usize, usize)
     requires { IsRising lanes.now }
     ensures { AreCutAtEnds event.now lanes.now result.0 result.1 }

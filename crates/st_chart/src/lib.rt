@@ -1,9 +1,9 @@
-//! The pictures of collected streams: the report of what the auditor found, and the chart
-//! of one label, a picture in text of which message caused which.
+//! The pictures of collected streams: the report of what the auditor found, and the chart of one
+//! label, a picture in text of which message caused which.
 //!
-//! Both are defined byte for byte in `specs/`. A report is written through a buffer on the stack, a
-//! chart through one on the heap. Nothing here judges: the findings, the order and the causes come
-//! from the crates below.
+//! Both are defined byte for byte in `specs/`. A report goes through a buffer on the stack, and a
+//! chart through one on the heap. This crate judges nothing: findings, order and causes come from
+//! the crates below.
 #![tactic(auto)]
 
 mod charted_item;

@@ -15,7 +15,7 @@ use st_core::{Kind, Pid};
 use st_order::Item;
 use st_text::{Buffer, put_bytes, put_number, put_serial};
 
-/// The lanes that get their bars at once, which take 1,024 bytes.
+/// The most lanes whose bars are written at once, which take 1,024 bytes.
 pub(crate) const RUN: usize = 256;
 
 static BARS: [[u8; 4]; RUN] = [*b"   |"; RUN];
@@ -27,7 +27,7 @@ pub(crate) fn bars_of(count: usize) -> &'static [u8]
     BARS[..count].as_flattened()
 }
 
-/// The mark of the lane in which an item happened.
+/// Returns the mark in the lane at which an item happened.
 fn letter_of(item: Item, kind: Kind) -> &'static [u8]
     ensures { result.now ≡ letter item kind }
 {
@@ -53,7 +53,7 @@ pub(crate) fn mark_of(charted: &ChartedItem, lane: Pid) -> &'static [u8]
     }
 }
 
-/// Appends what an item is.
+/// Appends the kind of an item.
 fn put_item_word(buffer: &mut Buffer, item: Item, kind: Kind)
     requires { HasRoom item_word_room buffer.old }
     ensures { Puts item_word_room (item_word item kind) buffer.old buffer.new }
@@ -93,7 +93,7 @@ fn put_origin(buffer: &mut Buffer, chains: &Chains, item: Item)
     }
 }
 
-/// Appends an item's word, serial, value and cause.
+/// Appends an item's kind, serial, value and cause.
 fn put_item_words(buffer: &mut Buffer, chains: &Chains, charted: &ChartedItem)
     requires { HasRoom item_room buffer.old }
     ensures { Puts item_room (item_words chains.now charted.now) buffer.old buffer.new }
@@ -107,7 +107,7 @@ fn put_item_words(buffer: &mut Buffer, chains: &Chains, charted: &ChartedItem)
     put_origin(buffer, chains, charted.item);
 }
 
-/// Appends what follows the marks.
+/// Appends the part of an item's line after the marks.
 pub(crate) fn put_item(buffer: &mut Buffer, chains: &Chains, charted: &ChartedItem)
     requires { HasRoom line_room buffer.old }
     ensures { buffer.new.items

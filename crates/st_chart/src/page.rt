@@ -8,11 +8,11 @@ use st_core::ByteSink;
 use st_text::{Buffer, Device, put_all};
 use std::alloc::Global;
 
-/// The bytes that go out at once, as many as a pipe takes: whole pages of the system's memory,
+/// The number of bytes that go out at once, as many as a pipe takes. They fill whole memory pages,
 /// since a file takes parts of a page more slowly.
 const PIECE: usize = 65_536;
 
-/// The bytes that wait for the writer, and room to make a line in.
+/// The bytes that wait for the writer, and a buffer in which a line is made.
 #[derive(Drop)]
 pub(crate) struct Page {
     pub(crate) waits: Vec<u8>,
@@ -20,7 +20,7 @@ pub(crate) struct Page {
 }
 
 impl Page {
-    /// An empty page. Takes no memory yet.
+    /// Makes an empty page. Takes no memory yet.
     pub(crate) fn new(alloc: Global) -> Page
         ensures { result.waits.items ≡ [] }
     {
@@ -41,7 +41,7 @@ pub(crate) fn turn<W: ByteSink>(writer: &mut W, waits: &mut Vec<u8>) -> Result<(
     Ok(())
 }
 
-/// Puts bytes after those that wait. If there is no memory for them, all are written.
+/// Appends bytes to the waiting ones, or writes all of them if memory runs out.
 fn keep<W: ByteSink>(writer: &mut W, waits: &mut Vec<u8>, bytes: &[u8]) -> Result<(), Device>
     ensures { WritesOn W.puts W.failed bytes.now writer.old writer.new
         waits.old.items waits.new.items result }
@@ -55,7 +55,7 @@ fn keep<W: ByteSink>(writer: &mut W, waits: &mut Vec<u8>, bytes: &[u8]) -> Resul
     }
 }
 
-/// Puts bytes after those that wait, and writes a piece that they fill.
+/// Appends bytes to the waiting ones, and writes a piece as soon as it is full.
 pub(crate) fn put_on<W: ByteSink>(
     writer: &mut W,
     waits: &mut Vec<u8>,

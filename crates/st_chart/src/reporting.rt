@@ -19,7 +19,7 @@ use st_text::{
     write_parts,
 };
 
-/// Appends what the tried acts come to.
+/// Appends the verdict on the tried acts.
 fn put_verdict(buffer: &mut Buffer, verdict: &Verdict)
     requires { HasRoom verdict_room buffer.old }
     ensures { Puts verdict_room (verdict_words verdict.now) buffer.old buffer.new }
@@ -63,7 +63,7 @@ fn put_unfit(buffer: &mut Buffer, pid: Pid, index: u64, reason: &Reason)
     put_bytes(buffer, b"\n");
 }
 
-/// Appends a word, a place and a space, which take room by themselves.
+/// Appends a word, a place and a space.
 fn put_front(buffer: &mut Buffer, word: &[u8], pid: Pid, index: u64)
     requires room { HasRoom line_room buffer.old }
     requires short { length word.now ≤ 6 }
@@ -100,8 +100,8 @@ fn write_unfit_line<W: ByteSink>(
     Ok(())
 }
 
-/// Writes a word, a place, and the event there, in two parts: together they may take more than a
-/// line's room.
+/// Writes a line of a word, a place and the event there. The line is made in two parts, since it
+/// may take more room than the buffer has for a line.
 pub fn write_place_line<W: ByteSink>(
     writer: &mut W,
     buffer: &mut Buffer,
@@ -121,7 +121,7 @@ pub fn write_place_line<W: ByteSink>(
     Ok(())
 }
 
-/// Writes the line of the event at this place.
+/// Writes the line of the event at the place.
 pub fn write_event<W: ByteSink>(
     writer: &mut W,
     buffer: &mut Buffer,
@@ -136,7 +136,7 @@ pub fn write_event<W: ByteSink>(
     write_place_line(writer, buffer, b"event ", pid, index, event)
 }
 
-/// Writes what a reason rests on: the event at the other place, or the acts that were tried.
+/// Writes what a reason rests on: the event at the other place, or the tried acts.
 fn write_evidence<W: ByteSink>(
     writer: &mut W,
     buffer: &mut Buffer,
@@ -157,7 +157,7 @@ fn write_evidence<W: ByteSink>(
     }
 }
 
-/// Writes what there is to say of an event that doesn't fit.
+/// Writes the place and the reason, the event there, and what the reason rests on.
 fn write_unfit<W: ByteSink>(
     writer: &mut W,
     buffer: &mut Buffer,
@@ -174,7 +174,7 @@ fn write_unfit<W: ByteSink>(
     write_evidence(writer, buffer, streams, pid, reason)
 }
 
-/// Sends what there is to say of an event that doesn't fit.
+/// Writes the text of an event that doesn't fit, and sends all of it.
 fn send_unfit<W: ByteSink>(
     writer: &mut W,
     streams: &Streams,
@@ -190,8 +190,8 @@ fn send_unfit<W: ByteSink>(
     flush(writer, &mut buffer)
 }
 
-/// Writes what was found: if the streams fit, the text of the bundle with its acts; else the place
-/// and the reason, the event there, and what the reason rests on. Takes no memory.
+/// Writes a finding: if the streams fit, the bundle with its acts; else the place and the reason,
+/// the event there, and what the reason rests on. Takes no memory.
 pub fn report<W: ByteSink>(
     writer: &mut W,
     streams: &Streams,

@@ -1,15 +1,16 @@
-//! The sheet of a chart. It has a file of its own, since what it draws is defined in terms of it.
+//! The sheet of a chart. It has a file of its own, since the definition of its drawing is in terms
+//! of it.
 
 use st_chain::Chains;
 use st_core::{Label, Pid, Streams};
 
-/// The lanes and the streams from which a chart's lines are drawn.
+/// The streams, chains and lanes from which a chart is drawn.
 #[derive(Drop)]
 pub(crate) struct Sheet<'a> {
     pub(crate) streams: &'a Streams,
     /// The chains of these streams.
     pub(crate) chains: &'a Chains<'a>,
-    /// These rise.
+    /// The pids of the lanes, which rise.
     pub(crate) lanes: &'a [Pid],
     pub(crate) label: Label,
 }

@@ -1,4 +1,4 @@
-//! Words that reports and charts share.
+//! The words that reports and charts share.
 
 ghost use Rattle.std.specs.Prelude.{◌+◌, ◌++◌, length};
 ghost use Rattle.st_text.specs.Room.{HasRoom, Puts};

@@ -1,4 +1,4 @@
--- All that waits in the buffer is flushed.
+-- All waiting bytes are sent at the end.
 use Rattle.st_text.proofs.ForCallers.{finishes}
 use Rattle.st_chart.specs.Chart.{all_charted, chart_lines}
 use Rattle.st_chart.proofs.Texts.{chart_some}

@@ -1,4 +1,4 @@
--- Each turn puts a run of bars after those before.
+-- Each turn appends a run of bars to those before.
 use Rattle.std.proofs.Common.{◌≡◌, ◌-◌, ◌≤◌, sym, arith}
 use Rattle.st_text.proofs.ForCallers.{goes_still, goes_then, on_err}
 use Rattle.st_chart.specs.Parts.{bars}

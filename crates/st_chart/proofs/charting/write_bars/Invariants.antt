@@ -1,4 +1,4 @@
--- All bars but those that are left were written, or wait.
+-- All bars but the left ones were written, or wait.
 use Rattle.std.proofs.Common.{◌-◌, ◌≤◌}
 use Rattle.st_text.specs.Writing.{Goes}
 use Rattle.st_chart.specs.Parts.{bars}

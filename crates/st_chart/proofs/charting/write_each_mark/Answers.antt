@@ -1,4 +1,4 @@
--- Each turn puts the next mark after those before.
+-- Each turn appends the next mark to those before.
 use Rattle.std.proofs.Common.{refl}
 use Rattle.st_text.proofs.ForCallers.{goes_still, one_more, one_failed, all_done, on_err}
 use Rattle.st_chart.specs.Chart.{mark}

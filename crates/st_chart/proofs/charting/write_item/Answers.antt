@@ -1,4 +1,4 @@
--- The words are after the marks.
+-- The words follow the marks.
 use Rattle.std.proofs.Common.{codes, ◌++◌}
 use Rattle.std.specs.List.{flat_map}
 use Rattle.st_text.specs.Spelling.{ended_line}

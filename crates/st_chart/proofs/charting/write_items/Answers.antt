@@ -1,4 +1,4 @@
--- Each turn writes the line of the next item, if it has one, after those before.
+-- Each turn appends the line of the next item, if it has one, to those before.
 use Rattle.std.proofs.Common.{refl}
 use Rattle.st_text.proofs.ForCallers.{goes_still, one_more, one_failed, all_done, on_err}
 use Rattle.st_chart.specs.Sheet.{line_on}

@@ -1,4 +1,4 @@
--- Each turn puts the line of the next lane after those before.
+-- Each turn appends the line of the next lane to those before.
 use Rattle.st_text.proofs.ForCallers.{goes_still, on_err}
 use Rattle.st_chart.proofs.Lines.{lanes_failed, lanes_more}
 use Rattle.st_chart.proofs.charting.write_lanes.Goals as goal

@@ -1,4 +1,4 @@
--- The mark of the last lane is after the bars of the others.
+-- The mark of the last lane follows the bars of the others.
 use Rattle.std.proofs.Common.{length, sym}
 use Rattle.st_text.proofs.ForCallers.{goes_still, then_on, part_longer, on_err}
 use Rattle.st_chart.specs.Chart.{mark}

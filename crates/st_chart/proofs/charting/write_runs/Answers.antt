@@ -1,4 +1,4 @@
--- The marks of three parts go one after the other.
+-- The marks of the three parts follow each other.
 use Rattle.std.proofs.Common.{◌++◌, sym}
 use Rattle.std.specs.List.{flat_map}
 use Rattle.st_text.proofs.ForCallers.{part_longer, then_on, goes_then, on_err, part_then}

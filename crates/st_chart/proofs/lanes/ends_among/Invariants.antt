@@ -1,4 +1,4 @@
--- The listed ones so far, with those among the processes that are left, are the listed ones of all.
+-- The listed ends so far, and those among the ends that are left, are all listed ends.
 use Rattle.std.proofs.Common.{◌≡◌, ◌++◌, filter}
 use Rattle.st_core.specs.Streams.{is_among}
 use Rattle.st_chart.proofs.lanes.ends_among.Given as goal

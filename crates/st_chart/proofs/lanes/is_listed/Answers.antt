@@ -1,4 +1,4 @@
--- Pids that rise, so if the search finds none there is none.
+-- The pids rise, so a pid that the search doesn't find isn't listed.
 use Rattle.std.proofs.Common.{◌∙◌}
 use Rattle.st_chart.proofs.Common.{found_among}
 use Rattle.st_chart.proofs.lanes.is_listed.Goals as goal

@@ -1,4 +1,5 @@
--- The noted processes are the ends of the items that have the label, and rise as all processes do.
+-- The processes that are found are the ends of the items that have the label, and rise as all
+-- processes do.
 use Rattle.std.proofs.Common.{sym, subst}
 use Rattle.std.specs.BTreeSet.{contains}
 use Rattle.std.proofs.lemmas.Result.{IfOk-weaker}

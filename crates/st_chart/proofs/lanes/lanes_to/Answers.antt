@@ -1,4 +1,4 @@
--- Lanes rise, so a process has one at most.
+-- Lanes rise, so a process has at most one.
 use Rattle.st_core.proofs.ForCallers.{missing_from_search}
 use Rattle.st_chart.proofs.Cuts.{found_once, found_never}
 use Rattle.st_chart.proofs.lanes.lanes_to.Goals as goal

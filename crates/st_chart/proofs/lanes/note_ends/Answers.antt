@@ -1,4 +1,4 @@
--- The two ends are put in one after the other.
+-- The two ends are added one after the other.
 use Rattle.st_chart.proofs.Common.{both_noted}
 use Rattle.st_chart.proofs.lanes.note_ends.Goals as goal
 

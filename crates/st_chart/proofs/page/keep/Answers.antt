@@ -1,4 +1,4 @@
--- Without memory for them, the bytes go after all that waited.
+-- If memory runs out, the bytes are written after all that waited.
 use Rattle.std.proofs.Common.{[]}
 use Rattle.st_text.proofs.ForCallers.{goes_buffer, then_on}
 use Rattle.st_chart.proofs.page.keep.Goals as goal

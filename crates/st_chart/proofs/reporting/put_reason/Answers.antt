@@ -1,4 +1,4 @@
--- The words of the verdict are after the word.
+-- The words of the verdict follow the reason's own word.
 use Rattle.std.proofs.Common.{◌++◌, ◌∙◌, codes, ap, append_assoc, List, ℕ, arith}
 use Rattle.st_chart.specs.Report.{verdict_words}
 use Rattle.st_chart.proofs.reporting.put_reason.Goals as goal

@@ -1,4 +1,4 @@
--- All that waits in the buffer is flushed.
+-- All waiting bytes are sent at the end.
 use Rattle.st_text.proofs.ForCallers.{finishes}
 use Rattle.st_chart.specs.Report.{unfit_text}
 use Rattle.st_chart.proofs.Texts.{unfit_some}

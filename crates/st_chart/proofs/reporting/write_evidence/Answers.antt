@@ -1,4 +1,4 @@
--- Three reasons rest on the event alone, so there is nothing to add.
+-- Three reasons rest on the event alone, so nothing is added for them.
 use Rattle.std.proofs.Common.{◌≡◌, ◌⊎◌, List, [], inl, inr, refl}
 use Rattle.st_core.specs.declared.types.Pid.{Pid}
 use Rattle.st_core.specs.Run.{Stream}

@@ -1,4 +1,4 @@
--- Three texts go one after the other.
+-- Three texts follow each other.
 use Rattle.std.proofs.Common.{◌++◌}
 use Rattle.st_text.proofs.ForCallers.{part_longer, then_on, goes_then, on_err, part_then}
 use Rattle.st_chart.specs.Report.{unfit_line, event_line, evidence}
