@@ -1,4 +1,4 @@
--- The kind of an act says what it asks of the processes that its locks held, case by case.
+-- The kind of an act says, case by case, what it asks of the processes that its locks held.
 use Rattle.std.proofs.Common.{◌≡◌, ◌≢◌, ℕ, true, refl, sym, ap, ◌∙◌, subst}
 use Rattle.st_core.specs.declared.types.Pid.{Pid}
 use Rattle.st_core.specs.declared.types.Act.{Act}

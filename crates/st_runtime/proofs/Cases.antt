@@ -1,4 +1,4 @@
--- Worked cases: the definition of a walk computed. Nothing cites this file; it shows that the
+-- Worked cases: the definition of a walk, computed. No proof cites this file; it shows that the
 -- definition says what is meant.
 use Rattle.std.proofs.Common.{◌≡◌, ℕ, true, List, [], ◌∷◌, refl, arith}
 use Rattle.std.specs.Prelude.{None}

@@ -1,4 +1,4 @@
--- Streams to which one report after the other is added.
+-- Reports are added to streams one after the other.
 use Rattle.std.proofs.Common.{◌≡◌, ℕ, zero, suc, ◌+◌, ◌<◌, true, false, cond, if◌then◌else◌, List}
 use Rattle.std.proofs.Common.{[], ◌∷◌, ◌++◌, length, get_or, take, Option, Some, None, is_some}
 use Rattle.std.proofs.Common.{refl, sym, ◌∙◌, ap, subst, arith}
@@ -78,7 +78,7 @@ reports_push p (x ∷ es) e =
     ap (λ r. first ++ r) (reports_push p es e)
     ∙ sym (append_assoc first (reports_of p es) (option_to_list (report_at p e)))
 
--- one entry more
+-- one more entry
 pub filled_more : (xs : List Stream) (p : Pid) (log : List Entry) (i : ℕ) (e : Entry)
     (draft draft2 : List Stream)
     → i < length log → e ≡ get_or log i e → ComesLast xs p
@@ -123,7 +123,7 @@ below_at q (x ∷ ps) zero p within at all =
     subst (λ (y : Control). IsBelow q y.process.pid) (sym at) all.0
 below_at q (x ∷ ps) (suc i) p within at all = below_at q ps i p (omega arith) at all.1
 
--- a process comes after the streams of those before it
+-- a process's pid comes after those of the streams before it
 pub last_at : (ps : List Control) (i : ℕ) (p : Control) → i < length ps → p ≡ get_or ps i p
     → IsRising (pids_of (streams_of ps)) → ComesLast (streams_of (take i ps)) p.process.pid
 last_at [] i p within at rising = absurd (omega arith)

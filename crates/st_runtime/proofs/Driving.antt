@@ -1,5 +1,5 @@
--- A record in which each process made its script is that of driven scripts. A worker's refusal is
--- one of an act of its script.
+-- A record in which each process made its script is one of the driven scripts. A worker's refusal
+-- is that of an act of its script.
 use Rattle.std.proofs.Common.{◌≡◌, ◌≢◌, ℕ, zero, suc, ◌<◌, ◌≤◌, List, []}
 use Rattle.std.proofs.Common.{◌∷◌, length, map, None, refl, sym, ◌∙◌, ap, subst, arith}
 use Rattle.std.specs.List.{AllZip, zip}
@@ -29,7 +29,7 @@ use Rattle.st_runtime.proofs.Workers.{Job}
 
 -- ---- jobs
 
--- what became of the jobs of a system that was opened is what became of the scripts
+-- the outcome of the jobs of an opened system is that of the scripts
 pub jobs_worked : (pids system : List Pid) (scripts : List (List Act)) (ts : List Job)
     (ends : List Ending) → system ≡ pids → ts ≡ zip pids scripts
     → AllZip (IsWorked system) ts ends → AllZip (IsWorked pids) (zip pids scripts) ends
@@ -51,7 +51,7 @@ scripts_worked pids (t ∷ ts) [] worked = absurd worked
 scripts_worked pids (t ∷ ts) (e ∷ es) worked =
     λ i. worked.0.script i ∷ scripts_worked pids ts es worked.1 i
 
--- the scripts that the workers gave back are those that they were given
+-- the scripts that workers gave back are those that they were given
 pub scripts_back : (pids : List Pid) (scripts : List (List Act)) (ends : List Ending)
     → length scripts ≡ length pids → AllZip (IsWorked pids) (zip pids scripts) ends
     → map (λ e. e.script) ends ≡ scripts
@@ -105,7 +105,7 @@ job_at pids (t ∷ ts) (d ∷ ds) (suc k) e worked at = job_at pids ts ds k e wo
 abbrev AllOwn : List Pid → Job → Type 0
 AllOwn pids t = All (IsOwn pids t.0) t.1
 
--- jobs whose endings have no refusal are done
+-- in jobs whose endings have no refusal, each act is its process's own
 own_before : (pids : List Pid) (ts : List Job) (es : List Ending) (k : ℕ)
     → AllZip (IsWorked pids) ts es
     → All (λ (e : Ending). e.fault ≡ None) (take k es) → All (AllOwn pids) (take k ts)

@@ -1,5 +1,5 @@
--- Pieces whose entries are whole and whose pids are seated fit, and their logs' run is theirs: each
--- seat is one that a log tells of, so that its calls are that process's in the run.
+-- Pieces whose entries are whole and whose pids are seated fit, and the run of their logs is
+-- theirs: each seat is one that a log tells of, so its calls are its process's in the run.
 use Rattle.std.proofs.Common.{◌≡◌, ℕ, List, [], ◌∷◌, map, refl, sym, ◌∙◌, ap, subst, inl, inr}
 use Rattle.std.proofs.Common.{⊎_elim}
 use Rattle.std.specs.Prelude.{filter}

@@ -14,7 +14,7 @@ use Rattle.st_runtime.specs.Logs.{carried_by, IsOwnPart, IsOtherPart, IsPart}
 use Rattle.st_runtime.proofs.PartLemmas.{touches_actor}
 use Rattle.st_runtime.proofs.StepLemmas.{reached_carried}
 
--- by cases on a test
+-- by cases on a test that holds
 pub on_true : (b : Bool) (P Q : Type 0) → b ≡ true → MatchBool b P Q → P
 on_true true P Q is m = m
 on_true false P Q is m = cc
@@ -31,8 +31,8 @@ own_of_part top r e m mine part =
     ap (λ p. pid_eq p (actor e.act)) mine ∙ pid_eq-same (actor e.act) in
     on_true (pid_eq r.pid (actor e.act)) _ _ is part.part
 
--- what the step's actor has done in an entry: it is there, its part is this, and it alone has its
--- pid
+-- what the step's actor has done in an entry: it is there, its part is `done`, and it alone has
+-- its pid
 pub record IsDone (top : ℕ) (e : Entry) (before : Process) (done : Acted) : Type 0 where
   pub mine : before.pid ≡ actor e.act
   pub acts : acted top before e.act ≡ Some done

@@ -1,4 +1,4 @@
--- The findings for one result of a call on lent processes exclude those for the others: so each
+-- The findings for one result of an act on lent processes exclude those for the others, so each
 -- refusal comes exactly if its reason holds.
 use Rattle.std.proofs.Common.{◌≡◌, ℕ, ◌+◌, ◌≤◌, true, false, max, List, [], ◌∷◌, Option, Some}
 use Rattle.std.proofs.Common.{option_map, refl, sym, ◌∙◌, ap, subst, arith}
@@ -34,7 +34,7 @@ lent_err top ranks a xs ys (Err fault.ClockFull) is = is.1
 lent_err top ranks a xs ys (Err fault.RankFull) is = is.1
 lent_err top ranks a xs ys (Err fault.Memory) is = is.1
 
--- a step excludes that there is none
+-- if there is a step, it isn't missing
 no_step : (top : ℕ) (a : Act) (xs : List Control) → IsSome (step top (lent_state xs) a)
     → ¬ FindsClockFull top a xs
 no_step top a xs steps none = let bad = subst IsSome none steps in cc
@@ -69,7 +69,7 @@ finds_step top ranks a xs last n steps greatest next within = record {
   rank = λ full. omega (arith, greatest, next, within, full);
 }
 
--- whatever is made of it, there is a value if there was one
+-- a mapped option has a value if the option had one
 map_some : {A B : Type 0} (f : A → B) (o : Option A) (x : A) → o ≡ Some x → IsSome (option_map f o)
 map_some f o x is = rw is refl
 
@@ -129,7 +129,7 @@ between_steps top x y v done apart acts =
 
 -- ---- under locks, whose refusals are those of the call
 
--- what the act returned is what the call did
+-- the act's result is that of the call
 pub record IsTold (r : Result Reply PcbFault) (q : Result Reply ActFault) : Type 0 where
   pub ok : IfOk q (λ y. r ≡ Ok y)
   pub err : IfErr q (λ f. (refusal : PcbFault) × (r ≡ Err refusal))
@@ -166,7 +166,7 @@ held_step top ranks a AreOwn xs ys r q own is told =
       rank = (λ full. (own, rank.0 (told.rank.0 full)), λ both. told.rank.1 (rank.1 both.1));
     }
 
--- the locks held others
+-- the locks held other processes
 pub held_stray : (top ranks : ℕ) (a : Act) (AreOwn : Type 0) (xs ys : List Control)
     → ¬ AreOwn → AreSame xs ys → IsHeldStep top ranks a AreOwn xs ys (Err act_fault.Stray)
 held_stray top ranks a AreOwn xs ys others same = record {

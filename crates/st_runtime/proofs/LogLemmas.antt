@@ -1,4 +1,4 @@
--- A log with one legal entry of a greater rank more keeps what its type keeps, since those before
+-- A log with one more legal entry of a greater rank keeps the invariant, since the entries before
 -- stay as they are.
 use Rattle.std.proofs.Common.{◌≡◌, ℕ, ◌<◌, ◌≤◌, List, [], ◌∷◌, ◌++◌, length, refl, sym, subst}
 use Rattle.std.proofs.Common.{arith}
@@ -34,7 +34,7 @@ pub record IsNext (ranks : ℕ) (log : List Entry) (n : ℕ) : Type 0 where
   pub above : last_rank 0 log < n
   pub within : n ≤ ranks
 
--- a legal entry with such a rank
+-- the invariant holds after a legal entry with such a rank
 kept_push : (top ranks : ℕ) (r : Process) (log : List Entry) (e : Entry) (s : Process)
     → IsFromLog top ranks r log → IsPart top r e s → IsNext ranks log e.rank
     → IsFromLog top ranks s (log ++ e ∷ [])
@@ -48,7 +48,7 @@ kept_push top ranks r log e s kept part next =
           (sym (part_pid top r e s part)) led;
     }
 
--- the same inside, if the queue is what it is afterwards
+-- the fields keep their invariant, if the queue is the one after the entry
 pub inside_push : (top ranks : ℕ) (p : Pid) (l : LocalState) (boxes : List (List Message))
     (log : List Entry)
     (e : Entry) (m : LocalState) (boxes' : List (List Message))

@@ -1,4 +1,5 @@
--- Membership in a list, by recursion, lists of entries in order, and processes whose pids rise.
+-- Lemmas on membership in a list, by recursion, on lists of entries in order, and on processes
+-- whose pids rise.
 use Rattle.std.proofs.Common.{◌≡◌, ℕ, zero, suc, ◌<◌, List, [], ◌∷◌, length, get_or, Bool, true}
 use Rattle.std.proofs.Common.{false, cond, map, refl, sym, ap, ◌∙◌, subst, arith, inl, inr, ⊎_elim}
 use Rattle.std.proofs.Common.{◌⊎◌, ◌||◌, ◌++◌, take, set, ◌≤◌}
@@ -166,7 +167,7 @@ tail_in x y xs ys e same a i j =
     (λ first. absurd (before_irreflexive x (subst (IsBefore x) (first ∙ sym same) (a.0 e i))))
     (λ later. later) j
 
--- two lists in order with the same elements are one
+-- two lists in order with the same elements are equal
 pub same_list : (xs ys : List Entry) → IsOrdered xs → IsOrdered ys
     → ((e : Entry) → In e xs → In e ys)
     → ((e : Entry) → In e ys → In e xs) → xs ≡ ys
@@ -188,7 +189,7 @@ got_at [] i x d at = absurd (cc)
 got_at (y ∷ ys) zero x d at = (omega arith, same_Some y x at)
 got_at (y ∷ ys) (suc i) x d at = let rest = got_at ys i x d at in (omega (arith, rest.0), rest.1)
 
--- what is taken whole
+-- to take at least all items takes the whole list
 pub take_past : {X : Type 0} (n : ℕ) (xs : List X) → length xs ≤ n → take n xs ≡ xs
 take_past zero [] h = refl
 take_past zero (x ∷ xs) h = absurd (omega arith)
@@ -199,7 +200,7 @@ pub All-past : {X : Type 0} (P : X → Type 0) (n : ℕ) (xs : List X) → lengt
     → All P (take n xs) → All P xs
 All-past P n xs h all = subst (All P) (take_past n xs h) all
 
--- a write that f doesn't see
+-- a write that f doesn't see leaves the mapped list as it was
 pub map-set_same : {X Y : Type 0} (f : X → Y) (xs : List X) (i : ℕ) (x z : X) → z ≡ get_or xs i z
     → f x ≡ f z
     → map f (set xs i x) ≡ map f xs
@@ -226,7 +227,7 @@ pub Ascends-from_rising : (ps : List Control) → IsRising (pids_in ps) → Asce
 Ascends-from_rising [] up = tt
 Ascends-from_rising (p ∷ ps) up = (below_each p.process.pid ps up.0, Ascends-from_rising ps up.1)
 
--- who is among the pids is one of the processes
+-- a pid that is among the pids is that of a process
 pub among_in : (q : Pid) (ps : List Control) → is_among (pids_in ps) q ≡ true
     → (y : Control) × (In y ps × (y.process.pid ≡ q))
 among_in q [] h = absurd (cc)

@@ -1,5 +1,5 @@
--- An entry is legal for a process by the machine's own parts, which the calls on that process
--- answered.
+-- An entry is legal for a process, since the calls on the process returned the machine's own
+-- parts.
 use Rattle.std.proofs.Common.{◌≡◌, ℕ, Bool, true, false, ◌&&◌, ◌==◌, List, Option}
 use Rattle.std.proofs.Common.{Some, None, option_map, refl, sym, ◌∙◌, ap}
 use Rattle.std.specs.Prelude.{MatchBool}
@@ -36,7 +36,7 @@ pub match_test : (b : Bool) (P Q : Type 0) → (b ≡ true → P) → (b ≡ fal
 match_test true P Q p q = p refl
 match_test false P Q p q = q refl
 
--- WHOSE A PROCESS IS
+-- THE PID OF A PROCESS
 
 node_same : (p : Pid) → node_eq p p ≡ true
 node_same p = left (p.node == p.node) _ (pid_eq-same p)
@@ -52,7 +52,7 @@ touches_actor (act.Reset p) = node_same p
 touches_actor (act.Tracer p b) = node_same p
 touches_actor a = pid_eq-same (actor a)
 
--- no part changes whose process it is
+-- no part changes the pid of a process
 pub part_pid : (top : ℕ) (r : Process) (e : Entry) (m : Process) → IsPart top r e m → m.pid ≡ r.pid
 part_pid top r e m part =
     elim (pid_eq r.pid (actor e.act)) as (λ b.
@@ -72,7 +72,7 @@ own_is_part top r e s mine own = record {
       own;
 }
 
--- the entry of an act that tells this
+-- the entry of an act with the given report, reply and token
 abbrev pub entry_of : ℕ → Act → Told → Option Token → Entry
 entry_of n a told carried = record {
   rank = n;

@@ -1,4 +1,4 @@
--- A pid that is found is among the pids, and one that is missing from a search isn't.
+-- A search of pids finds a pid exactly if it is among them.
 use Rattle.std.proofs.Common.{◌≡◌, ℕ, true, false, List, length, get_or, refl, sym, ◌∙◌, ap}
 use Rattle.std.proofs.Common.{is_some, Option, Some, None, IfNone, IfSome, Result, Ok, Err}
 use Rattle.std.specs.List.{AllByRecursion}
@@ -28,7 +28,7 @@ found_from_search ps x (Ok i) within found =
     slice_get-get_or ps i x within ∙ ap (λ y. Some y) (pid_cmp-Equal (get_or ps i x) x (found x))
 found_from_search ps x (Err i) within found = tt
 
--- pids that are not told apart
+-- pids that don't compare as different are equal
 pub same_unless : (p q : Pid) → not (pid_eq p q) ≡ false → p ≡ q
 same_unless p q alike =
     elim (pid_eq p q) as (λ b. pid_eq p q ≡ b → not b ≡ false → p ≡ q) [
@@ -36,7 +36,7 @@ same_unless p q alike =
       | false ↦ λ is alike. absurd (cc)
     ] refl alike
 
--- pids that are told apart
+-- pids that compare as different aren't equal
 pub apart_if : (p q : Pid) → not (pid_eq p q) ≡ true → ¬ (p ≡ q)
 apart_if p q apart same =
     let alike : pid_eq p q ≡ true = ap (λ x. pid_eq x q) same ∙ pid_eq-refl q in

@@ -1,5 +1,5 @@
--- An act more makes the acts of its own process longer by it, and those of no other. So if it comes
--- next in that process's script, the acts of each process stay the first of its script.
+-- One more act adds to the acts of its own process, and to those of no other. So if it comes next
+-- in its process's script, the acts of each process stay the first ones of its script.
 use Rattle.std.proofs.Common.{◌≡◌, ◌∙◌, ℕ, ◌+◌, ◌<◌, Bool, true, false, cond, List, [], ◌∷◌}
 use Rattle.std.proofs.Common.{◌++◌, length, map, take, get_or, set, sym, ap, subst, arith, Some}
 use Rattle.std.proofs.Common.{⊎_elim}
@@ -18,7 +18,7 @@ use Rattle.st_runtime.specs.Joining.{AreEnded}
 use Rattle.st_runtime.proofs.Members.{got_at}
 use Rattle.st_runtime.proofs.Passing.{false_unless, one_place}
 
--- the acts of each process among these are the first of its script, as many as were made
+-- each process's acts are the first ones of its script, as many as were made
 abbrev pub AreBegun : List Pid → List Act → List ℕ → List (List Act) → Type 0
 AreBegun ps acts made scripts = (i : ℕ) → i < length ps → (q : Pid)
     → acts_by (get_or ps i q) acts ≡ take (get_or made i 0) (get_or scripts i [])

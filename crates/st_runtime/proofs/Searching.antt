@@ -1,4 +1,4 @@
--- Keys that rise are at one place each, so that a binary search by a key finds it.
+-- Each rising key is at one place, so a binary search by a key finds it.
 use Rattle.std.proofs.Common.{◌≡◌, ℕ, zero, suc, ◌<◌, ◌≤◌, List, [], ◌∷◌, length, map, get_or, Some}
 use Rattle.std.proofs.Common.{◌∙◌, ap, subst, arith, Result, Ok, Err, ⊎_elim}
 use Rattle.std.specs.Prelude.{Contains, slice_get, IfSome}
@@ -117,7 +117,7 @@ process_found xs p (Ok i) within found =
     )
 process_found xs p (Err i) within found = tt
 
--- the same of the pids alone
+-- a pid that a binary search of the pids finds
 pub pids_found : (xs : List Control) (p : Pid) (r : Result ℕ ℕ)
     → IsSearchInRange r (length xs)
     → IsBinarySearchResult (λ (x : Control). pid_cmp x.process.pid p) xs r

@@ -1,5 +1,5 @@
--- A send's entry is legal for both: its sender by its own part, its receiver since the carried
--- token was stamped.
+-- A send's entry is legal for both processes: for the sender by its own part, and for the receiver
+-- since the sender stamped the carried token.
 use Rattle.std.proofs.Common.{◌≡◌, ℕ, false, ◌++◌, List, [], ◌∷◌, length, set, Option, refl, sym}
 use Rattle.std.proofs.Common.{◌∙◌, ap, subst, arith}
 use Rattle.std.specs.Option.{ForSome}

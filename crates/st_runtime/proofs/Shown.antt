@@ -1,4 +1,4 @@
--- The streams that logs tell of can be collected, as those of all acts that show streams by rising
+-- The streams that logs tell of can be collected, as can the streams that any acts show by rising
 -- pid.
 use Rattle.std.proofs.Common.{ℕ, List, map, sym, subst}
 use Rattle.st_core.specs.Pid.{IsRising}

@@ -1,5 +1,5 @@
--- The machine's step on the lent processes alone is their parts side by side, since the act's
--- processes are all there.
+-- The machine's step on the lent processes alone is their parts side by side, since all processes
+-- of the act are there.
 use Rattle.std.proofs.Common.{◌≡◌, ◌≢◌, ℕ, ◌+◌, true, false, cond, max, [], ◌∷◌, ◌++◌, Option, Some}
 use Rattle.std.proofs.Common.{option_map, refl, sym, ◌∙◌, ap, arith}
 use Rattle.st_core.specs.declared.types.Pid.{Pid}
@@ -93,7 +93,7 @@ step_between top x y v apart =
     let second : process (x ∷ y ∷ []) y.pid ≡ Some y = rw (apart, pid_eq-same y.pid) refl in
     step_is top (x ∷ y ∷ []) (act.Send x.pid y.pid v) x y (found_first x (y ∷ []) x.pid refl) second
 
--- the same entry at the end of both logs
+-- both logs get the same entry at their ends
 pub record AreLogged (x y z w : Control) (e : Entry) : Type 0 where
   pub rank : e.rank ≡ max (last_rank 0 x.log) (last_rank 0 y.log) + 1
   pub from : z.log ≡ x.log ++ e ∷ []

@@ -1,4 +1,4 @@
--- Each job ends as its worker's promise says.
+-- Each job ends as its worker's contract says.
 use Rattle.std.proofs.Common.{◌≡◌, ℕ, suc, ◌<◌, List, [], ◌∷◌, length, map, get_or, refl, ap}
 use Rattle.std.proofs.Common.{subst, arith, ◌≢◌, ◌↔◌, ◌∙◌, sym, Bool, true, false}
 use Rattle.std.proofs.Common.{Result, Ok, Err, Option, Some, IfOk}
@@ -41,7 +41,7 @@ all_left system job pids (h ∷ hs) (t ∷ ts) (o ∷ os) even of each =
           (λ i d below. each (suc i) d (omega arith)),
     )
 
--- none of them was told to stop
+-- if no worker was told to stop, all left the endings of their jobs
 pub all_worked : (pids : List Pid) (ts : List Job) (es : List Ending)
     → AllZip (LeavesEnding pids) ts (map (λ e. Some e) es) → AllZip (IsWorked pids) ts es
 all_worked pids [] [] left = tt
@@ -69,7 +69,7 @@ known_unless : (b : Bool) → ¬ (b ≡ false) → b ≡ true
 known_unless true h = refl
 known_unless false h = absurd (h refl)
 
--- an act that was refused neither as another's nor as unknown
+-- an act that wasn't refused as another's or as unknown is the process's own
 pub own_act : (pids : List Pid) (p : Pid) (a : Act) (r : Result Reply ActFault)
     → (r ≡ Err fault.NotYours) ↔ (actor a ≢ p)
     → (r ≡ Err fault.Unknown) ↔ ((actor a ≡ p) × (knows pids a ≡ false))

@@ -1,4 +1,4 @@
--- Scripts that are driven: what a record of them says, and what each refusal says of them.
+-- Driving scripts: what a record says of the scripts, and what each refusal says of them.
 use Rattle.std.specs.Prelude.{◌≡◌, ◌≢◌, ◌↔◌, ℕ, ◌<◌, true, false, List, map, filter, length, sum_by}
 use Rattle.std.specs.Prelude.{count_by, All, zip, take, slice_get, Some}
 use Rattle.st_core.specs.declared.types.Pid.{Pid}
@@ -19,12 +19,12 @@ use Rattle.st_runtime.specs.Pcb.{Control, IsFromLog}
 use Rattle.st_runtime.specs.Pieces.{pids_in, AreWhole}
 use Rattle.st_runtime.specs.System.{knows, is_stamping}
 
--- the acts of p among these, in order
+-- the acts that p makes, in order
 abbrev pub acts_by : Pid → List Act → List Act
 acts_by p acts = filter (λ a. pid_eq (actor a) p) acts
 
--- There are logs of exactly these processes, each such as a lock keeps it, whose distinct entries
--- by rising rank and actor are the record's acts. The record is one run of the machine, and each
+-- The record comes from logs of exactly the given processes, which their locks kept: its acts are
+-- the logs' distinct entries by rank and then actor. It is one run of the machine, and each
 -- process's acts in it are its script.
 pub record IsDriven (top ranks : ℕ) (pids : List Pid) (scripts : List (List Act))
     (r : Record) : Type 0 where
@@ -43,21 +43,22 @@ pub record IsDriven (top ranks : ℕ) (pids : List Pid) (scripts : List (List Ac
   pub listed : pids_of r.streams ≡ pids
   pub made : map (λ p. acts_by p r.acts) pids ≡ scripts
 
--- how many acts scripts hold
+-- the number of acts in scripts
 abbrev pub acts_in : List (List Act) → ℕ
 acts_in scripts = sum_by (λ script. length script) scripts
 
--- how many acts of scripts stamp a token if there is one
+-- the number of acts in scripts that stamp a token, if there is one
 abbrev pub stamps_in : List (List Act) → ℕ
 stamps_in scripts = sum_by (λ script. count_by is_stamping script) scripts
 
--- p may make the act in a system of these pids
+-- p may make the act in a system with the given pids: it is p's own, and names only processes of
+-- the system
 pub record IsOwn (pids : List Pid) (p : Pid) (a : Act) : Type 0 where
   pub mine : actor a ≡ p
   pub known : knows pids a ≡ true
 
--- Act n of p's script is refused so in a system of these pids: NotYours and Unknown exactly if they
--- hold, and for no act before it.
+-- Act n of p's script is refused in a system with the given pids. NotYours and Unknown come
+-- exactly if they hold, and hold for no act of the script before it.
 pub record IsRefused (pids : List Pid) (p : Pid) (script : List Act) (n : ℕ)
     (f : ActFault) : Type 0 where
   pub asked : Act
@@ -67,8 +68,8 @@ pub record IsRefused (pids : List Pid) (p : Pid) (script : List Act) (n : ℕ)
   pub clock : f ≡ act.ClockFull → is_stamping asked ≡ true
   pub before : All (IsOwn pids p) (take n script)
 
--- A full clock or rank takes more acts than it counts to. Memory that runs out is a fault of its
--- own.
+-- The scripts have enough acts for the refusal: to fill a clock or a rank takes more acts than it
+-- counts to. If memory runs out, the drive itself fails.
 abbrev pub IsPossible : ℕ → ℕ → List (List Act) → ActFault → Type 0
 IsPossible top ranks scripts act.NotYours = Unit {0}
 IsPossible top ranks scripts act.Unknown = Unit {0}
@@ -77,8 +78,7 @@ IsPossible top ranks scripts act.ClockFull = top < stamps_in scripts
 IsPossible top ranks scripts act.RankFull = ranks < acts_in scripts
 IsPossible top ranks scripts act.Memory = ⊥
 
--- Act n of p's script was refused. p is the least whose script was: a process before it may make
--- each act of its own.
+-- Act n of p's script was refused, and each process before p may make every act of its own script.
 pub record IsWorkerFault (top ranks : ℕ) (pids : List Pid) (scripts : List (List Act)) (p : Pid)
     (n : ℕ) (f : ActFault)
     : Type 0 where
@@ -89,7 +89,7 @@ pub record IsWorkerFault (top ranks : ℕ) (pids : List Pid) (scripts : List (Li
   pub possible : IsPossible top ranks scripts f
   pub before : All (λ t. All (IsOwn pids t.0) t.1) (take number (zip pids scripts))
 
--- when scripts aren't driven: NotRising exactly if the pids don't rise
+-- the reason why scripts aren't driven; NotRising exactly if the pids don't rise
 abbrev pub IsDriveFault : ℕ → ℕ → List Pid → List (List Act) → DriveFault → Type 0
 IsDriveFault top ranks pids scripts fault.Memory = IsRising pids
 IsDriveFault top ranks pids scripts (fault.Act p n f) =

@@ -1,4 +1,4 @@
--- The inside of a Pcb, and how each of its steps changes it.
+-- The fields of a `Pcb`, and how each of its acts changes it.
 use Rattle.std.specs.Prelude.{◌≡◌, ℕ, ◌+◌, List, [], ◌∷◌, ◌++◌, length}
 use Rattle.st_core.specs.declared.types.Pid.{Pid}
 use Rattle.st_core.specs.declared.types.Message.{Message}
@@ -12,7 +12,8 @@ use Rattle.st_log.specs.Entries.{last_rank}
 use Rattle.st_runtime.specs.Logs.{IsOwnPart}
 use Rattle.st_runtime.specs.Pcb.{Control, IsFromLog}
 
--- the queue is the one box, each token in it can be met, and the process is what the log gives
+-- the invariant of the fields: the queue is the only box, each token in it can be met, and the log
+-- gives the process's state
 pub record IsInside (top ranks : ℕ) (p : Pid) (l : LocalState) (boxes : List (List Message))
     (log : List Entry)
     : Type 0 where

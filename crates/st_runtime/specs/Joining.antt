@@ -1,5 +1,5 @@
--- The steps of joining: where an entry is, the least pid that isn't seated, and what is read out of
--- the logs.
+-- The steps of joining: finding an entry, finding the least pid that isn't seated, and reading
+-- acts, replies and streams out of the logs.
 use Rattle.std.specs.Prelude.{◌≡◌, ℕ, ◌<◌, Bool, MatchBool, List, [], length, map, Option, Some}
 use Rattle.std.specs.Prelude.{None}
 use Rattle.std.specs.Prelude.{if◌then◌else◌, slice_index_or, All, Contains, IfSome}
@@ -18,30 +18,31 @@ use Rattle.st_runtime.specs.Joined.{IsMerged, IsOneRun, streams_of}
 use Rattle.st_runtime.specs.Pcb.{Control, IsFromLog}
 use Rattle.st_runtime.specs.Pieces.{pids_in, AreWhole, Parts, IsSeated}
 
--- the process of this pid is there and has the entry
+-- there is a process with pid p that has the entry
 pub record HasAt (xs : List Control) (p : Pid) (e : Entry) : Type 0 where
   pub control : Control
   pub among : Contains xs control
   pub pid : control.process.pid ≡ p
   pub has : Contains control.log e
 
--- the pids rise, and the process of this one has the entry
+-- the pids rise, and there is a process with pid p that has the entry
 pub record IsInLogOf (xs : List Control) (p : Pid) (e : Entry) : Type 0 where
   pub rising : IsRising (pids_in xs)
   pub here : HasAt xs p e
 
--- true if this holds, false if it doesn't
+-- b says whether the statement holds
 abbrev pub IsWhether : Bool → Type 0 → Type 0
 IsWhether b Holds = MatchBool b Holds (¬ Holds)
 
--- the least, if there is one, isn't seated, and each of these pids that is below it is
+-- the least pid, if there is one, isn't seated, and each pid of the items that is below it is; if
+-- there is none, all are
 pub record IsLeastUnseated {X : Type 0} (pid_of : X → Pid) (pieces : Parts) (xs : List X)
     (least : Option Pid)
     : Type 0 where
   pub unseated : IfSome least (λ p. ¬ IsSeated pieces p)
   pub before : All (λ x. IfSome least (IsBelow (pid_of x)) → IsSeated pieces (pid_of x)) xs
 
--- the lesser of two pids, if there are two
+-- the lesser of two pids, or the only one
 abbrev pub lesser : Option Pid → Pid → Option Pid
 lesser None p = Some p
 lesser (Some q) p = if is_lt (pid_cmp p q) then Some p else Some q
@@ -59,20 +60,20 @@ pub record IsLogged (top : ℕ) (xs : List Control) (r : Record) : Type 0 where
 abbrev pub referred : Bor Logged × ℕ → Entry
 referred r = entry_at r.0.now.entries r.1
 
--- the log has n entries
+-- the log has an entry at the place
 abbrev pub IsThere : Bor Logged × ℕ → Type 0
 IsThere r = r.1 < length r.0.now.entries
 
--- the report of p in an entry, if it is p's own and has one
+-- the report of an entry, if the entry is p's own and has one
 abbrev pub report_at : Pid → Entry → Option Event
 report_at p e = if pid_eq (actor e.act) p then e.report else None
 
--- each of the first n scripts has as many acts as were made
+-- in each of the first n scripts all acts were made
 abbrev pub AreEnded : List ℕ → List (List Act) → ℕ → Type 0
 AreEnded made scripts n = (i : ℕ) → i < n
     → slice_index_or made i 0 ≡ length (slice_index_or scripts i [])
 
--- the record is that of whole logs that locks kept, in which each process made its script
+-- the record is that of whole logs from locks, and in it each process made its script
 pub record IsScripted (top ranks : ℕ) (xs : List Control) (scripts : List (List Act)) (r : Record)
     : Type 0 where
   pub whole : AreWhole xs

@@ -1,5 +1,5 @@
--- The outcome of a call on lent processes: a step or the reason that there is none, and what an act
--- of a whole node does to one of them.
+-- The outcome of an act on lent processes: a step or the reason that there is none, and the part
+-- of an act of a whole node at one of them.
 use Rattle.std.specs.Prelude.{◌≡◌, ◌≢◌, ℕ, ◌-◌, ◌<◌, ◌≤◌, true, List, [], ◌∷◌, ◌++◌, option_map}
 use Rattle.std.specs.Prelude.{Some, None, IsSome, Result, Ok, Err}
 use Rattle.st_core.specs.declared.types.Act.{Act}
@@ -12,16 +12,16 @@ use Rattle.st_log.specs.declared.entry.Entry.{Entry}
 use Rattle.st_log.specs.Entries.{is_wide, last_rank}
 use Rattle.st_runtime.specs.Pcb.{Control, IsSame, IsStepped, greatest_rank, lent_state}
 
--- the act has no step on these processes, its own, since the actor's clock is full
+-- the act has no step on the lent processes, which are its own, since the actor's clock is full
 abbrev pub FindsClockFull : ℕ → Act → List Control → Type 0
 FindsClockFull top a xs = step top (lent_state xs) a ≡ None
 
--- the act has a step on these processes, and the greatest rank is in their logs
+-- the act has a step on the lent processes, and the greatest rank is in their logs
 pub record FindsRankFull (top ranks : ℕ) (a : Act) (xs : List Control) : Type 0 where
   pub steps : IsSome (step top (lent_state xs) a)
   pub full : greatest_rank xs ≡ ranks
 
--- the act has a step on these processes, and the greatest rank isn't in their logs
+-- the act has a step on the lent processes, and the greatest rank isn't in their logs
 pub record FindsStep (top ranks : ℕ) (a : Act) (xs : List Control) : Type 0 where
   pub steps : IsSome (step top (lent_state xs) a)
   pub rank : greatest_rank xs ≢ ranks
@@ -32,8 +32,8 @@ AreSame [] [] = Unit {0}
 AreSame (x ∷ xs) (y ∷ ys) = IsSame x y × AreSame xs ys
 AreSame xs ys = ⊥
 
--- The outcome of a call that steps lent processes. What it finds for one result excludes what it
--- finds for another, so each refusal comes exactly if its reason holds.
+-- The outcome of a call that steps lent processes. The findings for one result exclude those for
+-- any other, so each refusal comes exactly if its reason holds.
 abbrev pub IsLentStep : ℕ → ℕ → Act → List Control → List Control
     → Result Reply PcbFault → Type 0
 IsLentStep top ranks a before after (Ok y) =
@@ -57,7 +57,7 @@ pub record IsNodeEntry (top ranks : ℕ) (x : Control) (e : Entry) : Type 0 wher
   pub report : e.report ≡ None
   pub carried : e.carried ≡ None
 
--- x after an act of its whole node, with the act's entry in its log
+-- x after an act of its whole node, with the entry at the end of its log
 abbrev pub with_node_entry : Entry → Control → Control
 with_node_entry e x = record {
   process = reached e.act None x.process;

@@ -1,5 +1,5 @@
--- Logs: what an entry does to one process, and the record that a log gives its process. The parts
--- are the step's.
+-- What an entry does to one process, and the state that a log gives its process. The parts of the
+-- machine's step are `st_core`'s.
 use Rattle.std.specs.Prelude.{◌≡◌, ℕ, ◌<◌, true, List, [], ◌∷◌, Option, Some, None, MatchBool}
 use Rattle.std.specs.Option.{ForSome}
 use Rattle.st_core.specs.declared.types.Pid.{Pid}
@@ -12,18 +12,18 @@ use Rattle.st_core.specs.Step.{Acted, acted, actor, touches, reached, changed}
 use Rattle.st_core.specs.Laws.{IsStamped}
 use Rattle.st_log.specs.declared.entry.Entry.{Entry}
 
--- what an act's message carries, if its actor's token is now this: no act but a send carries a
--- token
+-- the token that an act's message carries, if the actor's token is the given one afterwards; only
+-- a send carries a token
 abbrev pub carried_by : Act → Option Token → Option Token
 carried_by (act.Send p q v) token = token
 carried_by a token = None
 
--- what another process than the actor knows of it: a carried token was stamped by the sender
+-- what a process that isn't the actor knows of a carried token: the sender stamped it
 abbrev pub IsCarried : ℕ → Act → Option Token → Type 0
 IsCarried top (act.Send p q v) carried = ForSome carried (IsStamped top p)
 IsCarried top a carried = carried ≡ None
 
--- the actor's part: r becomes s, and the entry tells what comes out
+-- the actor's part: r becomes s, with the reply, the report and the carried token of the entry
 pub record IsOwnPart (top : ℕ) (r : Process) (e : Entry) (s : Process) : Type 0 where
   pub done : Acted
   pub acts : acted top r e.act ≡ Some done
@@ -32,13 +32,12 @@ pub record IsOwnPart (top : ℕ) (r : Process) (e : Entry) (s : Process) : Type 
   pub carried : carried_by e.act done.local.token ≡ e.carried
   pub after : changed e.act done r ≡ s
 
--- the part of another process that the act touches: a send's receiver, or a process of the actor's
--- node
+-- the part of a process that isn't the actor: a send's receiver, or a process of the actor's node
 pub record IsOtherPart (top : ℕ) (r : Process) (e : Entry) (s : Process) : Type 0 where
   pub carried : IsCarried top e.act e.carried
   pub after : reached e.act e.carried r ≡ s
 
--- the entry touches r and is legal for it, and s is what it leaves
+-- the entry touches r and is legal for it, and r becomes s
 pub record IsPart (top : ℕ) (r : Process) (e : Entry) (s : Process) : Type 0 where
   pub touched : touches e.act r.pid ≡ true
   pub part : MatchBool (pid_eq r.pid (actor e.act)) (IsOwnPart top r e s) (IsOtherPart top r e s)
@@ -52,7 +51,7 @@ LeadTo top r (e ∷ es) s = (m : Process) × IsPart top r e m × LeadTo top m es
 abbrev pub zero_process : Pid → Process
 zero_process p = record { pid = p; local = zero_local; queue = [] }
 
--- r is what the log gives its process
+-- the log leads from the start of the process to r
 abbrev pub IsLocal : ℕ → Process → List Entry → Type 0
 IsLocal top r log = LeadTo top (zero_process r.pid) log r
 

@@ -1,4 +1,4 @@
--- A process under its lock as contracts see it, and the calls on lent ones.
+-- A process under its lock as contracts see it, and the acts on lent processes.
 use Rattle.std.specs.Prelude.{◌≡◌, ◌≢◌, ℕ, ◌+◌, ◌≤◌, Bool, true, false, List, [], ◌∷◌, ◌++◌, map}
 use Rattle.std.specs.Prelude.{max, Option, Some}
 use Rattle.st_core.specs.declared.types.Pid.{Pid}
@@ -12,19 +12,20 @@ use Rattle.st_log.specs.declared.entry.Entry.{Entry}
 use Rattle.st_log.specs.Entries.{last_rank}
 use Rattle.st_runtime.specs.Logs.{IsLocal, RanksRise}
 
--- a process, its log, and for how many more entries the log has room
+-- a process, its log, and the number of further entries for which the log has room
 pub record Control : Type 0 where
   pub process : Process
   pub log : List Entry
   pub spare : ℕ
 
--- what the type keeps: ranks rise strictly from 1 to RANKS, and the process is what its log gives
+-- the invariant of `Pcb`: ranks rise strictly from 1 to RANKS, and the log gives the process's
+-- state
 pub record IsFromLog (top ranks : ℕ) (r : Process) (log : List Entry) : Type 0 where
   pub rises : RanksRise 0 log
   pub within : last_rank 0 log ≤ ranks
   pub local : IsLocal top r log
 
--- all is the same but for room
+-- process and log are the same; only room may differ
 pub record IsSame (x y : Control) : Type 0 where
   pub process : y.process ≡ x.process
   pub log : y.log ≡ x.log
@@ -33,18 +34,19 @@ pub record IsSame (x y : Control) : Type 0 where
 abbrev pub lent_state : List Control → State
 lent_state xs = map (λ x. x.process) xs
 
--- the greatest rank in their logs, 0 if these are empty
+-- the greatest rank in the logs, 0 if all are empty
 abbrev pub greatest_rank : List Control → ℕ
 greatest_rank [] = 0
 greatest_rank (x ∷ xs) = max (last_rank 0 x.log) (greatest_rank xs)
 
--- the outcome of a step that leaves this entry and these processes
+-- the outcome of a step with the entry's reply and report, after which the processes are the given
+-- ones
 abbrev pub entry_outcome : Entry → Option ℕ → List Control → Outcome
 entry_outcome e place after =
     record { reply = e.reply; report = e.report; place = place; after = lent_state after }
 
--- the machine's step on the lent processes alone, and the same entry at the end of each of their
--- logs
+-- the lent processes make the machine's step, and each of their logs gets the same entry at its
+-- end
 pub record IsStepped (top : ℕ) (a : Act) (y : Reply) (before after : List Control) : Type 0 where
   pub entry : Entry
   pub place : Option ℕ

@@ -1,5 +1,5 @@
--- The pieces of a system that ran: its processes with their logs, and the seats. When they fit, and
--- what does not fit first.
+-- The pieces of a system that ran: its processes with their logs, and the seats. When they fit,
+-- and what fails to fit first.
 use Rattle.std.specs.Prelude.{◌≡◌, ℕ, true, List, [], ◌∷◌, ◌++◌, map, filter, Some, if◌then◌else◌}
 use Rattle.std.specs.Prelude.{All, Contains, take, slice_get}
 use Rattle.st_core.specs.declared.types.Pid.{Pid}
@@ -25,7 +25,7 @@ pids_in xs = map (λ x. x.process.pid) xs
 
 -- ---- entries
 
--- the process has the entry, if the entry touches it
+-- the process has the entry if the entry touches it
 abbrev pub HasIfTouched : Entry → Control → Type 0
 HasIfTouched e x = touches e.act x.process.pid ≡ true → Contains x.log e
 
@@ -39,7 +39,7 @@ pub record IsWholeEntry (xs : List Control) (e : Entry) : Type 0 where
 abbrev pub AreWhole : List Control → Type 0
 AreWhole xs = All (λ x. All (IsWholeEntry xs) x.log) xs
 
--- place i of p's log is the least, by pid and then place, whose entry isn't whole
+-- the entry at place i of p's log is the first, by pid and then place, that isn't whole
 pub record IsFirstMissing (xs : List Control) (p : Pid) (i : ℕ) : Type 0 where
   pub number : ℕ
   pub before : All (λ x. All (IsWholeEntry xs) x.log) (take number xs)
@@ -53,7 +53,7 @@ pub record IsFirstMissing (xs : List Control) (p : Pid) (i : ℕ) : Type 0 where
 
 -- ---- seats
 
--- the calls of p in entries: the acts of its own ones with their replies
+-- the calls of p in entries: p's own acts with their replies
 abbrev pub calls_of : Pid → List Entry → List (Act × Reply)
 calls_of p [] = []
 calls_of p (e ∷ es) =
@@ -67,27 +67,28 @@ seat_of x = record { pid = x.process.pid; mine = calls_of x.process.pid x.log }
 abbrev pub seats_at : List Calls → Pid → List Calls
 seats_at seats p = filter (λ s. pid_eq s.pid p) seats
 
--- the seats that the logs of p tell of: one, or none if p has no log
+-- the seats that logs tell of for p: one, or none if p has no log
 abbrev pub seats_told : List Control → Pid → List Calls
 seats_told xs p = map seat_of (filter (λ x. pid_eq x.process.pid p) xs)
 
--- p has the seat that its log tells of and no other, and none without a log
+-- p has only the seat that its log tells of, and none if it has no log
 abbrev pub IsSeated : Parts → Pid → Type 0
 IsSeated pieces p = seats_at pieces.seats p ≡ seats_told pieces.processes p
 
--- p is the least pid that isn't seated so
+-- p is the least pid that isn't seated
 pub record IsFirstUnseated (pieces : Parts) (p : Pid) : Type 0 where
   pub here : ¬ IsSeated pieces p
   pub before : (q : Pid) → IsBelow q p → IsSeated pieces q
 
--- ---- both
+-- ---- pieces that fit
 
 -- the pieces fit: their entries are whole, and each pid is seated
 pub record IsFit (pieces : Parts) : Type 0 where
   pub whole : AreWhole pieces.processes
   pub seated : (p : Pid) → IsSeated pieces p
 
--- when pieces aren't joined: a missing entry comes first, and memory lacks only for pieces that fit
+-- the reason why pieces aren't joined: a missing entry comes before a seat that differs, and
+-- memory runs out only for pieces that fit
 abbrev pub IsJoinFault : Parts → JoinFault → Type 0
 IsJoinFault pieces fault.Memory = IsFit pieces
 IsJoinFault pieces (fault.Missing p i) = IsFirstMissing pieces.processes p i

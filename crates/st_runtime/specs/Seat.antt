@@ -4,7 +4,8 @@ use Rattle.st_core.specs.declared.types.Pid.{Pid}
 use Rattle.st_core.specs.declared.types.Act.{Act}
 use Rattle.st_core.specs.declared.types.Reply.{Reply}
 
--- its process, and the acts that were accepted through it with their replies, in order
+-- the seat's process, and the acts that were accepted through the seat with their replies, in
+-- order
 pub record Calls : Type 0 where
   pub pid : Pid
   pub mine : List (Act × Reply)

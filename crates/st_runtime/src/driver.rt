@@ -1,4 +1,4 @@
-//! Scripts that are driven: one worker thread for each process, and the run that they made.
+//! Driving scripts: one worker thread for each process, and the run that they made.
 
 ghost use Rattle.std.specs.Prelude.{◌≡◌, ◌≢◌, ◌<◌, ◌≤◌, length, map, count_by, vec_len, All, IfOk};
 ghost use Rattle.std.specs.Prelude.{IfErr, IsFalse, Some, None, MatchOption};
@@ -21,7 +21,7 @@ use std::sync::Wait;
 use std::thread::Threads;
 
 /// Makes the acts of script k in the process of pid k, in order, each process in a thread of its
-/// own, and returns the one run that they made. It waits for locks and for the threads.
+/// own, and returns the one run that they made. Waits for locks and for the threads.
 ///
 /// `DriveFault` says when it fails.
 pub fn drive<const TOP: u64, const RANKS: u64, R: Threads + Wait + Sync, G: Gate + Sync>(
@@ -38,9 +38,9 @@ pub fn drive<const TOP: u64, const RANKS: u64, R: Threads + Wait + Sync, G: Gate
     drive_on::<TOP, RANKS, R, G>(rt, alloc, pids, scripts, gate, WORKER_STACK)
 }
 
-/// Does what `drive` does, each thread with a stack of this many bytes. An act of a whole node
-/// takes up to two kilobytes of it for each process of the node (`System::act`), and a thread whose
-/// stack is too small ends the program.
+/// Does what `drive` does, with stacks of `stack` bytes for the threads. An act of a whole node
+/// takes up to two kilobytes of stack for each process of the node (`System::act`), and a thread
+/// whose stack is too small ends the program.
 pub fn drive_on<const TOP: u64, const RANKS: u64, R: Threads + Wait + Sync, G: Gate + Sync>(
     rt: &R,
     alloc: Global,
@@ -72,7 +72,7 @@ pub fn drive_on<const TOP: u64, const RANKS: u64, R: Threads + Wait + Sync, G: G
     Ok(join_driven(rt, alloc, processes, scripts)?)
 }
 
-/// How many acts the scripts hold; the greatest count, if there are more.
+/// Returns the number of acts in the scripts, or the greatest `u64` if there are more.
 fn acts_in(scripts: &[Sequence<Act>]) -> u64
     ensures { result ≤ acts_in scripts.now }
 {
@@ -83,7 +83,8 @@ fn acts_in(scripts: &[Sequence<Act>]) -> u64
     total
 }
 
-/// How many acts of the scripts stamp a token; the greatest count, if there are more.
+/// Returns the number of acts in the scripts that stamp a token, or the greatest `u64` if there
+/// are more.
 fn stamps_in(scripts: &[Sequence<Act>]) -> u64
     ensures { result ≤ stamps_in scripts.now }
 {
@@ -94,14 +95,14 @@ fn stamps_in(scripts: &[Sequence<Act>]) -> u64
     total
 }
 
-/// How many acts of a script stamp a token.
+/// Returns the number of acts in a script that stamp a token.
 fn stamps_of(script: &[Act]) -> usize
     ensures { result ≡ count_by is_stamping script.now }
 {
     script.iter().filter(|act| is_stamping(act)).count()
 }
 
-/// Whether a worker ran out of memory.
+/// Returns whether a worker ran out of memory.
 fn lacks_memory(ends: &[Ending]) -> bool
     ensures { IsFalse result → All (λ end. end.fault ≢ Some ActFault.Memory) ends.now }
 {
@@ -113,8 +114,8 @@ fn lacks_memory(ends: &[Ending]) -> bool
     false
 }
 
-/// The refusal that the first of these workers met which met one: whose it is, at which act of its
-/// script, and why.
+/// Returns the refusal of the first worker that met one: its pid, the number of the act in its
+/// script, and the reason.
 fn first_refusal(ends: &[Ending]) -> Option<(Pid, u64, ActFault)>
     ensures { MatchOption result
         (All (λ end. end.fault ≡ None) ends.now)
@@ -128,7 +129,8 @@ fn first_refusal(ends: &[Ending]) -> Option<(Pid, u64, ActFault)>
     None
 }
 
-/// The refusal, or `Stray` in place of a full clock or rank that so few acts can't lead to.
+/// Returns the refusal, or `Stray` in place of a full clock or rank that the scripts have too few
+/// acts for.
 fn possible<const TOP: u64, const RANKS: u64>(fault: ActFault, acts: u64, stamps: u64) -> ActFault
     requires { fault ≢ ActFault.Memory }
     ensures memory { result ≢ ActFault.Memory }
@@ -144,7 +146,7 @@ fn possible<const TOP: u64, const RANKS: u64>(fault: ActFault, acts: u64, stamps
     }
 }
 
-/// The scripts that the workers gave back.
+/// Returns the scripts that the workers gave back.
 fn scripts_of(alloc: Global, ends: Vec<Ending>) -> Result<Vec<Sequence<Act>>, AllocError>
     ensures { IfOk result (λ v. v.items ≡ map (λ end. end.script) ends.items) }
 {

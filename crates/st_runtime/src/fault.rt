@@ -1,4 +1,4 @@
-//! Why a call fails. If it does, all is as it was, capacity aside.
+//! Why a call fails. After a failure all is as it was, but for room.
 
 ghost use Rattle.std.specs.Prelude.{◌≡◌};
 ghost use Rattle.st_runtime.specs.Working.{opening_fault, joining_fault};
@@ -7,7 +7,7 @@ use st_core::Pid;
 use std::alloc::AllocError;
 use thiserror::Error;
 
-/// Why a step call on lent processes was refused.
+/// Why an act on lent processes was refused.
 #[derive(Clone, Copy, Debug, PartialEq, Eq, Error)]
 pub enum PcbFault {
     /// Memory ran out for an entry or a message.
@@ -36,10 +36,10 @@ pub enum ActFault {
     /// The greatest rank is in a log already.
     #[error("a log has the greatest rank")]
     RankFull,
-    /// The actor isn't the seat's process. Looked at first.
+    /// The actor isn't the seat's process. Comes before all other refusals.
     #[error("the actor isn't the seat's process")]
     NotYours,
-    /// A lock that was taken holds another process than its own. No call leaves that.
+    /// A lock holds another process than its own, which no call leaves.
     #[error("a lock holds another process")]
     Stray,
 }
@@ -50,7 +50,7 @@ pub enum SystemFault {
     /// Memory ran out.
     #[error("no memory")]
     Memory,
-    /// The pids don't rise strictly. Looked at first.
+    /// The pids don't rise strictly. Comes before `Memory`.
     #[error("the pids don't rise")]
     NotRising,
 }
@@ -61,33 +61,33 @@ pub enum JoinFault {
     /// Memory ran out.
     #[error("no memory")]
     Memory,
-    /// The entry at this place of this process's log isn't in the log of each process that
-    /// its act touches. The least such place, by pid.
+    /// The entry at the place of the process's log isn't in the log of each process that its act
+    /// touches. It is the first such entry, by pid and then place.
     #[error("an entry isn't in the log of each process that its act touches")]
     Missing(Pid, u64),
-    /// The process has a seat and no log, not exactly one seat, or a seat that its log
-    /// doesn't tell of. The least such process.
+    /// The process has a seat and no log, not exactly one seat, or a seat whose calls aren't those
+    /// of its log. It is the least such process.
     #[error("a process hasn't the one seat that its log tells of")]
     SeatDiffers(Pid),
 }
 
-/// Why scripts aren't driven. The faults come in this order: `NotRising`, `Thread`, `Memory`,
-/// `Act`, `Join`; but if memory runs out before the threads start, it is `Memory` at once.
+/// Why scripts aren't driven. The faults come in the order `NotRising`, `Thread`, `Memory`, `Act`,
+/// `Join`; but if memory runs out before the threads start, it is `Memory` at once.
 #[derive(Clone, Copy, Debug, PartialEq, Eq, Error)]
 pub enum DriveFault {
-    /// Memory ran out, in a worker's act or in the join too.
+    /// Memory ran out, perhaps in a worker's act or in the join.
     #[error("no memory")]
     Memory,
-    /// The act with this number in this process's script was refused, and its worker stopped there.
+    /// The act with the number in the process's script was refused, and its worker stopped there.
     /// No process before it has an act in its script that is another's or that names an unknown
-    /// process; that none met a full clock or rank is only tested. A `ClockFull` or `RankFull` that
-    /// so few acts can't lead to is a `Stray` here.
+    /// process; that none met a full clock or rank is only tested. A `ClockFull` or `RankFull`
+    /// that the scripts have too few acts for is a `Stray` here.
     #[error("an act of a script was refused")]
     Act(Pid, u64, ActFault),
     /// The pieces don't fit, which no call leaves.
     #[error("the pieces don't fit")]
     Join(JoinFault),
-    /// A thread couldn't be started. Those that were started stopped at their next act.
+    /// A thread couldn't be started. The threads that were started stopped before their next act.
     #[error("a thread couldn't be started")]
     Thread,
     /// The pids don't rise strictly.

@@ -1,4 +1,4 @@
-//! The one run that pieces tell of.
+//! Joining pieces to the one run that they tell of.
 
 ghost use Rattle.std.specs.Prelude.{◌≡◌, length, map, vec_len, All, IfOk, IfErr, IfSome, OnOk};
 ghost use Rattle.st_core.specs.Pid.{IsRising};
@@ -33,11 +33,12 @@ use st_core::{Act, Reply, Sequence, Streams};
 use std::alloc::{AllocError, Global};
 use std::thread::{Threads, join};
 
-/// The record of what the threads did, exactly if the pieces fit: each entry is in the log of
-/// each process that its act touches, and each seat's calls are those of its process's log. The
-/// acts are not replayed. That they are a run of the machine follows from what the locks kept.
+/// Returns the record of the run that the threads made, exactly if the pieces fit: each entry is
+/// in the log of each process that its act touches, and each seat's calls are those of its
+/// process's log. The acts aren't replayed: that they are a run of the machine follows from what
+/// the locks kept.
 ///
-/// It fails with `Missing`, else with `SeatDiffers`, else with `Memory`.
+/// Fails with `Missing`, else with `SeatDiffers`, else with `Memory`.
 pub fn join_pieces<const TOP: u64, const RANKS: u64>(
     alloc: Global,
     pieces: &Pieces<TOP, RANKS>,
@@ -56,7 +57,7 @@ pub fn join_pieces<const TOP: u64, const RANKS: u64>(
     Ok(run_of_logs(alloc, processes, entries.as_slice())?)
 }
 
-/// Joins the logs that driven scripts left. The scripts are let go before streams and replies are
+/// Joins the logs that driven scripts left. Releases the scripts before streams and replies are
 /// read out, by a thread each.
 pub(crate) fn join_driven<const TOP: u64, const RANKS: u64, R: Threads + Sync>(
     rt: &R,
@@ -79,8 +80,8 @@ pub(crate) fn join_driven<const TOP: u64, const RANKS: u64, R: Threads + Sync>(
     Ok(run_by_threads(rt, alloc, processes, entries.as_slice(), acts)?)
 }
 
-/// The entries of all logs, each once and by rank and then actor, if one walk leads through all
-/// logs.
+/// Returns the entries of all logs, each once and by rank and then actor, if one walk leads
+/// through all logs.
 fn entries_of<const TOP: u64, const RANKS: u64>(
     alloc: Global,
     processes: &[Pcb<TOP, RANKS>],
@@ -94,8 +95,8 @@ fn entries_of<const TOP: u64, const RANKS: u64>(
     walk(alloc, processes, turns.as_slice())
 }
 
-/// Why the logs of driven scripts don't fit. If no fault is found, there were more acts than turns
-/// can tell (`join::turns`), and it is `Memory`.
+/// Returns the reason why the logs of driven scripts don't fit. If no entry is missing, there were
+/// more acts than turns can tell (`join::turns`), and it is `Memory`.
 fn first_fault<const TOP: u64, const RANKS: u64>(processes: &[Pcb<TOP, RANKS>]) -> JoinFault
     requires { IsRising (pids_in processes.now) }
 {
@@ -105,7 +106,7 @@ fn first_fault<const TOP: u64, const RANKS: u64>(processes: &[Pcb<TOP, RANKS>]) 
     }
 }
 
-/// Refuses pieces that don't fit.
+/// Fails if the pieces don't fit.
 fn check_fit<const TOP: u64, const RANKS: u64>(pieces: &Pieces<TOP, RANKS>) -> Result<(), JoinFault>
     ensures ok { OnOk result (IsFit pieces.now) }
     ensures err { IfErr result (IsJoinFault pieces.now) }
@@ -120,7 +121,7 @@ fn check_fit<const TOP: u64, const RANKS: u64>(pieces: &Pieces<TOP, RANKS>) -> R
     Ok(())
 }
 
-/// The one run of whole logs, whose merged entries these are.
+/// Returns the record of whole logs, given their merged entries.
 fn run_of_logs<const TOP: u64, const RANKS: u64>(
     alloc: Global,
     processes: &[Pcb<TOP, RANKS>],
@@ -142,8 +143,8 @@ fn run_of_logs<const TOP: u64, const RANKS: u64>(
     })
 }
 
-/// The one run of whole logs, of which these are the merged entries and their acts. Its streams and
-/// its replies are read out by a thread each.
+/// Returns the record of whole logs, given their merged entries and the acts. Streams and replies
+/// are read out by a thread each.
 fn run_by_threads<const TOP: u64, const RANKS: u64, R: Threads + Sync>(
     rt: &R,
     alloc: Global,

@@ -1,12 +1,13 @@
-//! Threads as processes: one lock for each process, and under it a log of the acts that touched it.
+//! Threads as processes: one lock for each process, and under it a log of the acts that touched
+//! it.
 //!
-//! An act is made under the locks of all processes that it touches, and leaves one entry in the log
-//! of each. There is no other lock. The threads of `drive` share what the locks hold, and one mark
+//! An act is made under the locks of all processes that it touches, and leaves one entry in the
+//! log of each. There is no other lock. The threads of `drive` share only the locks, and a mark
 //! that tells them to stop if a thread couldn't be started. The machine is `st_core`'s and the
 //! actor's part of a step `st_mail`'s: nothing here defines a step.
 //!
-//! A contract sees what a lock holds as a process of the machine and the log that gives it. Of a
-//! lock that is taken nothing is known but what the type of its value keeps.
+//! A contract sees a lock's value as a process of the machine and the log that gives its state.
+//! When a lock is taken, nothing is known of its value but the invariant of its type.
 #![tactic(auto)]
 
 mod driver;

@@ -1,5 +1,5 @@
-//! One process under its lock: what it keeps for tracing, its queue, and the log of the acts that
-//! touched it. The step calls are on processes that are lent; no lock is taken here.
+//! One process under its lock: its tracing state, its queue, and the log of the acts that touched
+//! it. The calls here work on lent processes and take no lock.
 
 ghost use Rattle.std.specs.Prelude.{◌≡◌, ◌≢◌, ◌<◌, ◌≤◌, false, true, [], ◌∷◌, Err, IfOk, OnOk};
 ghost use Rattle.std.specs.Prelude.{IsOk};
@@ -24,12 +24,12 @@ use st_mail::actor::inner;
 use std::alloc::{AllocError, Global};
 use std::marker::Model;
 
-/// The words of a cache line, 64 bytes. So much is between a lock and what it keeps, so that
-/// threads that try the lock don't take a line away from the thread that holds it.
+/// The words of a cache line, 64 bytes. The padding keeps a lock and its value on different lines,
+/// so that threads that try the lock don't take a line away from the thread that holds it.
 const CACHE_LINE: usize = 8;
 
 /// A process control block: one process, with the log that gives its state. `TOP` is the greatest
-/// value of a clock, `RANKS` that of a rank.
+/// value of a clock, `RANKS` the greatest rank.
 #[derive(Drop)]
 pub struct Pcb<const TOP: u64, const RANKS: u64> {
     apart: [u64; CACHE_LINE],
@@ -57,7 +57,7 @@ impl<const TOP: u64, const RANKS: u64> Model for Pcb<TOP, RANKS> {
 }
 
 impl<const TOP: u64, const RANKS: u64> Pcb<TOP, RANKS> {
-    /// A process at the start, with an empty log. Fails if memory runs out.
+    /// Makes a process at the start, with an empty log. Fails if memory runs out.
     pub fn new(alloc: Global, pid: Pid) -> Result<Self, AllocError>
         ensures process { IfOk result (λ x. x.process ≡ zero_process pid) }
         ensures log { IfOk result (λ x. x.log ≡ []) }
@@ -65,7 +65,7 @@ impl<const TOP: u64, const RANKS: u64> Pcb<TOP, RANKS> {
         Pcb::with_room(alloc, pid, 0)
     }
 
-    /// Makes a process with room for this many entries. Fails if memory runs out.
+    /// Makes a process with room for `room` entries. Fails if memory runs out.
     pub(crate) fn with_room(alloc: Global, pid: Pid, room: usize) -> Result<Self, AllocError>
         ensures process { IfOk result (λ x. x.process ≡ zero_process pid) }
         ensures log { IfOk result (λ x. x.log ≡ []) }
@@ -82,15 +82,15 @@ impl<const TOP: u64, const RANKS: u64> Pcb<TOP, RANKS> {
         })
     }
 
-    /// Whose it is.
+    /// Returns the pid of the process.
     pub fn pid(&self) -> Pid
         ensures { result ≡ self.now.process.pid }
     {
         self.pid
     }
 
-    /// The entries of the acts that touched it, in order. Their ranks rise, and they give its
-    /// state.
+    /// Returns the entries of the acts that touched the process, in order. Their ranks rise, and
+    /// they give its state.
     pub fn log(&self) -> &Log
         ensures value { result.now.entries ≡ self.now.log }
         ensures kept { IsFromLog TOP RANKS self.now.process self.now.log }
@@ -98,14 +98,14 @@ impl<const TOP: u64, const RANKS: u64> Pcb<TOP, RANKS> {
         &self.log
     }
 
-    /// The tracing state of the process.
+    /// Returns the tracing state of the process.
     pub fn local(&self) -> &Local<TOP>
         ensures { result.now ≡ self.now.process.local }
     {
         &self.local
     }
 
-    /// The greatest rank in its log, 0 if that is empty.
+    /// Returns the greatest rank in the log, 0 if the log is empty.
     pub fn last_rank(&self) -> u64
         ensures value { result ≡ last_rank 0 self.now.log }
         ensures within { result ≤ RANKS }
@@ -113,7 +113,7 @@ impl<const TOP: u64, const RANKS: u64> Pcb<TOP, RANKS> {
         self.log.last_rank()
     }
 
-    /// Makes room for one entry. Fails if memory runs out.
+    /// Makes room in the log for one entry. Fails if memory runs out.
     pub fn prepare(&mut self) -> Result<(), AllocError>
         ensures same { IsSame self.old self.new }
         ensures room { OnOk result (0 < self.new.spare) }
@@ -122,7 +122,7 @@ impl<const TOP: u64, const RANKS: u64> Pcb<TOP, RANKS> {
         self.log.reserve()
     }
 
-    /// Lets go of the memory of its queue, if no message waits there.
+    /// Releases the memory of the queue, if no message waits there.
     pub(crate) fn release_queue(&mut self, alloc: Global)
         ensures { self.new ≡ self.old }
     {
@@ -134,8 +134,8 @@ impl<const TOP: u64, const RANKS: u64> Pcb<TOP, RANKS> {
         }
     }
 
-    /// An act that touches this process alone, which is its actor. It fails with the first of
-    /// `ClockFull`, `RankFull` and `Memory` that holds.
+    /// Makes an act that touches only its actor, the process. Fails with the first of `ClockFull`,
+    /// `RankFull` and `Memory` that holds.
     pub fn alone(&mut self, act: &Act) -> Result<Reply, PcbFault>
         requires alone { is_alone act.now ≡ true }
         requires me { actor act.now ≡ self.old.process.pid }
@@ -157,7 +157,7 @@ impl<const TOP: u64, const RANKS: u64> Pcb<TOP, RANKS> {
         }
     }
 
-    /// A send between two processes, the sender first. It fails with the first of `ClockFull`,
+    /// Makes a send between two processes, the sender first. Fails with the first of `ClockFull`,
     /// `RankFull` and `Memory` that holds.
     pub fn between(from: &mut Self, to: &mut Self, act: &Act) -> Result<Reply, PcbFault>
         requires { IsBetween act.now from.old.process.pid to.old.process.pid }
@@ -172,8 +172,8 @@ impl<const TOP: u64, const RANKS: u64> Pcb<TOP, RANKS> {
         Pcb::send(from, to, value)
     }
 
-    /// An act of the whole node, of which this is one process, once room was made. The entry was
-    /// made under the locks of all of them.
+    /// Does the process's part of an act of its whole node, and appends the entry, for which
+    /// `prepare` made room. The entry was made under the locks of all processes of the node.
     pub fn commit(&mut self, entry: &Entry)
         requires room { 0 < self.old.spare }
         requires entry { IsNodeEntry TOP RANKS self.old entry.now }
@@ -183,7 +183,7 @@ impl<const TOP: u64, const RANKS: u64> Pcb<TOP, RANKS> {
         self.log.push_reserved(entry);
     }
 
-    /// An act that leaves its queue.
+    /// Makes an act that leaves the queue as it is.
     fn inner(&mut self, act: &Act) -> Result<Reply, PcbFault>
         requires inner { is_inner act.now ≡ true }
         requires me { actor act.now ≡ self.old.process.pid }
@@ -207,7 +207,7 @@ impl<const TOP: u64, const RANKS: u64> Pcb<TOP, RANKS> {
         Ok(told.reply)
     }
 
-    /// A receive.
+    /// Makes a receive.
     fn receive(&mut self, want: &Want) -> Result<Reply, PcbFault>
         ensures step { IsLentStep TOP RANKS (Act.Receive self.old.process.pid want.now)
             (self.old ∷ []) (self.new ∷ []) result }
@@ -226,7 +226,7 @@ impl<const TOP: u64, const RANKS: u64> Pcb<TOP, RANKS> {
         Ok(told.reply)
     }
 
-    /// A send to itself.
+    /// Makes a send of the process to itself.
     fn send_to_itself(&mut self, value: u64) -> Result<Reply, PcbFault>
         ensures step { let me = self.old.process.pid in
             IsLentStep TOP RANKS (Act.Send me me value) (self.old ∷ []) (self.new ∷ []) result }
@@ -258,7 +258,7 @@ impl<const TOP: u64, const RANKS: u64> Pcb<TOP, RANKS> {
         Ok(told.reply)
     }
 
-    /// A send to another.
+    /// Makes a send to another process.
     fn send(from: &mut Self, to: &mut Self, value: u64) -> Result<Reply, PcbFault>
         requires { from.old.process.pid ≢ to.old.process.pid }
         ensures step { IsLentStep TOP RANKS

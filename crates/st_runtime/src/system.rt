@@ -1,5 +1,5 @@
-//! Processes under their locks, and the acts that threads make of them. Locks are taken in rising
-//! order of their pids, and nothing is known of what a lock holds but what its type keeps.
+//! Processes under their locks, and the acts that threads make with them. Locks are taken by
+//! rising pid, and nothing is known of a lock's value but the invariant of its type.
 
 ghost use Rattle.std.specs.Prelude.{◌≡◌, ◌≢◌, ◌≤◌, ◌↔◌, ◌⊎◌, false, true, [], ◌∷◌, ◌++◌};
 ghost use Rattle.std.specs.Prelude.{length, map, is_some, slice_get, Some, None, Err};
@@ -37,7 +37,7 @@ use std::alloc::{AllocError, Global};
 use std::marker::Model;
 use std::sync::{Mutex, Wait};
 
-/// One lock for each process. `TOP` is the greatest value of a clock, `RANKS` that of a rank.
+/// One lock for each process. `TOP` is the greatest value of a clock, `RANKS` the greatest rank.
 #[derive(Drop)]
 pub struct System<const TOP: u64, const RANKS: u64> {
     pids: Vec<Pid>,
@@ -58,8 +58,8 @@ impl<const TOP: u64, const RANKS: u64> Model for System<TOP, RANKS> {
 }
 
 impl<const TOP: u64, const RANKS: u64> System<TOP, RANKS> {
-    /// A system of these processes, each at its start, and a seat for each, in order. `NotRising`
-    /// comes before memory is asked for, then `Memory`.
+    /// Opens a system with a process at its start for each pid, and returns it with a seat for
+    /// each, in order. Fails with `NotRising` before asking for memory, then with `Memory`.
     pub fn open(alloc: Global, pids: &[Pid]) -> Result<(System<TOP, RANKS>, Vec<Seat>), SystemFault>
         ensures system { IfOk result (λ r. r.0 ≡ pids.now) }
         ensures seats { IfOk result (λ r. r.1.items ≡ map no_calls pids.now) }
@@ -74,7 +74,7 @@ impl<const TOP: u64, const RANKS: u64> System<TOP, RANKS> {
         }
     }
 
-    /// Opens a system with room in the logs for the entries of these scripts.
+    /// Opens a system whose logs have room for the entries of the scripts.
     pub(crate) fn open_for(
         alloc: Global,
         pids: &[Pid],
@@ -96,7 +96,7 @@ impl<const TOP: u64, const RANKS: u64> System<TOP, RANKS> {
 
     /// Takes the processes out of their locks. If memory runs out, system and seats come back.
     ///
-    /// A lock that holds another process than its own, which no call leaves, gives a fresh one.
+    /// In place of a process that isn't its lock's own, which no call leaves, comes a fresh one.
     pub fn gather(
         self,
         seats: Vec<Seat>,
@@ -126,14 +126,14 @@ impl<const TOP: u64, const RANKS: u64> System<TOP, RANKS> {
     }
 
     /// Makes the act under the locks of all processes that it touches, and keeps it in the seat
-    /// with its reply. It waits for the locks.
+    /// with its reply. Waits for the locks.
     ///
     /// An act of a whole node takes up to two kilobytes of stack for each process of the node.
     ///
-    /// If several reasons hold, the first of these comes: `NotYours`, `Unknown`, `Stray`,
-    /// `ClockFull`, `RankFull`, `Memory`. But room in the seat, and in the logs for an act of a
-    /// whole node, is made early, so `Memory` can come in place of `Stray`, `ClockFull` and
-    /// `RankFull`. If it fails, no log has changed.
+    /// Fails with the first of `NotYours`, `Unknown`, `Stray`, `ClockFull`, `RankFull` and
+    /// `Memory` that holds. But room in the seat, and in the logs for an act of a whole node, is
+    /// made early, so `Memory` can come in place of `Stray`, `ClockFull` and `RankFull`. After a
+    /// failure no log has changed.
     pub fn act<R: Wait, G: Gate>(
         &self,
         rt: &R,
@@ -159,8 +159,7 @@ impl<const TOP: u64, const RANKS: u64> System<TOP, RANKS> {
         Ok(reply)
     }
 
-    /// Makes the act of a process that made this many before, and keeps nothing of it but what the
-    /// logs do.
+    /// Makes act n of a process, and keeps it only in the logs.
     pub(crate) fn act_of<R: Wait, G: Gate>(
         &self,
         rt: &R,
@@ -178,7 +177,7 @@ impl<const TOP: u64, const RANKS: u64> System<TOP, RANKS> {
         self.act_under_locks(rt, gate, places, act, n)
     }
 
-    /// Where the actor is, which has to be this process, and where a send's receiver is.
+    /// Returns the places of the actor, which has to be `pid`, and of a send's receiver.
     fn places_for(&self, pid: Pid, act: &Act) -> Result<(usize, usize), ActFault>
         ensures not_yours { (result ≡ Err ActFault.NotYours) ↔ (actor act.now ≢ pid) }
         ensures unknown { (result ≡ Err ActFault.Unknown)
@@ -196,7 +195,8 @@ impl<const TOP: u64, const RANKS: u64> System<TOP, RANKS> {
         }
     }
 
-    /// Where the actor is, and where a send's receiver, which else is the actor.
+    /// Returns the places of the actor and of a send's receiver; of any other act both are the
+    /// actor's.
     fn places(&self, act: &Act) -> Option<(usize, usize)>
         ensures variant { is_some result ≡ knows self.now act.now }
         ensures me { IfSome result (λ r. slice_get self.now r.0 ≡ Some (actor act.now)) }
@@ -212,7 +212,7 @@ impl<const TOP: u64, const RANKS: u64> System<TOP, RANKS> {
         Some((me, them))
     }
 
-    /// The act under its locks.
+    /// Makes the act under the locks that it needs.
     fn act_under_locks<R: Wait, G: Gate>(
         &self,
         rt: &R,
@@ -236,7 +236,7 @@ impl<const TOP: u64, const RANKS: u64> System<TOP, RANKS> {
         }
     }
 
-    /// An act under one lock.
+    /// Makes an act under one lock.
     fn one<R: Wait, G: Gate>(
         &self,
         rt: &R,
@@ -260,7 +260,7 @@ impl<const TOP: u64, const RANKS: u64> System<TOP, RANKS> {
         result
     }
 
-    /// A send under two locks.
+    /// Makes a send under two locks.
     fn two<R: Wait, G: Gate>(
         &self,
         rt: &R,
@@ -292,8 +292,8 @@ impl<const TOP: u64, const RANKS: u64> System<TOP, RANKS> {
         result
     }
 
-    /// An act under all locks of the actor's node. If there is no room in a log, not all locks come
-    /// to be held, and the gate isn't told.
+    /// Makes an act under all locks of the actor's node. If a log has no room, not all locks are
+    /// taken, and the gate isn't told.
     fn whole_node<R: Wait, G: Gate>(
         &self,
         rt: &R,
@@ -329,9 +329,10 @@ impl<const TOP: u64, const RANKS: u64> System<TOP, RANKS> {
         result
     }
 
-    /// Takes the locks of the node from this place on, sets the rank and the reply of the act's
-    /// entry once all are held, and writes it under each as it gives them back. Each call holds one
-    /// lock while the next ones are taken, so the locks of a node need as many frames on the stack.
+    /// Takes the locks of the node from a place on. Once all are held, it sets the rank and the
+    /// reply of the act's entry, and writes the entry under each lock as it gives them back. Each
+    /// call holds one lock while the next ones are taken, so the locks of a node need as many
+    /// frames on the stack.
     fn from_place<R: Wait, G: Gate>(
         &self,
         rt: &R,
@@ -367,7 +368,7 @@ impl<const TOP: u64, const RANKS: u64> System<TOP, RANKS> {
     }
 }
 
-/// A step's result as an act's.
+/// Returns a step's result as an act's.
 fn act_result(step: Result<Reply, PcbFault>) -> Result<Reply, ActFault>
     ensures ok { IfOk result (λ y. step ≡ Ok y) }
     ensures err { IfErr result (λ f. (refusal : PcbFault) × (step ≡ Err refusal)) }
@@ -384,7 +385,7 @@ fn act_result(step: Result<Reply, PcbFault>) -> Result<Reply, ActFault>
     }
 }
 
-/// An act on the process that its lock held.
+/// Makes an act on the process that its lock held.
 fn act_alone<const TOP: u64, const RANKS: u64>(
     pcb: &mut Pcb<TOP, RANKS>,
     act: &Act,
@@ -403,7 +404,7 @@ fn act_alone<const TOP: u64, const RANKS: u64>(
     act_result(pcb.alone(act))
 }
 
-/// A send between the processes that two locks held.
+/// Makes a send between the processes that two locks held.
 fn act_between<const TOP: u64, const RANKS: u64>(
     from: &mut Pcb<TOP, RANKS>,
     to: &mut Pcb<TOP, RANKS>,
@@ -426,7 +427,7 @@ fn act_between<const TOP: u64, const RANKS: u64>(
     act_result(Pcb::between(from, to, act))
 }
 
-/// A system of pids that rise, with room in the logs for what the scripts bring them.
+/// Makes a system of rising pids, with room in the logs for the entries of the scripts.
 fn open_system<const TOP: u64, const RANKS: u64>(
     alloc: Global,
     pids: &[Pid],
@@ -446,7 +447,7 @@ fn open_system<const TOP: u64, const RANKS: u64>(
     })
 }
 
-/// Makes a lock for each pid. The process that it holds has room for this many entries.
+/// Makes a lock for each pid, with a process whose log has room for the expected entries.
 fn fresh_locks<const TOP: u64, const RANKS: u64>(
     alloc: Global,
     pids: &[Pid],
@@ -463,7 +464,7 @@ fn fresh_locks<const TOP: u64, const RANKS: u64>(
     Ok(locks)
 }
 
-/// A seat for each pid.
+/// Makes a seat for each pid.
 fn fresh_seats(alloc: Global, pids: &[Pid]) -> Result<Vec<Seat>, AllocError>
     ensures { IfOk result (λ seats. seats.items ≡ map no_calls pids.now) }
 {
@@ -474,7 +475,7 @@ fn fresh_seats(alloc: Global, pids: &[Pid]) -> Result<Vec<Seat>, AllocError>
     Ok(seats)
 }
 
-/// A process of each pid, at the start.
+/// Makes a process at the start for each pid.
 fn fresh_processes<const TOP: u64, const RANKS: u64>(
     alloc: Global,
     pids: &[Pid],
@@ -488,8 +489,8 @@ fn fresh_processes<const TOP: u64, const RANKS: u64>(
     Ok(all)
 }
 
-/// Puts each process that is its lock's own in place of the fresh one. Queues in which no message
-/// waits are let go, since the logs are all that is read of the processes from now on.
+/// Puts each process that is its lock's own in the place of the fresh one. Releases empty queues,
+/// since only the logs are read from now on.
 fn take_processes<const TOP: u64, const RANKS: u64>(
     alloc: Global,
     mut all: Vec<Pcb<TOP, RANKS>>,
@@ -506,7 +507,7 @@ fn take_processes<const TOP: u64, const RANKS: u64>(
     all
 }
 
-/// Puts the process in the place of the one there, if that has its pid.
+/// Puts the process in the place of the one there, if both have one pid.
 fn put_in_place<const TOP: u64, const RANKS: u64>(
     all: &mut [Pcb<TOP, RANKS>],
     place: usize,

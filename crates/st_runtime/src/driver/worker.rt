@@ -16,11 +16,11 @@ use std::sync::atomic::{AtomicBool, Ordering};
 use std::thread;
 use std::thread::{Promise, Threads};
 
-/// The stack of a worker's thread, in bytes. An act of a whole node takes a frame for each of its
-/// processes (`System::act`), of which an input of the program has up to 1,024.
+/// The stack of a worker's thread, in bytes. An act of a whole node takes a frame for each process
+/// of the node (`System::act`), and an input of the program has up to 1,024 processes.
 pub const WORKER_STACK: usize = 2_097_152;
 
-/// The job of a worker: whose acts to make, and which.
+/// The job of a worker: a pid and its script.
 #[derive(Drop)]
 pub struct Job {
     pid: Pid,
@@ -37,7 +37,7 @@ impl Model for Job {
     ghost view = { λ t. (t.pid, t.script) };
 }
 
-/// The end of a worker: its script, how many acts of it were made, and the refusal at which it
+/// The end of a worker: its script, the number of acts that were made, and the refusal at which it
 /// stopped, if it met one.
 #[derive(Drop)]
 pub struct Ending {
@@ -47,7 +47,7 @@ pub struct Ending {
     pub fault: Option<ActFault>,
 }
 
-/// A job for each pid and its script.
+/// Makes a job for each pid and its script.
 pub fn jobs_of(
     alloc: Global,
     pids: &[Pid],
@@ -64,7 +64,7 @@ pub fn jobs_of(
     Ok(jobs)
 }
 
-/// A worker with its job in this system.
+/// A worker with its job in a system.
 #[derive(Drop)]
 struct Leaves<const TOP: u64, const RANKS: u64> {
     system: Snapshot<System<TOP, RANKS>>,
@@ -75,8 +75,9 @@ impl<const TOP: u64, const RANKS: u64> Promise<Option<Ending>> for Leaves<TOP, R
     ghost kept_by = { λ p left. LeavesEnding p.system.value p.job.value left };
 }
 
-/// Runs all workers at once, each in a thread of its own with a stack of this many bytes. If a
-/// thread can't be started, those that were started stop at their next act, and are waited for.
+/// Runs all workers at once, each in a thread of its own with a stack of `stack` bytes. If a
+/// thread can't be started, those that were started stop before their next act, and are waited
+/// for.
 ///
 /// Fails with `Thread`, else with `Memory`; but with `Memory` at once if there is no room for the
 /// threads.
@@ -127,7 +128,7 @@ pub fn work_all<const TOP: u64, const RANKS: u64, R: Threads + Wait + Sync, G: G
     )
 }
 
-/// Returns the endings of the workers, if none was told to stop; else why they were.
+/// Returns the endings of the workers, or a fault if one was told to stop.
 fn all_ended(alloc: Global, left: Vec<Option<Ending>>) -> Result<Vec<Ending>, DriveFault>
     ensures ok { IfOk result (λ v. map (λ end. Some end) v.items ≡ left.items) }
     ensures err { IfErr result IsOwnFault }
@@ -144,7 +145,8 @@ fn all_ended(alloc: Global, left: Vec<Option<Ending>>) -> Result<Vec<Ending>, Dr
     Ok(ends)
 }
 
-/// Makes the script's acts in order, until one is refused; nothing, if it is told to stop before.
+/// Makes the script's acts in order until one is refused, and returns nothing if it is told to
+/// stop before the end.
 fn work<const TOP: u64, const RANKS: u64, R: Wait, G: Gate>(
     rt: &R,
     system: &System<TOP, RANKS>,
@@ -164,8 +166,8 @@ fn work<const TOP: u64, const RANKS: u64, R: Wait, G: Gate>(
     })
 }
 
-/// Makes these acts of a process in order: how many were made, and the refusal that came next, if
-/// one did.
+/// Makes acts of a process in order, and returns the number of acts made and the refusal that came
+/// next, if one did.
 fn play<const TOP: u64, const RANKS: u64, R: Wait, G: Gate>(
     rt: &R,
     system: &System<TOP, RANKS>,

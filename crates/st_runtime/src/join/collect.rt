@@ -1,4 +1,4 @@
-//! The streams that logs tell of, collected.
+//! Collecting the streams that logs tell of.
 
 ghost use Rattle.std.specs.Prelude.{◌≡◌, ◌<◌, List, true, [], ◌∷◌, ◌++◌, length, IfOk, OnOk};
 ghost use Rattle.std.specs.List.{AllByRecursion};
@@ -14,7 +14,7 @@ use st_core::{AddFault, Draft, OpenFault, Pid, Streams};
 use st_log::Log;
 use std::alloc::{AllocError, Global};
 
-/// The streams of the processes' own reports.
+/// Returns the streams of the processes' own reports.
 pub fn streams_of<const TOP: u64, const RANKS: u64>(
     alloc: Global,
     processes: &[Pcb<TOP, RANKS>],
@@ -46,7 +46,7 @@ fn add_stream(draft: &mut Draft, pid: Pid, log: &Log) -> Result<(), AllocError>
     }
 }
 
-/// Adds the process's own reports to its stream, the last one.
+/// Adds the process's own reports to its stream, which is the last one.
 fn fill(draft: &mut Draft, pid: Pid, log: &Log) -> Result<(), AllocError>
     requires listed { lists draft.old pid ≡ true }
     requires own { AllByRecursion (λ e. is_own pid e ≡ true) (reports_of pid log.now.entries) }
@@ -60,7 +60,7 @@ fn fill(draft: &mut Draft, pid: Pid, log: &Log) -> Result<(), AllocError>
     Ok(())
 }
 
-/// Adds the report of the entry at this place, if it is the process's own and has one.
+/// Adds the report of the entry at `place`, if the entry is the process's own and has one.
 fn add_entry(draft: &mut Draft, pid: Pid, log: &Log, place: usize) -> Result<(), AllocError>
     requires place { place < length log.now.entries }
     requires listed { lists draft.old pid ≡ true }

@@ -1,4 +1,4 @@
-//! The acts of entries and what they returned, read out of the logs in which they stay.
+//! Reading acts and replies out of entries, which stay in their logs.
 
 ghost use Rattle.std.specs.Prelude.{◌≡◌, map, All, IfOk};
 ghost use Rattle.st_runtime.specs.Joining.{referred, IsThere};
@@ -7,7 +7,7 @@ use crate::join::walk::Reference;
 use st_core::{Act, Reply};
 use std::alloc::{AllocError, Global};
 
-/// The act of the entry that is referred to.
+/// Returns the act of the entry that is referred to.
 fn act_of(reference: &Reference<'_>) -> Act
     requires { IsThere reference.now }
     ensures { result ≡ (referred reference.now).act }
@@ -25,7 +25,7 @@ fn reply_of(reference: &Reference<'_>) -> Reply
     log.reply_at(place)
 }
 
-/// The acts of entries.
+/// Returns the acts of entries.
 pub fn acts_of(alloc: Global, entries: &[Reference<'_>]) -> Result<Vec<Act>, AllocError>
     requires { All IsThere entries.now }
     ensures { IfOk result (λ v. v.items ≡ map (λ r. (referred r).act) entries.now) }

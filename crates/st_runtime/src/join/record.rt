@@ -1,4 +1,4 @@
-//! The acts of the threads, as one run.
+//! The record of one run that the threads made.
 
 use st_core::{Act, Reply, Sequence, Streams};
 

@@ -1,4 +1,4 @@
-//! Whether each process made its script.
+//! Checking that each process made its script.
 
 ghost use Rattle.std.specs.Prelude.{◌≡◌, ◌+◌, ◌↔◌, length, map, slice_get, IfNone, IfSome, IsTrue};
 ghost use Rattle.std.specs.Prelude.{OnOk, Some};
@@ -11,7 +11,7 @@ use crate::system::pids::{guesses_of, place_of};
 use st_core::{Act, Pid, Sequence};
 use std::alloc::Global;
 
-/// Refuses the acts if those of some process aren't its script.
+/// Fails if the acts of a process aren't its script.
 pub fn check_scripts(
     alloc: Global,
     pids: &[Pid],
@@ -40,7 +40,8 @@ pub fn check_scripts(
     }
 }
 
-/// How many acts of the script are made with this one, if it comes next after those that were.
+/// Returns the number of acts of the script that are made after `act`, if `act` comes next in the
+/// script.
 fn made_with(script: &[Act], made: usize, act: &Act) -> Option<usize>
     ensures next { IfSome result (λ _. slice_get script.now made ≡ Some act.now) }
     ensures count { IfSome result (λ n. n ≡ made + 1) }
@@ -52,14 +53,13 @@ fn made_with(script: &[Act], made: usize, act: &Act) -> Option<usize>
     }
 }
 
-/// Whether they are the same act.
 fn is_same_act(first: &Act, second: &Act) -> bool
     ensures { IsTrue result ↔ (first.now ≡ second.now) }
 {
     *first == *second
 }
 
-/// The first process that has acts of its script left.
+/// Returns the first process that has acts of its script left.
 fn first_unended(pids: &[Pid], made: &[usize], scripts: &[Sequence<Act>]) -> Option<Pid>
     requires made { length made.now ≡ length pids.now }
     requires scripts { length scripts.now ≡ length pids.now }

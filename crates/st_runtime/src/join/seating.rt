@@ -1,4 +1,4 @@
-//! Whether each process has the one seat that its log tells of.
+//! Checking that each process has the one seat that its log tells of.
 
 ghost use Rattle.std.specs.Prelude.{◌≡◌, ◌↔◌, [], ◌∷◌, IsTrue, MatchOption};
 ghost use Rattle.st_core.specs.Pid.{IsRising};
@@ -11,7 +11,8 @@ use crate::system::seat::Seat;
 use st_core::Pid;
 use st_log::{CallLog, Log, is_call};
 
-/// The least pid that isn't seated. It has a log or a seat, since a pid without either is seated.
+/// Returns the least pid that isn't seated. It has a log or a seat, since a pid without either is
+/// seated.
 pub fn first_unseated<const TOP: u64, const RANKS: u64>(
     processes: &[Pcb<TOP, RANKS>],
     seats: &[Seat],
@@ -25,7 +26,7 @@ pub fn first_unseated<const TOP: u64, const RANKS: u64>(
     least_of_seats(processes, seats, least)
 }
 
-/// The least pid of a log that isn't seated.
+/// Returns the least pid of a log that isn't seated.
 fn least_of_logs<const TOP: u64, const RANKS: u64>(
     processes: &[Pcb<TOP, RANKS>],
     seats: &[Seat],
@@ -44,7 +45,8 @@ fn least_of_logs<const TOP: u64, const RANKS: u64>(
     least
 }
 
-/// The least pid of a log or a seat that isn't seated, if this is the least of a log.
+/// Returns the least pid of a log or a seat that isn't seated, given the least pid of a log that
+/// isn't.
 fn least_of_seats<const TOP: u64, const RANKS: u64>(
     processes: &[Pcb<TOP, RANKS>],
     seats: &[Seat],
@@ -70,7 +72,7 @@ fn least_of_seats<const TOP: u64, const RANKS: u64>(
     least
 }
 
-/// The lesser of two pids, if there are two.
+/// Returns the lesser of two pids, or the only one.
 fn lesser(least: Option<Pid>, pid: Pid) -> Option<Pid>
     ensures { result ≡ lesser least pid }
 {
@@ -81,7 +83,8 @@ fn lesser(least: Option<Pid>, pid: Pid) -> Option<Pid>
     }
 }
 
-/// Whether the pid has the seat that its log tells of and no other, and none without a log.
+/// Returns whether the pid is seated: it has only the seat that its log tells of, and none if it
+/// has no log.
 pub fn is_seated<const TOP: u64, const RANKS: u64>(
     processes: &[Pcb<TOP, RANKS>],
     seats: &[Seat],
@@ -97,7 +100,7 @@ pub fn is_seated<const TOP: u64, const RANKS: u64>(
     }
 }
 
-/// Whether the one seat of the pid is that of this log.
+/// Returns whether the pid has exactly one seat, and its calls are those of the log.
 fn has_only_seat(seats: &[Seat], pid: Pid, log: &Log) -> bool
     ensures { IsTrue result
         ↔ (seats_at seats.now pid
@@ -111,7 +114,7 @@ fn has_only_seat(seats: &[Seat], pid: Pid, log: &Log) -> bool
     false
 }
 
-/// Whether the pid has no seat.
+/// Returns whether the pid has no seat.
 fn has_no_seat(seats: &[Seat], pid: Pid) -> bool
     ensures { IsTrue result ↔ (seats_at seats.now pid ≡ []) }
 {
@@ -123,7 +126,7 @@ fn has_no_seat(seats: &[Seat], pid: Pid) -> bool
     true
 }
 
-/// Whether these are the calls of the pid in the log.
+/// Returns whether the calls are those of the pid in the log.
 fn holds_calls(mine: &CallLog, pid: Pid, log: &Log) -> bool
     ensures { IsTrue result ↔ (mine.now.calls ≡ calls_of pid log.now.entries) }
 {

@@ -1,6 +1,6 @@
 //! One walk over the acts by rank, with a cursor in each log. An act has to be the next entry at
 //! its actor and at each other process that it touches, and at the end all cursors are at their
-//! ends. So each log is found to have exactly the acts that touch its process, in one order.
+//! ends. So each log has exactly the acts that touch its process, in one order.
 
 ghost use Rattle.std.specs.Prelude.{◌≡◌, ◌<◌, ◌≤◌, ◌∷◌, [], drop, length, map, true, false, All};
 ghost use Rattle.std.specs.Prelude.{IfOk};
@@ -28,7 +28,7 @@ use std::marker::Model;
 /// An entry that is referred to: its log, and its place there.
 pub type Reference<'a> = (&'a Log, usize);
 
-/// A cursor in the log of a process: the entries before it were passed.
+/// A cursor in the log of a process: it has passed the entries before it.
 #[derive(Drop)]
 pub struct Cursor<'a> {
     pid: Pid,
@@ -52,7 +52,7 @@ impl<'a> Model for Cursor<'a> {
 }
 
 impl<'a> Cursor<'a> {
-    /// The next entry, if one is left.
+    /// Returns the next entry, if one is left.
     fn entry(&self) -> Option<Reference<'a>>
         ensures there { IfSome result IsThere }
         ensures next { IfSome result (λ r. self.now.left ≡ referred r ∷ drop 1 self.now.left) }
@@ -64,7 +64,7 @@ impl<'a> Cursor<'a> {
         }
     }
 
-    /// Whether no entry is left.
+    /// Returns whether no entry is left.
     fn is_at_end(&self) -> bool
         ensures { IsTrue result → self.now.left ≡ [] }
     {
@@ -81,7 +81,8 @@ impl<'a> Cursor<'a> {
         }
     }
 
-    /// Passes the next entry, if it is seen to be the one at this place of the log.
+    /// Passes the next entry, if it is equal to the entry at `place` of `log`, and returns whether
+    /// it did.
     fn pass(&mut self, log: &Log, place: usize) -> bool
         requires { place < length log.now.entries }
         ensures { IsTrue result → MovesPast (entry_at log.now.entries place) self.old self.new }
@@ -94,7 +95,7 @@ impl<'a> Cursor<'a> {
     }
 }
 
-/// The entries of all logs, each once and by rank and then actor, if turns in this order lead
+/// Returns the entries of all logs, each once and by rank and then actor, if the turns lead
 /// through all logs.
 pub fn walk<'a, const TOP: u64, const RANKS: u64>(
     alloc: Global,
@@ -128,7 +129,7 @@ pub fn walk<'a, const TOP: u64, const RANKS: u64>(
     Ok(Some(entries))
 }
 
-/// A cursor at the beginning of each log.
+/// Makes a cursor at the beginning of each log.
 fn cursors_of<'a, const TOP: u64, const RANKS: u64>(
     alloc: Global,
     processes: &'a [Pcb<TOP, RANKS>],
@@ -147,7 +148,7 @@ fn cursors_of<'a, const TOP: u64, const RANKS: u64>(
     Ok(cursors)
 }
 
-/// The pids of the processes.
+/// Returns the pids of the processes.
 pub fn pids_of<const TOP: u64, const RANKS: u64>(
     alloc: Global,
     processes: &[Pcb<TOP, RANKS>],
@@ -161,7 +162,7 @@ pub fn pids_of<const TOP: u64, const RANKS: u64>(
     Ok(pids)
 }
 
-/// The rank and the actor of an entry.
+/// Returns the rank and the actor of an entry.
 fn key_of(reference: &Reference<'_>) -> (u64, Pid)
     requires { IsThere reference.now }
     ensures rank { result.0 ≡ (referred reference.now).rank }
@@ -171,15 +172,15 @@ fn key_of(reference: &Reference<'_>) -> (u64, Pid)
     (log.rank_at(place), log.actor_at(place))
 }
 
-/// Whether the first rank is below the second, or the same with a lower actor.
+/// Returns whether the first key comes before the second: by rank, then by actor.
 fn is_before(first: (u64, Pid), second: (u64, Pid)) -> bool
     ensures { IsTrue result → IsKeyBefore first.0 first.1 second.0 second.1 }
 {
     first.0 < second.0 || (first.0 == second.0 && first.1 < second.1)
 }
 
-/// Passes the next entry of the process at this place, which has to be its own, at its cursor and
-/// at those of all others that the act touches.
+/// Passes the next entry of the process whose turn it is, which has to be its own, at the cursors
+/// of all processes that the act touches.
 fn pass_turn<'a>(
     cursors: &mut [Cursor<'a>],
     pids: &[Pid],
@@ -206,8 +207,7 @@ fn pass_turn<'a>(
     Some(entry)
 }
 
-/// Passes the next entry of the process at this place at the cursors of all processes that it
-/// touches.
+/// Passes an entry at the cursors of all processes that it touches.
 fn pass_all(
     cursors: &mut [Cursor<'_>],
     pids: &[Pid],
@@ -233,7 +233,7 @@ fn pass_all(
     }
 }
 
-/// Passes an act of this node at the cursors of all its processes.
+/// Passes an act of a node at the cursors of all processes of the node.
 fn pass_node(cursors: &mut [Cursor<'_>], pids: &[Pid], node: u16, log: &Log, place: usize) -> bool
     requires rising { IsRising pids.now }
     requires pids { pids_along cursors.old ≡ pids.now }
@@ -258,7 +258,7 @@ fn pass_node(cursors: &mut [Cursor<'_>], pids: &[Pid], node: u16, log: &Log, pla
     true
 }
 
-/// Whether the pids before this place are on lower nodes, by the last of them.
+/// Returns whether the pids before a place are on lower nodes, by the last of them.
 fn are_lower(pids: &[Pid], first: usize, node: u16) -> bool
     requires rising { IsRising pids.now }
     requires first { first ≤ length pids.now }
@@ -270,7 +270,7 @@ fn are_lower(pids: &[Pid], first: usize, node: u16) -> bool
     }
 }
 
-/// Passes an act that isn't one of a whole node at the cursors of its actor, where it is next, and
+/// Passes an act that isn't of a whole node at the cursors of its actor, at which it is next, and
 /// of a send's receiver.
 fn pass_two(
     cursors: &mut [Cursor<'_>],
@@ -302,7 +302,7 @@ fn pass_two(
     }
 }
 
-/// Passes an entry at the cursor at this place.
+/// Passes an entry at the cursor of one process, if it is next there.
 fn pass_at(cursors: &mut [Cursor<'_>], at: usize, log: &Log, place: usize) -> bool
     requires at { at < length cursors.old }
     requires place { place < length log.now.entries }
@@ -312,7 +312,7 @@ fn pass_at(cursors: &mut [Cursor<'_>], at: usize, log: &Log, place: usize) -> bo
     cursors[at].pass(log, place)
 }
 
-/// Passes the next entry at the cursor at this place.
+/// Passes the next entry at the cursor of one process.
 fn advance_at(cursors: &mut [Cursor<'_>], at: usize)
     requires { at < length cursors.old }
     ensures { (e : Entry) → IsNextAt e at cursors.old → MovesPastAt e at cursors.old cursors.new }
@@ -320,7 +320,7 @@ fn advance_at(cursors: &mut [Cursor<'_>], at: usize)
     cursors[at].advance();
 }
 
-/// Whether no entry is left.
+/// Returns whether all cursors are at their ends.
 fn are_at_ends(cursors: &[Cursor<'_>]) -> bool
     ensures { IsTrue result → All (λ c. c.left ≡ []) cursors.now }
 {

@@ -1,4 +1,5 @@
-//! Which entries are in the log of each process that their acts touch.
+//! Checking that entries are in the log of each process that their acts touch: such entries are
+//! whole.
 
 ghost use Rattle.std.specs.Prelude.{◌≡◌, ◌<◌, length, take, true, All, Contains, slice_get};
 ghost use Rattle.std.specs.Prelude.{slice_index_or, is_some, Some, IfSome, MatchOption};
@@ -17,7 +18,8 @@ use crate::pcb::acts::receiver_of;
 use st_core::{Act, Pid};
 use st_log::{Entry, Log, is_same_entry, is_wide};
 
-/// The least place of an entry that isn't whole, by asking each log about each of its entries.
+/// Returns the first entry, by pid and then place, that isn't whole. Asks each log about each of
+/// its entries.
 pub fn first_missing<const TOP: u64, const RANKS: u64>(
     processes: &[Pcb<TOP, RANKS>],
 ) -> Option<(Pid, usize)>
@@ -33,7 +35,7 @@ pub fn first_missing<const TOP: u64, const RANKS: u64>(
     None
 }
 
-/// The least place in this process's log of an entry that isn't whole.
+/// Returns the least place in a process's log of an entry that isn't whole.
 fn missing_in<const TOP: u64, const RANKS: u64>(
     processes: &[Pcb<TOP, RANKS>],
     here: Pid,
@@ -53,8 +55,8 @@ fn missing_in<const TOP: u64, const RANKS: u64>(
     None
 }
 
-/// Whether an entry of this process's log is in the logs of its actor and of each process that the
-/// act touches.
+/// Returns whether an entry of a process's log is in the logs of its actor and of each process
+/// that the act touches.
 fn is_whole<const TOP: u64, const RANKS: u64>(
     processes: &[Pcb<TOP, RANKS>],
     here: Pid,
@@ -66,7 +68,7 @@ fn is_whole<const TOP: u64, const RANKS: u64>(
     is_made(processes, here, entry) && is_shared(processes, here, entry)
 }
 
-/// Whether an entry of this process's log is in the log of its actor.
+/// Returns whether an entry of a process's log is in the log of its actor.
 fn is_made<const TOP: u64, const RANKS: u64>(
     processes: &[Pcb<TOP, RANKS>],
     here: Pid,
@@ -78,8 +80,8 @@ fn is_made<const TOP: u64, const RANKS: u64>(
     entry.act.actor() == here || has_at(processes, entry.act.actor(), entry)
 }
 
-/// Whether each process that the act touches has an entry of this process's log that its actor has.
-/// If the act is none of a whole node, it touches the actor and a send's receiver alone.
+/// Returns whether each process that the act touches has an entry that its actor has. An act that
+/// isn't of a whole node touches only the actor and a send's receiver.
 fn is_shared<const TOP: u64, const RANKS: u64>(
     processes: &[Pcb<TOP, RANKS>],
     here: Pid,
@@ -96,7 +98,7 @@ fn is_shared<const TOP: u64, const RANKS: u64>(
     receiver == here || has_at(processes, receiver, entry)
 }
 
-/// Whether each process of the actor's node has an entry of this process's log.
+/// Returns whether each process of the actor's node has an entry of a process's log.
 fn is_everywhere<const TOP: u64, const RANKS: u64>(
     processes: &[Pcb<TOP, RANKS>],
     here: Pid,
@@ -114,8 +116,8 @@ fn is_everywhere<const TOP: u64, const RANKS: u64>(
     true
 }
 
-/// Whether a process has an entry of a whole node, if it is of this node. The process of this pid
-/// has it.
+/// Returns whether a process has an entry of a whole node, unless it is on another node. The
+/// process with the given pid has it.
 fn has_if_touched<const TOP: u64, const RANKS: u64>(
     process: &Pcb<TOP, RANKS>,
     here: Pid,
@@ -130,7 +132,7 @@ fn has_if_touched<const TOP: u64, const RANKS: u64>(
         || has_entry(process.log(), entry)
 }
 
-/// Whether an act of a whole node touches the process.
+/// Returns whether an act of a whole node touches the process.
 fn is_of_node(act: &Act, pid: Pid) -> bool
     requires { is_wide act.now ≡ true }
     ensures { result ≡ touches act.now pid }
@@ -138,7 +140,7 @@ fn is_of_node(act: &Act, pid: Pid) -> bool
     pid.node() == act.actor().node()
 }
 
-/// Whether the process of this pid is there and has the entry.
+/// Returns whether there is a process with the pid that has the entry.
 fn has_at<const TOP: u64, const RANKS: u64>(
     processes: &[Pcb<TOP, RANKS>],
     pid: Pid,
@@ -153,7 +155,7 @@ fn has_at<const TOP: u64, const RANKS: u64>(
     }
 }
 
-/// Where the process of this pid is.
+/// Returns the place of the process with the pid, if it is there.
 pub fn place_in<const TOP: u64, const RANKS: u64>(
     processes: &[Pcb<TOP, RANKS>],
     pid: Pid,
@@ -172,7 +174,8 @@ pub fn place_in<const TOP: u64, const RANKS: u64>(
     found.ok()
 }
 
-/// Whether the log has the entry. Its ranks rise, so that there is one place for it.
+/// Returns whether the log has the entry. Its ranks rise, so there is only one place for the
+/// entry.
 fn has_entry(log: &Log, entry: &Entry) -> bool
     requires { RanksRise 0 log.now.entries }
     ensures { IsWhether result (Contains log.now.entries entry.now) }

@@ -1,4 +1,4 @@
-//! Whom an act needs, and of what kind it is.
+//! The processes that an act needs, and the kinds of acts.
 
 ghost use Rattle.std.specs.Prelude.{◌≡◌};
 ghost use Rattle.st_core.specs.Step.{receiver};
@@ -7,7 +7,7 @@ ghost use Rattle.st_runtime.specs.System.{is_stamping};
 
 use st_core::{Act, Pid, Reply};
 
-/// The process that has to be there besides the actor: a send's receiver.
+/// Returns the receiver of a send, and of any other act the actor.
 pub fn receiver_of(act: &Act) -> Pid
     ensures { result ≡ receiver act.now }
 {
@@ -25,7 +25,7 @@ pub fn receiver_of(act: &Act) -> Pid
     }
 }
 
-/// Returns the reply to an act of a whole node, whose actor was traced or not.
+/// Returns the reply to an act of a whole node, if the actor was traced or not.
 pub fn wide_reply(act: &Act, was: bool) -> Reply
     ensures { result ≡ wide_reply act.now was }
 {
@@ -35,7 +35,7 @@ pub fn wide_reply(act: &Act, was: bool) -> Reply
     }
 }
 
-/// Whether the act stamps its actor's token, if there is one.
+/// Returns whether the act stamps its actor's token, if there is one.
 pub fn is_stamping(act: &Act) -> bool
     ensures { result ≡ is_stamping act.now }
 {

@@ -1,5 +1,5 @@
-//! The parts of acts that touch one process: its tracing state and its queue, which is the one
-//! mailbox of its own.
+//! The parts of acts that touch one process: its tracing state and its queue, the only mailbox of
+//! its `Mailboxes`.
 
 ghost use Rattle.std.specs.Prelude.{◌≡◌, true, length, Some, IfOk, OnOk, OnErr};
 ghost use Rattle.std.specs.Option.{ForSome};
@@ -15,8 +15,8 @@ use st_core::{Act, ClockFull, Kind, Local, Pid, Reply, Want};
 use st_mail::actor::{event, receive, stamp};
 use st_mail::{Mailboxes, Outcome};
 
-/// A send's part at its sender. The message carries the token that the sender has afterwards, which
-/// is one that any process can meet.
+/// Does a send's part at its sender. The message carries the token that the sender has afterwards,
+/// which is one that any process can meet.
 pub fn send<const TOP: u64>(
     me: Pid,
     local: &mut Local<TOP>,
@@ -38,7 +38,7 @@ pub fn send<const TOP: u64>(
     })
 }
 
-/// A receive.
+/// Makes a receive.
 pub fn receive_one<const TOP: u64>(
     me: Pid,
     local: &mut Local<TOP>,
@@ -56,7 +56,7 @@ pub fn receive_one<const TOP: u64>(
     receive(me, local, queue, 0, want)
 }
 
-/// Does the part of an act of a whole node that touches one process of it.
+/// Does the part of an act of a whole node at one of its processes.
 pub fn reach<const TOP: u64>(me: Pid, local: &mut Local<TOP>, queue: &mut Mailboxes, act: &Act)
     requires one_box { length queue.old.boxes ≡ 1 }
     requires fit { QueueFits TOP (queue_in queue.old.boxes 0) }

@@ -1,4 +1,4 @@
-//! Room in logs for one entry more.
+//! Room in logs for one more entry.
 
 ghost use Rattle.std.specs.Prelude.{◌≡◌, ◌≢◌, ◌+◌, ◌<◌, ◌≤◌, ◌↔◌, max, Err, IfOk, OnOk};
 ghost use Rattle.st_log.specs.Entries.{last_rank};
@@ -6,7 +6,7 @@ ghost use Rattle.st_log.specs.Entries.{last_rank};
 use crate::fault::PcbFault;
 use st_log::Log;
 
-/// Makes room for one entry, and returns its rank.
+/// Makes room for one entry, and returns its rank. Fails with `RankFull`, else with `Memory`.
 pub fn room(log: &mut Log, ranks: u64) -> Result<u64, PcbFault>
     requires { last_rank 0 log.old.entries ≤ ranks }
     ensures rank { IfOk result (λ n. (n ≡ last_rank 0 log.old.entries + 1) × (n ≤ ranks)) }
@@ -26,7 +26,8 @@ pub fn room(log: &mut Log, ranks: u64) -> Result<u64, PcbFault>
     Ok(last + 1)
 }
 
-/// Makes room for one entry in both logs, and returns its rank.
+/// Makes room for one entry in both logs, and returns its rank. Fails with `RankFull`, else with
+/// `Memory`.
 pub fn room_in_both(a: &mut Log, b: &mut Log, ranks: u64) -> Result<u64, PcbFault>
     requires a { last_rank 0 a.old.entries ≤ ranks }
     requires b { last_rank 0 b.old.entries ≤ ranks }

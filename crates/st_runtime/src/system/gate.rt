@@ -1,14 +1,14 @@
-//! Who is told of each act that holds all its locks, so that tests can let threads meet.
+//! Gates, which are told of each act that holds all its locks, so that tests can let threads meet.
 
 use st_core::Pid;
 
-/// Told of each act that comes to hold all its locks: whose it is, and how many acts its seat kept
-/// when the call began. An act that is then refused is told of too.
+/// A gate is told of each act that comes to hold all its locks, also of one that is then refused:
+/// its process, and the number of acts that the seat kept when the call began.
 pub trait Gate {
-    /// All locks are held, and no entry is written yet.
+    /// Is called once all locks are held, before an entry is written.
     fn before(&self, pid: Pid, n: u64);
 
-    /// All locks are given back.
+    /// Is called once all locks are given back.
     fn after(&self, pid: Pid, n: u64);
 }
 

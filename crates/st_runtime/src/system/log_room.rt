@@ -1,5 +1,5 @@
-//! How much room scripts need, counted before their acts are made: a log that has its room from
-//! the start isn't moved as it grows. A guess, on which no promise rests.
+//! The room that scripts need, counted before their acts are made: a log that has its room from
+//! the start isn't moved as it grows. The counts are a guess, on which no promise rests.
 
 ghost use Rattle.std.specs.Prelude.{◌≡◌, length, vec_len, IfOk};
 ghost use Rattle.st_core.specs.Pid.{IsRising};
@@ -9,8 +9,9 @@ use crate::system::pids::place_of;
 use st_core::{Act, Guesses, Pid, Sequence};
 use std::alloc::{AllocError, Global};
 
-/// For each process, how many entries its log gets of these scripts: its own acts and what is sent
-/// to it. The acts of a whole node that others make aren't counted, since they may be too many.
+/// Returns the number of entries that each process's log gets from the scripts: its own acts and
+/// the sends to it. Other processes' acts of a whole node aren't counted, since they may be too
+/// many.
 pub fn expected_entries(
     alloc: Global,
     pids: &[Pid],
@@ -27,8 +28,8 @@ pub fn expected_entries(
     Ok(counts)
 }
 
-/// Counts the entries of the script of the process at this place: one there for each act, and one
-/// at the receiver of each send.
+/// Counts the entries of one process's script: one at the process for each act, and one at the
+/// receiver of each send.
 fn count_script(counts: &mut [usize], pids: &[Pid], guesses: &Guesses, place: usize, script: &[Act])
     requires rising { IsRising pids.now }
     requires each { length counts.old ≡ length pids.now }
@@ -45,7 +46,7 @@ fn count_script(counts: &mut [usize], pids: &[Pid], guesses: &Guesses, place: us
     }
 }
 
-/// Counts an entry of this process, if it is there.
+/// Counts an entry of the process, if it is there.
 fn count_one(counts: &mut [usize], pids: &[Pid], guesses: &Guesses, pid: Pid)
     requires rising { IsRising pids.now }
     requires each { length counts.old ≡ length pids.now }

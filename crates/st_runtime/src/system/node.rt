@@ -14,18 +14,18 @@ use st_log::Entry;
 /// The findings under the locks so far.
 #[derive(Clone, Copy)]
 pub struct Found {
-    /// Who acts.
+    /// The pid of the actor.
     pub actor: Pid,
-    /// The greatest rank in their logs.
+    /// The greatest rank in the logs so far.
     pub last: u64,
-    /// Whether the actor was traced, once its lock is held.
+    /// Whether the actor was traced; none before its lock is held.
     pub was: Option<bool>,
-    /// One of them held another process than its own.
+    /// Whether one of the locks held another process than its own.
     pub stray: bool,
 }
 
 impl Found {
-    /// With what the lock of this pid holds.
+    /// Adds the finding under the lock of `pid`.
     pub fn with<const TOP: u64, const RANKS: u64>(self, pcb: &Pcb<TOP, RANKS>, pid: Pid) -> Found
         ensures actor { result.actor ≡ self.actor }
         ensures last { result.last ≡ max self.last (last_rank 0 pcb.now.log) }
@@ -49,7 +49,7 @@ impl Found {
         }
     }
 
-    /// The entry of the act, once all locks are held. It fails with `Stray`, or else with
+    /// Makes the entry of the act, once all locks are held. Fails with `Stray`, or else with
     /// `RankFull`.
     pub fn entry(&self, act: &Act, ranks: u64) -> Result<Entry, ActFault>
         requires wide { is_wide act.now ≡ true }

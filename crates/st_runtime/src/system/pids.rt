@@ -1,4 +1,4 @@
-//! Where pids are in a list that rises.
+//! The places of pids in a list that rises.
 
 ghost use Rattle.std.specs.Prelude.{◌≡◌, ◌≤◌, length, is_some, nat_lt, slice_get, Some, IfSome};
 ghost use Rattle.st_core.specs.Streams.{is_among};
@@ -7,7 +7,7 @@ ghost use Rattle.st_core.specs.Pid.{node_of, IsRising};
 use st_core::{Guesses, Pid};
 use std::alloc::{AllocError, Global};
 
-/// Guesses where these pids are.
+/// Makes guesses at the places of the pids.
 pub fn guesses_of(alloc: Global, pids: &[Pid]) -> Result<Guesses, AllocError> {
     let mut guesses = Guesses::for_pids(alloc, pids.len())?;
     for (place, pid) in pids.iter().enumerate() {
@@ -16,7 +16,7 @@ pub fn guesses_of(alloc: Global, pids: &[Pid]) -> Result<Guesses, AllocError> {
     Ok(guesses)
 }
 
-/// Where the pid is: mostly at the guess.
+/// Returns the place of the pid, if it is there: mostly the guess.
 pub fn place_of(guesses: &Guesses, pids: &[Pid], pid: Pid) -> Option<usize>
     requires { IsRising pids.now }
     ensures variant { is_some result ≡ is_among pids.now pid }
@@ -25,7 +25,7 @@ pub fn place_of(guesses: &Guesses, pids: &[Pid], pid: Pid) -> Option<usize>
     st_core::place_of(guesses, pids, pid)
 }
 
-/// Where the first process of the node is, if it has one.
+/// Returns the place of the first process of the node, or the place at which it would be.
 pub fn first_on(pids: &[Pid], node: u16) -> usize
     ensures { result ≤ length pids.now }
 {

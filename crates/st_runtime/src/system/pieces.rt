@@ -28,7 +28,7 @@ impl<const TOP: u64, const RANKS: u64> Model for Pieces<TOP, RANKS> {
 }
 
 impl<const TOP: u64, const RANKS: u64> Pieces<TOP, RANKS> {
-    /// Takes over processes and seats. Takes no memory.
+    /// Makes pieces of processes and seats. Takes no memory.
     pub fn new(processes: Vec<Pcb<TOP, RANKS>>, seats: Vec<Seat>) -> Pieces<TOP, RANKS>
         requires { IsRising (pids_in processes.items) }
         ensures processes { result.processes ≡ processes.entry.items }
@@ -37,7 +37,7 @@ impl<const TOP: u64, const RANKS: u64> Pieces<TOP, RANKS> {
         Pieces { processes, seats }
     }
 
-    /// The processes, without the seats.
+    /// Returns the processes, without the seats.
     pub fn into_processes(self) -> Vec<Pcb<TOP, RANKS>>
         ensures processes { result.items ≡ self.entry.processes }
         ensures rising { IsRising (pids_in result.items) }

@@ -1,4 +1,4 @@
-//! The right to act for one process, with the acts that were accepted.
+//! The right to act for one process, with the acts that were accepted through it.
 
 ghost use Rattle.std.specs.Prelude.{◌≡◌, IfOk};
 ghost use Rattle.st_runtime.specs.Seat.{no_calls};
@@ -8,7 +8,7 @@ use st_log::CallLog;
 use std::alloc::{AllocError, Global};
 use std::marker::Model;
 
-/// Who holds it acts for its process.
+/// A seat of a process: its holder makes the acts of the process.
 #[derive(Drop)]
 pub struct Seat {
     pub(crate) pid: Pid,
@@ -24,7 +24,7 @@ impl Model for Seat {
 }
 
 impl Seat {
-    /// A seat through which no act was made yet. Fails if memory runs out.
+    /// Makes a seat through which no act was made yet. Fails if memory runs out.
     pub(crate) fn new(alloc: Global, pid: Pid) -> Result<Seat, AllocError>
         ensures { IfOk result (λ seat. seat ≡ no_calls pid) }
     {
@@ -32,14 +32,14 @@ impl Seat {
         Ok(Seat { pid, mine })
     }
 
-    /// Whose it is.
+    /// Returns the pid of the seat's process.
     pub fn pid(&self) -> Pid
         ensures { result ≡ self.now.pid }
     {
         self.pid
     }
 
-    /// The acts that were accepted through it, with what they returned, in order.
+    /// Returns the acts that were accepted through the seat, with their replies, in order.
     pub fn mine(&self) -> &CallLog
         ensures { result.now.calls ≡ self.now.mine }
     {
