@@ -1,5 +1,5 @@
--- Bytes have one output of the audit at most: they are the text of one bundle, or have one fault,
--- and streams have one finding. It is a certificate if no reason holds of the streams.
+-- Bytes have at most one output of `audit`: they are the text of one bundle or have one fault, and
+-- streams have one finding. The finding on streams that are plain or fully shown is a certificate.
 use Rattle.std.proofs.Common.{◌≡◌, ◌⊎◌, ℕ, List, Option, refl, sym, ap, subst, ◌∙◌}
 use Rattle.st_core.specs.declared.types.Act.{Act}
 use Rattle.st_core.specs.Run.{Stream}

@@ -1,5 +1,5 @@
--- The definitions of the output and of the command line say what is meant: here they are computed
--- on worked values.
+-- The definitions of the output and of the command line are computed here on worked values, so
+-- that a reader sees that they say what is meant.
 use Rattle.std.proofs.Common.{◌≡◌, ℕ, List, [], ◌∷◌, codes, map, refl}
 use Rattle.std.specs.Prelude.{Option, Some, None}
 use Rattle.std.specs.Fmt.{digits}
@@ -66,7 +66,7 @@ module _ (name : Text) where
       ∷ []
 
   -- The word of a command alone asks for that command, but for `chart`, which wants its label. No
-  -- word, a second word, a word in part and a request for help ask for nothing.
+  -- word, a second word, a part of a command's word and a request for help ask for nothing.
   plain_words : map (λ line. task_asked line.0) plain_lines ≡ map (λ line. line.1) plain_lines
   unfolding clap_on_literals
   plain_words = refl

@@ -1,5 +1,5 @@
--- Bytes have exactly one output of each label's chart: they are the text of one bundle, or have one
--- fault; its streams have one reason against them, or else one order.
+-- Bytes have exactly one output of each label's chart: they are the text of one bundle or have one
+-- fault; pairing refuses the bundle's streams for one reason, or they have one order.
 use Rattle.std.proofs.Common.{◌≡◌, ℕ, Bool, true, false, List, Option, Some, None, refl, sym, ap}
 use Rattle.std.proofs.Common.{subst, ◌∙◌}
 use Rattle.std.specs.List.{list_any}

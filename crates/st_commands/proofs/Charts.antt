@@ -17,13 +17,14 @@ use Rattle.st_commands.specs.Audited.{report_output}
 use Rattle.st_commands.specs.Command.{Delivers, call}
 use Rattle.st_commands.specs.Parts.{ChartsTo, OfReason}
 
--- if the result isn't that no item has the label, one has it
+-- an item has the label if the chart didn't fail because none has it
 pub labelled : {T : Type 0} (r : Result T ChartFault) (some : Bool) → r ≢ Err chart_fault.NoLabel
     → (r ≡ Err chart_fault.NoLabel ↔ some ≡ false) → some ≡ true
 labelled r true other iff = refl
 labelled r false other iff = absurd (other (iff.1 refl))
 
--- what is delivered from where the chart left the writer is delivered from where it found it
+-- an output that was delivered after the chart was delivered by the whole call, if the chart left
+-- the writer as it was
 pub from_there : {W : Type 0} (device : SinkOf W) (old there new : W) (out : Output) (status : ℕ)
     → there ≡ old
     → Delivers (call device there new) out status → Delivers (call device old new) out status

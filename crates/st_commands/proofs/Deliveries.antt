@@ -1,5 +1,5 @@
--- The parts of a command together do what the command owes: the bytes that were read go
--- with each answer.
+-- The parts of a command together deliver what the command owes: each part's output is one for the
+-- bytes that were read.
 use Rattle.std.proofs.Common.{◌≡◌, ◌≢◌, ℕ, ◌<◌, ◌≤◌, false, List, length, refl, sym, subst, ◌∙◌}
 use Rattle.std.proofs.Common.{inl, inr, arith}
 use Rattle.std.proofs.lemmas.Option.{same_Some}
@@ -48,13 +48,13 @@ delivers writer out (Ok v) status w e = subst (Delivers writer out) (sym e) (Who
 delivers writer out (Err x) status w e = subst (Delivers writer out) (sym e) (Part w)
 
 module _ {W : Type 0} (writer : WriterCall W) (status : ℕ) where
-  -- what was told is owed for another reason too
+  -- an output that was told as one of P was told as one of Q, if each of P is one of Q
   pub tells_as : {P Q : Output → Type 0} → ((out : Output) → P out → Q out) → Tells writer P status
       → Tells writer Q status
   tells_as owed told =
       record { output = told.output; owed = owed told.output told.owed; delivered = told.delivered }
 
-  -- what is told of a bundle's acts is told of the bundle
+  -- an output that was told for a bundle's acts was told for the bundle
   pub tells_of_acts : (OfActs : List Stream → List Act → Output → Type 0) (c : Contents)
       (acts : List Act) → c.acts ≡ Some acts → Tells writer (OfActs c.streams acts) status
       → Tells writer (OfBundle OfActs c) status
@@ -68,7 +68,7 @@ module _ (limits : Limits) {R : Type 0} (reader : ReaderCall R) where
       ReadsSource limits reader.device.gives reader.device.ended reader.device.failed
       reader.old reader.new r
 
-  -- all bytes up to the source's end
+  -- the bytes up to the source's end are all its bytes
   up_to_end : (bytes : List ℕ) → InARow reader.device.gives reader.old bytes reader.new
       → reader.device.ended reader.new → reader.device.failed reader.new ≡ false
       → ReadsAll limits reader bytes
@@ -78,14 +78,14 @@ module _ (limits : Limits) {R : Type 0} (reader : ReaderCall R) where
       (faulty : (bytes : List ℕ) (f : ReadFault) → fault_within limits bytes ≡ Some f
       → IsOutput bytes (refused f))
     where
-      -- a fault of the bytes that were read
+      -- the output for a fault of the bytes that were read is owed
       of_fault : (bytes : List ℕ) (f : ReadFault) → InARow reader.device.gives reader.old bytes
           reader.new → reader.device.ended reader.new → reader.device.failed reader.new ≡ false
           → fault_within limits bytes ≡ Some f → Owes limits reader IsOutput (refused f)
       of_fault bytes f given end sound is =
           OfBytes bytes (refused f) (up_to_end bytes given end sound) (faulty bytes f is)
 
-      -- a refusal of the reader is owed, whatever the command makes of bytes
+      -- the output for a refusal of the reader is owed, whatever the command makes of bytes
       owes_fault : (f : ReadFault) → Reads (Err f) → Owes limits reader IsOutput (refused f)
       owes_fault faults.Memory h =
           ForMemory h.bytes (up_to_end h.bytes h.given h.answer.end h.answer.after) h.answer.small
@@ -129,7 +129,7 @@ module _ (limits : Limits) {R : Type 0} (reader : ReaderCall R) where
     spelled = record { text = h.answer.answer.text; within = h.answer.answer.within };
   }
 
-  -- what a command makes of a bundle's acts, it owes
+  -- the output for a bundle is owed, if the one for its acts and the one for no acts are
   module _ (IsOutput : List ℕ → Output → Type 0) (OfActs : List Stream → List Act → Output → Type 0)
       (c : Contents) (h : WasRead c) where
     pub owes_bundle : ((acts : List Act) (out : Output)
@@ -247,7 +247,7 @@ module _ {limits : Limits} {R W : Type 0} {reader : ReaderCall R} {writer : Writ
   says_owed out status (ForReader bytes given small mark) (Whole w) e = absurd (other (sym e))
   says_owed out status (ForReader bytes given small mark) (Part w) e = absurd (other (sym e))
 
-  -- a status other than that of a failure: an output with this status was written whole
+  -- if the call returned n, which isn't 4, an output with status n was written whole
   pub says : {status : ℕ} → Tells writer (Owes limits reader IsOutput) status → status ≡ n
       → Says limits reader writer Means
   says told e = says_owed told.output _ told.owed told.delivered e
@@ -268,7 +268,7 @@ performs if_yes if_no told = record {
 
 -- ---- all commands
 
--- what a command comes to is that the output that it owes was delivered, and what that means
+-- a command that performs has delivered an output that it owes
 pub performs_tells : (limits : Limits) {R W : Type 0} (reader : ReaderCall R)
     (writer : WriterCall W) (t : Task) (status : ℕ)
     → PerformsBy limits reader writer t status → Tells writer (OwesBy limits reader t) status
@@ -278,7 +278,7 @@ performs_tells limits reader writer task.Replay status done = done.told
 performs_tells limits reader writer task.Drive status done = done.told
 performs_tells limits reader writer (task.Chart label) status done = done.told
 
--- and it is what the command comes to that was asked for, since one task was
+-- if a command that was asked for performs, any command that was asked for does: there is only one
 pub performs_asked : (limits : Limits) {R W : Type 0} (reader : ReaderCall R)
     (writer : WriterCall W)
     (asked : Option Task) (t u : Task) (status : ℕ) → asked ≡ Some t → asked ≡ Some u

@@ -1,6 +1,6 @@
--- The result of `drive` is a record of the scripts, and a record says what status 0 means. An act
--- of a text that is refused stands for a stray process alone: its actor and receiver are listed,
--- and a text has fewer acts than clocks and ranks have counts.
+-- A record of the scripts has all that status 0 of `drive` means. An act of a text can be refused
+-- only as `Stray`: its actor and receiver are listed, and a text has fewer acts than clocks and
+-- ranks have counts.
 use Rattle.std.proofs.Common.{◌≡◌, ℕ, ◌*◌, ◌<◌, ◌≤◌, true, List, [], ◌∷◌, length, map, refl, sym}
 use Rattle.std.proofs.Common.{subst, arith, Some, slice_get}
 use Rattle.std.specs.Prelude.{All, zip, count_by}
@@ -38,7 +38,7 @@ use Rattle.st_commands.proofs.Deliveries.{WasRead, owes_bundle}
 
 -- ---- the scripts of few acts hold few acts
 
--- at most n acts in each of the scripts
+-- each script has at most all acts
 acts_below : (ps : List Pid) (xs : List Act) → acts_in (scripts_of ps xs) ≤ length ps * length xs
 acts_below [] xs = omega arith
 acts_below (p ∷ ps) xs =
@@ -85,7 +85,7 @@ few_acts limits bytes streams acts small s =
 
 -- ---- an act that was refused
 
--- a script in its place is that process's acts
+-- the script at a process's place is the process's own acts
 zipped : (ps : List Pid) (xs : List Act)
     → All (λ (x : Pid × List Act). x.1 ≡ acts_by x.0 xs) (zip ps (scripts_of ps xs))
 zipped [] xs = All-nil (λ (x : Pid × List Act). x.1 ≡ acts_by x.0 xs)
@@ -99,8 +99,8 @@ script_is ps xs p script k at =
     All_at (λ (x : Pid × List Act). x.1 ≡ acts_by x.0 xs) (zip ps (scripts_of ps xs)) k
     (p, script) at (zipped ps xs)
 
--- its acts are that process's, and each is among those of the text, so that its actor and receiver
--- are listed
+-- a process is the actor of each act in its script; each act is in the text, so its actor and its
+-- receiver are listed
 own_act : (xs : List Act) (p : Pid) (n : ℕ) (a : Act) → slice_get (acts_by p xs) n ≡ Some a
     → actor a ≡ p
 own_act xs p n a at =
@@ -147,7 +147,7 @@ module _ (limits : Limits) (small : AreSmall limits) (bytes : List ℕ) (streams
 
 -- ---- a record
 
--- each of two lists of scripts at its place
+-- if two lists of scripts are equal, the two scripts of each process are
 same_scripts : (f g : Pid → List Act) (ps : List Pid) → map f ps ≡ map g ps
     → All (λ p. f p ≡ g p) ps
 same_scripts f g [] e = All-nil (λ p. f p ≡ g p)

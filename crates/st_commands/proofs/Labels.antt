@@ -1,5 +1,5 @@
--- `clap` reads a label as a number of 32 bits from the text that it found, and none if that writes
--- no such number.
+-- `clap` reads a label as a number of 32 bits from the text that it found; there is no label if
+-- the text writes no number of 32 bits.
 use Rattle.std.proofs.Common.{◌≡◌, ℕ, Bool, true, false, List, refl, sym, ap, ◌∙◌, arith}
 use Rattle.std.specs.Prelude.{Option, Some, None, Result, Ok, Err, option_map, option_and_then}
 use Rattle.std.specs.Prelude.{if◌then◌else◌}
@@ -13,7 +13,7 @@ use Rattle.clap.proofs.WalkLemmas.{one_text-rows}
 use Rattle.st_commands.specs.declared.words.Task.TheVariants as task
 use Rattle.st_commands.specs.Words.{greatest_label, label_numbered, label_in}
 
--- the number of a text's digits
+-- the number that the digits of a text write
 abbrev written : Text → ℕ
 written text = digits_value 10 (without_leading_plus text)
 
@@ -38,7 +38,7 @@ module _ (E : Type 0) (text : Text) where
           absurd (h (within.0, omega (arith, most)))
       by false is = ap (λ (b : Bool). if b then Some (label_numbered (written text)) else None) is
 
--- if a reader gives a number of 32 bits as the standard library reads one
+-- for any reader that gives a number of 32 bits as the standard library reads it
 module _ (E : Type 0) (Gives : List ℕ → Result ℕ E → Type 0)
     (reads : (t : Text) (r : Result ℕ E) → Gives t r → ParsesUnsigned {E = E} 32 10 t r) where
   read_label : (t : Text) (r : Option ℕ) → ReadsOne Gives t r

@@ -1,4 +1,4 @@
--- The lemmas; what upper crates may cite is in `ForCallers`.
+-- The lemmas; `ForCallers` has those that upper crates may cite.
 pub mod Texts
 pub mod Deliveries
 pub mod Charts

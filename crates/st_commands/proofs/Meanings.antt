@@ -1,4 +1,4 @@
--- A status belongs to one kind of output: 0 to a yes, 1 to a no. So an output with it has that
+-- Status 0 belongs to a yes alone and status 1 to a no alone, so the status of an output tells its
 -- verdict, which tells the rest.
 use Rattle.std.proofs.Common.{◌≡◌, ◌≢◌, ℕ, ◌+◌, ◌≤◌, List, [], ◌∷◌, take, refl, ap, subst, ◌∙◌}
 use Rattle.std.proofs.Common.{arith}
@@ -132,7 +132,7 @@ never_stuck_in_replay limits few bytes n h =
 
 -- ---- a run
 
--- what acts report over pids is a stream for each of these
+-- acts report one stream for each pid, in the order of the pids
 reported_pids : (ps : List Pid) (acts : List Act) (os : List Outcome)
     → pids_of (reported_streams ps acts os) ≡ ps
 reported_pids [] acts os = refl
@@ -171,7 +171,7 @@ replayed_means limits bytes out (replays.Lacking b n) e = absurd (omega (arith, 
 replayed_means limits bytes out (replays.Faulty b f is) e =
     let high = fault_status_high f in absurd (omega arith)
 
--- and no other status 1
+-- no output of `replay` has status 1
 pub never_refused : (limits : Limits) → limits.acts ≤ top → (bytes : List ℕ) (out : Output)
     → IsReplayed limits bytes out → out.status ≡ 1 → ⊥
 never_refused limits few bytes out (replays.Ran b pids acts os h) e = absurd (omega (arith, e))

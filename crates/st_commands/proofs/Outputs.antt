@@ -30,7 +30,7 @@ use Rattle.st_commands.specs.Laws.{HasOneOutput}
 abbrev pub whole : List Stream → Option (List Act) → Contents
 whole streams acts = record { streams = streams; acts = acts }
 
--- the streams and acts that bytes spell
+-- the streams and acts of two bundles are equal, as they are if the same bytes spell both
 record Same (ss ts : List Stream) (xs ys : List Act) : Type 0 where
   streams : ss ≡ ts
   acts : xs ≡ ys
@@ -94,7 +94,7 @@ one_check limits bytes one other (checked.Faulty x f is) (checked.Faulty y g als
 
 -- ---- replay
 
--- a run has each step
+-- no act of a run is stuck
 runs_on : (ps : List Pid) (xs : List Act) (os : List Outcome) (n : ℕ) → run top ps xs ≡ Some os
     → SticksAt top ps xs n → (X : Type 0) → X
 runs_on ps xs os n is s X =
@@ -128,7 +128,7 @@ one_outcome : (ps : List Pid) (xs : List Act) (os us : List Outcome) → run top
     → run top ps xs ≡ Some us → os ≡ us
 one_outcome ps xs os us p q = cc
 
--- a run over pids that bytes list, over those of their streams
+-- the run over the pids that bytes list is one over the pids of the streams that the bytes spell
 run_on : (limits : Limits) (bytes : List ℕ) (streams : List Stream) (xs : List Act) (ps : List Pid)
     (ys : List Act) (os : List Outcome)
     → Spells limits bytes streams (Some xs) → HasRun limits bytes ps ys os

@@ -18,7 +18,7 @@ use Rattle.st_commands.specs.Replayed.{IsReplayed, replayed}
 use Rattle.st_commands.specs.Replayed as replays
 use Rattle.st_commands.specs.Laws.{HasOutput}
 
--- a verdict of what bytes spell
+-- the verdict on streams and acts that bytes spell is one on the bytes
 pub judgement : (limits : Limits) (bytes : List ℕ) (streams : List Stream) (acts : List Act)
     (v : Verdict) → Spells limits bytes streams (Some acts) → IsVerdict top streams acts v
     → IsJudged limits bytes v
@@ -59,7 +59,8 @@ module _ (limits : Limits) (IsOutput : List ℕ → Output → Type 0) (bytes : 
   has_output : (out : Output) × IsOutput bytes out
   has_output = of_fault (fault_within limits bytes) refl
 
--- if streams and acts have a verdict, which is a law of the machine's
+-- any bytes have an output of `check` if any streams and acts have a verdict, which is a law of
+-- the machine
 pub a_check : ((top : ℕ) (streams : List Stream) (acts : List Act)
     → (v : Verdict) × IsVerdict top streams acts v)
     → (limits : Limits) → HasOutput (IsChecked limits)

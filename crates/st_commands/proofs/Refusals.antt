@@ -16,7 +16,7 @@ pub owes_refusal : {R : Type 0} (limits : Limits) (device : SourceOf R) (reader 
 owes_refusal limits device reader words refusals.Memory h = ForNoMemory refl
 owes_refusal limits device reader words refusals.Usage h = ForUsage h refl
 
--- then the status is that of no yes and of no no
+-- the status for refused words is neither that of a yes nor that of a no
 pub refusal_high : {W : Type 0} (writer : WriterCall W) (r : Refusal) (status : ℕ)
     → Delivers writer (refusal_output r) status → 2 ≤ status
 refusal_high writer refusals.Memory status (Whole w) = omega arith

@@ -1,4 +1,4 @@
--- The streams that acts report, and the acts, are those of the output; the act that is stuck has no
+-- The output has the streams that the acts report, and the acts; or it names the act that has no
 -- step.
 use Rattle.std.proofs.Common.{◌≡◌, List, subst, sym, ap}
 use Rattle.st_core.specs.declared.types.Pid.{Pid}

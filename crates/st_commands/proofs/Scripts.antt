@@ -1,5 +1,5 @@
--- An act is in its own process's script and in no other, so one more act makes that script longer
--- by it.
+-- An act is in the script of its own process and in no other, so one more act is appended to that
+-- script alone.
 use Rattle.std.proofs.Common.{◌≡◌, zero, suc, Bool, true, false, List, [], ◌∷◌, ◌++◌, cond, refl}
 use Rattle.std.proofs.Common.{sym, ap, ◌∙◌, ℕ, ◌+◌}
 use Rattle.std.proofs.Common.{◌<◌, get_or, set, slice_get, take, length, Some, subst, arith}
@@ -21,7 +21,7 @@ pub none_yet : (ps : List Pid) → replicate (length ps) [] ≡ scripts_of ps []
 none_yet [] = refl
 none_yet (p ∷ ps) = ap (λ (xs : List (List Act)). [] ∷ xs) (none_yet ps)
 
--- one more act is p's, or isn't
+-- one more act is appended to p's script if it is p's, and otherwise leaves the script as it was
 one_more : (p : Pid) (xs : List Act) (a : Act) (b : Bool) → pid_eq p (actor a) ≡ b
     → acts_by p (xs ++ a ∷ []) ≡ acts_by p xs ++ cond b (a ∷ []) []
 one_more p xs a b is =
@@ -41,7 +41,7 @@ unscripted (p ∷ ps) xs a others =
     ∙ ap (λ (scripts : List (List Act)). acts_by p (xs ++ a ∷ []) ∷ scripts)
     (unscripted ps xs a others.1)
 
--- the scripts with the act at the end of the one at place i
+-- the scripts after the act is appended to the script at place i
 abbrev longer : List (List Act) → ℕ → Act → List (List Act)
 longer scripts i a = set scripts i (get_or scripts i [] ++ a ∷ [])
 
@@ -83,7 +83,7 @@ next_scripted ps acts k d scripts i is within rising at =
     ∙ scripted ps (take k acts) a i rising at
     ∙ ap (scripts_of ps) (sym (take_more acts k d within))
 
--- the script at a place of the pids
+-- each pid has a script at its place
 pub script_within : (ps : List Pid) (xs : List Act) (scripts : List (List Act)) (p : Pid) (i : ℕ)
     → scripts ≡ scripts_of ps xs → slice_get ps i ≡ Some p → i < length scripts
 script_within ps xs scripts p i is at =

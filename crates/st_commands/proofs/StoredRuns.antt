@@ -1,6 +1,6 @@
--- Two stored runs are yeses by the definitions alone: each value that the definitions ask for is
--- computed here. Nothing cites this file; it shows that what `check` is proved to owe of these
--- bytes is what a reader expects.
+-- By the definitions alone `check` says yes of two stored runs: each value that the definitions
+-- ask for is computed here. Nothing cites this file; it shows that `check` is proved to owe the
+-- output that a reader expects.
 use Rattle.std.proofs.Common.{◌≡◌, ℕ, Bool, true, false, List, [], ◌∷◌, ◌++◌, length, Option, Some}
 use Rattle.std.proofs.Common.{None, refl, arith}
 use Rattle.std.specs.Prelude.{codes}

@@ -40,7 +40,7 @@ module _ {Z : Type 0} where
   named_rows (Some s) name rows is has = cc
 
 module _ (words : List Text) where
-  -- by the faults that `clap` finds in the words
+  -- the command that the words ask for, by the kinds of the faults that `clap` finds in them
   abbrev asked_at : Kinds → Option Task
   asked_at k =
       if is_empty k then option_and_then (λ p. task_of p.0 p.1)

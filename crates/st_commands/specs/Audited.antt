@@ -1,5 +1,5 @@
--- The result of `audit` on bytes: the report of what is found of the streams that they spell, or
--- why they spell none. The acts in the input are ignored.
+-- The output of `audit`: the report of what it finds of the streams that the bytes spell, or why
+-- the bytes spell none. The acts in the input are ignored.
 use Rattle.std.specs.Prelude.{◌≡◌, ℕ, List, Option, Some}
 use Rattle.std.specs.Option.{ForSome}
 use Rattle.st_core.specs.declared.types.Act.{Act}
@@ -20,14 +20,14 @@ abbrev pub finding_status : Finding → ℕ
 finding_status (finding.Fits acts pairs) = 0
 finding_status (finding.Unfit p i r) = 1
 
--- the report of what was found of streams
+-- the output that reports a finding on streams
 abbrev pub report_output : List Stream → Finding → Output
 report_output streams found =
     record { text = report_text streams found; status = finding_status found }
 
--- The bytes spell streams, of which this is found: acts that the checker accepts, or an event that
--- is there and a reason that holds there. If pairing refuses the streams, its reason is what is
--- found, and is final; and it is what the construction finds, no other acts and no other event.
+-- The bytes spell streams, and the finding is true: acts that the checker accepts, or an event of
+-- the streams and a reason that holds at it. If pairing refuses the streams, the finding is its
+-- reason, which is final. The finding is exactly that of the construction.
 pub record HasFinding (limits : Limits) (bytes : List ℕ) (streams : List Stream)
     (found : Finding) : Type 0 where
   pub given : Option (List Act)
@@ -37,7 +37,7 @@ pub record HasFinding (limits : Limits) (bytes : List ℕ) (streams : List Strea
   pub final : ForSome (fault_of found) (RulesOut streams)
   pub exact : IsAudit top streams found
 
--- the output of the bytes
+-- the output that `audit` has for bytes
 pub data IsAudited (limits : Limits) : List ℕ → Output → Type 0 where
   Found : (bytes : List ℕ) (streams : List Stream) (found : Finding)
       → HasFinding limits bytes streams found

@@ -1,5 +1,5 @@
--- The result of `chart` on bytes: the chart of one label of the streams that they spell, or why
--- there is none. The acts in the input are ignored.
+-- The output of `chart`: the chart of one label in the streams that the bytes spell, or why there
+-- is none. The acts in the input are ignored.
 use Rattle.std.specs.Prelude.{◌≡◌, ℕ, true, false, List, ◌++◌, Option, Some, None, codes}
 use Rattle.std.specs.List.{list_any}
 use Rattle.st_core.specs.declared.types.Label.{Label}
@@ -26,11 +26,11 @@ use Rattle.st_commands.specs.Audited.{report_output}
 abbrev pub drawn : List Stream → List Item → Label → Output
 drawn streams items label = record { text = chart_text streams items label; status = 0 }
 
--- no item has the label
+-- the output if no item has the label
 abbrev pub no_label : Label → Output
 no_label label = record { text = ended_line (codes "no label " ++ spelled.label label); status = 1 }
 
--- the bytes spell streams that pairing accepts, of which this is the order
+-- the bytes spell streams that pairing accepts, and the items are the order of the streams
 pub record HasOrder (limits : Limits) (bytes : List ℕ) (streams : List Stream)
     (items : List Item) : Type 0 where
   pub given : Option (List Act)
@@ -38,7 +38,7 @@ pub record HasOrder (limits : Limits) (bytes : List ℕ) (streams : List Stream)
   pub accepted : refusal streams ≡ None
   pub order : IsOrder streams items
 
--- the bytes spell streams that pairing refuses, and this is its reason as a finding
+-- the bytes spell streams that pairing refuses, and the finding is its reason
 pub record HasPairFault (limits : Limits) (bytes : List ℕ) (streams : List Stream)
     (found : Finding) : Type 0 where
   pub given : Option (List Act)
@@ -47,7 +47,7 @@ pub record HasPairFault (limits : Limits) (bytes : List ℕ) (streams : List Str
   pub refused : refusal streams ≡ Some fault
   pub found_by : unfit_by fault ≡ Some found
 
--- the output of the bytes
+-- the output that `chart` has for bytes
 pub data IsCharted (limits : Limits) (label : Label) : List ℕ → Output → Type 0 where
   Drawn : (bytes : List ℕ) (streams : List Stream) (items : List Item)
       → HasOrder limits bytes streams items

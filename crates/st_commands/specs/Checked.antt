@@ -1,5 +1,5 @@
--- The result of `check` on bytes: the verdict of the streams and acts that they spell, or why they
--- spell none. The limits are those of the reader.
+-- The output of `check`: the verdict on the streams and acts that the bytes spell, or why the
+-- bytes spell none. The limits are those of the reader.
 use Rattle.std.specs.Prelude.{◌≡◌, ℕ, List, Option, Some, None}
 use Rattle.st_core.specs.declared.types.Act.{Act}
 use Rattle.st_core.specs.Run.{Stream}
@@ -15,15 +15,15 @@ use Rattle.st_commands.specs.Output.{Output, judged, refused, no_acts}
 abbrev pub top : ℕ
 top = 18446744073709551615
 
--- the bytes are the text of these streams, and of acts if there are any, within the limits
+-- the bytes are the text of the streams, and of the acts if there are any, within the limits
 pub record Spells (limits : Limits) (bytes : List ℕ) (streams : List Stream)
     (acts : Option (List Act)) : Type 0
   where
     pub text : IsText bytes (record { streams = streams; acts = acts })
     pub within : IsWithin limits (record { streams = streams; acts = acts })
 
--- the bytes spell streams and acts, of which this is the verdict; on a yes each reported receive
--- has a pair in which it follows its send
+-- the bytes spell streams and acts with the verdict v; if v is a yes, each reported receive has a
+-- pair in which it follows its send
 pub record IsJudged (limits : Limits) (bytes : List ℕ) (v : Verdict) : Type 0 where
   pub streams : List Stream
   pub acts : List Act
@@ -37,7 +37,7 @@ pub record LacksActs (limits : Limits) (bytes : List ℕ) : Type 0 where
   pub streams : List Stream
   pub spelled : Spells limits bytes streams None
 
--- the output of the bytes
+-- the output that `check` has for bytes
 pub data IsChecked (limits : Limits) : List ℕ → Output → Type 0 where
   Judged : (bytes : List ℕ) (v : Verdict) → IsJudged limits bytes v
       → IsChecked limits bytes (judged v)

@@ -1,5 +1,5 @@
--- A call of a command on its reader and its writer: it reads all bytes, writes their
--- output, and returns its status.
+-- The duty of a command: it reads all bytes of its reader, writes the output for them to its
+-- writer, and returns the output's status.
 use Rattle.std.specs.Prelude.{◌≡◌, ℕ, ◌+◌, ◌≤◌, true, false, List, length, ◌⊎◌, Some, None}
 use Rattle.st_core.specs.declared.device.sink.ByteSink.{Ghosts as SinkOf}
 use Rattle.st_core.specs.declared.device.source.ByteSource.{Ghosts as SourceOf}
@@ -19,15 +19,15 @@ use Rattle.st_commands.specs.Recorded.{IsRecorded}
 
 -- ---- the call of a device
 
--- A command's call as a device sees it: what the device's trait says of it, and its states before
--- and after.
+-- A command's call as one device sees it: the device's trait, and the device's states before and
+-- after the call.
 pub record Call (Trait : Type 1) (S : Type 0) : Type 1 where
   pub device : Trait
   pub old : S
   pub new : S
 
--- A clause writes `call R.ByteSource reader.old reader.new` of a reader, and
--- `call W.ByteSink writer.old writer.new` of a writer.
+-- A clause writes `call R.ByteSource reader.old reader.new` for a reader, and
+-- `call W.ByteSink writer.old writer.new` for a writer.
 abbrev pub call : {Trait : Type 1} {S : Type 0} → Trait → S → S → Call Trait S
 call device old new = record { device = device; old = old; new = new }
 
@@ -41,16 +41,16 @@ WriterCall W = Call (SinkOf W) W
 
 -- The limits are those of the reader: how many bytes, processes, events and acts a text may have.
 module _ (limits : Limits) {R : Type 0} (reader : ReaderCall R) where
-  -- The reader gave these bytes, one piece after the other, without a failure; and then it had no
-  -- more, or they are one more than may be read.
+  -- The reader gave the bytes, one piece after the other, without a failure. Then it had ended, or
+  -- it had given one byte more than the limit.
   pub record ReadsAll (bytes : List ℕ) : Type 0 where
     pub given : InARow reader.device.gives reader.old bytes reader.new
     pub whole : reader.device.ended reader.new ⊎ (length bytes ≡ limits.bytes + 1)
     pub sound : reader.device.failed reader.new ≡ false
 
-  -- The output that a command owes, by what it makes of all the bytes. Memory that runs out and a
-  -- failed reader have outputs of their own, and neither comes in place of the fault of too many
-  -- bytes.
+  -- The output that a command owes: an output for all bytes that it read, or `fault memory` if
+  -- memory ran out, or `fault device` if the reader failed. Neither fault comes if the reader gave
+  -- more bytes than the limit.
   pub data Owes (IsOutput : List ℕ → Output → Type 0) : Output → Type 0 where
     OfBytes : (bytes : List ℕ) (out : Output) → ReadsAll bytes → IsOutput bytes out
         → Owes IsOutput out
@@ -69,7 +69,8 @@ module _ (limits : Limits) {R : Type 0} (reader : ReaderCall R) where
   OwesBy task.Drive out = Owes (IsRecorded limits) out
   OwesBy (task.Chart label) out = Owes (IsCharted limits label) out
 
-  -- the output that the program owes, by its words: if they ask for no command, nothing is read
+  -- the output that the program owes for its words; if they ask for no command, or if memory runs
+  -- out for them, nothing is read
   pub data OwesFor (words : List Text) : Output → Type 0 where
     ForCommand : (t : Task) (out : Output) → task_asked words ≡ Some t → OwesBy t out
         → OwesFor words out

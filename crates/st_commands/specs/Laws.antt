@@ -15,7 +15,7 @@ use Rattle.st_commands.specs.Audited.{IsAudited}
 use Rattle.st_commands.specs.Recorded.{HasRecord, IsRecorded, record_output}
 use Rattle.st_commands.specs.Meaning.{MeansYes, MeansNo, MeansFits, MeansUnfit, MeansDriven}
 
--- status 0 is a yes, and status 1 a no, whatever the limits of the reader
+-- status 0 of `check` is a yes, and status 1 a no, whatever the limits of the reader
 abbrev pub YesMeans : Type 0
 YesMeans =
     (limits : Limits) (bytes : List ℕ) (out : Output) → IsChecked limits bytes out
@@ -26,7 +26,7 @@ NoMeans =
     (limits : Limits) (bytes : List ℕ) (out : Output) → IsChecked limits bytes out
     → out.status ≡ 1 → MeansNo limits bytes out
 
--- if the bytes spell acts that show the streams, the output is a yes
+-- if the bytes spell streams and acts that show them, `check` says yes
 abbrev pub ShownIsYes : Type 0
 ShownIsYes =
     (limits : Limits) (bytes : List ℕ) (streams : List Stream) (acts : List Act) (out : Output)
@@ -44,8 +44,8 @@ UnfitMeans =
     (limits : Limits) (bytes : List ℕ) (out : Output) → IsAudited limits bytes out
     → out.status ≡ 1 → MeansUnfit limits bytes out
 
--- of plain streams, and of those of a run without a reset that reported everything, `audit` writes
--- a certificate
+-- `audit` writes a certificate for plain streams, and for the streams of a run without a reset
+-- that reported everything
 abbrev pub CertainTracesFit : Type 0
 CertainTracesFit =
     (limits : Limits) (bytes : List ℕ) (streams : List Stream) (given : Option (List Act))
@@ -57,8 +57,8 @@ CertainTracesFit =
 abbrev pub certificate : List Stream → List Act → List ℕ
 certificate streams acts = spelling (record { streams = streams; acts = Some acts })
 
--- if acts have the verdict yes, and their text is one within the reader's limits, `check` of it
--- says yes and the pairs, and nothing else
+-- if streams and acts have the verdict yes, and their text is one within the reader's limits,
+-- `check` of the text says yes and the pairs, and nothing else
 abbrev pub CertificateIsYes : Type 0
 CertificateIsYes =
     (limits : Limits) (streams : List Stream) (acts : List Act) (pairs : List (ℕ × ℕ))
@@ -72,15 +72,15 @@ DrivenMeans =
     (limits : Limits) (bytes : List ℕ) (out : Output) → IsRecorded limits bytes out
     → out.status ≡ 0 → MeansDriven limits bytes out
 
--- if the text of a record is one within the limits of a reader, which may be others than those of
--- the reader before `drive`, `check` of it says yes
+-- if a record's text is one within a reader's limits, `check` of the text says yes; the limits may
+-- differ from those that `drive` read within
 abbrev pub RecordedIsYes : Type 0
 RecordedIsYes =
     (limits others : Limits) (bytes : List ℕ) (r : Record) → HasRecord limits bytes r
     → Spells others (record_output r).text r.streams (Some r.acts)
     → (out : Output) → IsChecked others (record_output r).text out → out.status ≡ 0
 
--- bytes have an output of the command, and one at most
+-- any bytes have an output of the command, and at most one
 abbrev pub HasOutput : (List ℕ → Output → Type 0) → Type 0
 HasOutput IsOutput = (bytes : List ℕ) → (out : Output) × IsOutput bytes out
 
@@ -88,8 +88,8 @@ abbrev pub HasOneOutput : (List ℕ → Output → Type 0) → Type 0
 HasOneOutput IsOutput =
     (bytes : List ℕ) (one other : Output) → IsOutput bytes one → IsOutput bytes other → one ≡ other
 
--- no act of a text is stuck if no more acts are read than a clock has counts: clocks don't reach
--- TOP then, and the pids of acts are listed
+-- no act of a text is stuck if the reader takes no more acts than a clock has counts: no clock is
+-- full before an act, and the pids of acts are listed
 abbrev pub NeverStuck : Type 0
 NeverStuck =
     (limits : Limits) → limits.acts ≤ top → (bytes : List ℕ) (n : ℕ)

@@ -9,6 +9,6 @@ pub mod Words
 pub mod Command
 pub mod Meaning
 pub mod Laws
--- For the parts alone: the functions that a command is made of.
+-- Only for the contracts of the functions that a command is made of.
 pub mod Lines
 pub mod Parts

@@ -1,4 +1,5 @@
--- The words of each line of the program's own, for the contracts of the functions that write them.
+-- The words of each line that isn't part of a bundle, a report or a chart, for the contracts of
+-- the functions that write it.
 use Rattle.std.specs.Prelude.{ℕ, ◌+◌, List, ◌++◌, codes, decimal}
 use Rattle.st_text.specs.Room.{pid_room, number_room}
 use Rattle.st_text.specs.Spelling as spelled
@@ -21,7 +22,7 @@ output_words lines.ThreadFault = codes "fault thread"
 output_words lines.JoinFault = codes "fault join"
 output_words lines.Usage = usage_words
 
--- how many bytes the words of a line take at most, each number given the room of the longest: an
--- act that was refused
+-- the room for the words of a line: no line needs more than that of an act that was refused, with
+-- each number as long as a number can be
 abbrev pub output_room : ℕ
 output_room = 11 + pid_room + number_room

@@ -1,6 +1,5 @@
--- The meaning of a yes and a no of each command, each as one record of plain facts, in the words of
--- the machine. The limits are those of the reader: how many bytes, processes, events and acts a
--- text may have.
+-- The meaning of each command's yes and of its no: a record of facts, in the words of the machine.
+-- The limits are those of the reader: how many bytes, processes, events and acts a text may have.
 use Rattle.std.specs.Prelude.{◌≡◌, ℕ, true, false, List, ◌++◌, Option, Some, None, IsSome, All}
 use Rattle.std.specs.Prelude.{codes, filter}
 use Rattle.std.specs.List.{flat_map, list_any}
@@ -43,7 +42,7 @@ use Rattle.st_commands.specs.Recorded.{ranks, scripts_of, act_fault_words, IsRec
 use Rattle.st_commands.specs.Replayed.{IsReplayed}
 use Rattle.st_commands.specs.Command.{ReaderCall, WriterCall, ReadsAll, Owes, Tells}
 
--- a yes: status 0
+-- a yes, status 0 of `check`: the acts show the streams
 pub record MeansYes (limits : Limits) (bytes : List ℕ) (out : Output) : Type 0 where
   pub streams : List Stream
   pub acts : List Act
@@ -59,10 +58,10 @@ pub record MeansYes (limits : Limits) (bytes : List ℕ) (out : Output) : Type 0
   -- in each pair the receive follows its send, with the same label and serial, and no send is in
   -- two pairs
   pub follows : Follows acts outcomes (pairs acts outcomes)
-  -- the text is the line yes and a line for each of these pairs
+  -- the text is the line yes and a line for each pair
   pub text : out.text ≡ ended_line (codes "yes") ++ flat_map pair_line (pairs acts outcomes)
 
--- a no: status 1
+-- a no, status 1 of `check`: the acts don't show the streams
 pub record MeansNo (limits : Limits) (bytes : List ℕ) (out : Output) : Type 0 where
   pub streams : List Stream
   pub acts : List Act
@@ -72,13 +71,13 @@ pub record MeansNo (limits : Limits) (bytes : List ℕ) (out : Output) : Type 0 
   -- the acts don't show the streams: they have no run in which each process reports exactly its
   -- stream
   pub refuted : ¬ Shows top streams acts
-  -- the text names a place
+  -- the text is the line of a verdict, which names a place
   pub text : out.text ≡ verdict_text verdict
   -- and the place shows it: all before it passes, and act n has no step or reports another event,
   -- or p has events left
   pub place : IsVerdict top streams acts verdict
 
--- a certificate: status 0 of `audit`
+-- a certificate, status 0 of `audit`: acts that show the streams
 pub record MeansFits (limits : Limits) (bytes : List ℕ) (out : Output) : Type 0 where
   pub streams : List Stream
   pub given : Option (List Act)
@@ -86,14 +85,14 @@ pub record MeansFits (limits : Limits) (bytes : List ℕ) (out : Output) : Type 
   pub outcomes : List Outcome
   -- the bytes spell streams, and acts or none, within the reader's limits
   pub spelled : Spells limits bytes streams given
-  -- other acts are a run of the machine from zero clocks over the streams' processes
+  -- the certificate's acts are a run of the machine from zero clocks over the streams' processes
   pub runs : run top (pids_of streams) acts ≡ Some outcomes
   -- in it each process reports exactly its stream; so the acts show the streams (`Shows`)
   pub reports : All (λ x. stream acts outcomes x.pid ≡ x.events) streams
   -- the text is that of the streams with these acts
   pub text : out.text ≡ spelling (record { streams = streams; acts = Some acts })
 
--- an event and a reason: status 1 of `audit`
+-- an event and a reason, status 1 of `audit`: the reason holds at the event
 pub record MeansUnfit (limits : Limits) (bytes : List ℕ) (out : Output) : Type 0 where
   pub streams : List Stream
   pub given : Option (List Act)
@@ -106,12 +105,12 @@ pub record MeansUnfit (limits : Limits) (bytes : List ℕ) (out : Output) : Type
   pub there : IsSome (event_at streams pid index)
   -- and the reason holds at it
   pub holds : IsReason top streams pid index reason
-  -- one of pairing is final: acts without a reset never show the streams, or no acts at all do
+  -- a reason of pairing is final: no acts without a reset show the streams, or no acts at all
   pub final : ForSome (fault_of (finding.Unfit pid index reason)) (RulesOut streams)
   -- the text names the event and the reason, and what the reason rests on
   pub text : out.text ≡ report_text streams (finding.Unfit pid index reason)
 
--- a record of threads: status 0 of `drive`
+-- a record of threads, status 0 of `drive`: a run in which each process makes its own acts
 pub record MeansDriven (limits : Limits) (bytes : List ℕ) (out : Output) : Type 0 where
   pub listed : List Stream
   pub given : List Act
@@ -120,18 +119,18 @@ pub record MeansDriven (limits : Limits) (bytes : List ℕ) (out : Output) : Typ
   pub outcomes : List Outcome
   -- the bytes spell acts of listed processes, within the reader's limits
   pub spelled : Spells limits bytes listed (Some given)
-  -- acts are a run of the machine from zero clocks over these processes
+  -- the record's acts are a run of the machine from zero clocks over the listed processes
   pub runs : run top (pids_of streams) acts ≡ Some outcomes
   pub pids : pids_of streams ≡ pids_of listed
   -- in it each process reports exactly its stream; so the acts show the streams (`Shows`)
   pub reports : All (λ x. stream acts outcomes x.pid ≡ x.events) streams
-  -- each process's acts are its own of the given ones, in their order
+  -- each process makes exactly its own acts among the given ones, in their order
   pub own : All (λ p. filter (λ a. pid_eq (actor a) p) acts
       ≡ filter (λ a. pid_eq (actor a) p) given) (pids_of streams)
   -- the text is that of the streams with these acts
   pub text : out.text ≡ spelling (record { streams = streams; acts = Some acts })
 
--- an act that was refused: status 1 of `drive`
+-- an act that was refused, status 1 of `drive`
 pub record MeansStray (limits : Limits) (bytes : List ℕ) (out : Output) : Type 0 where
   pub listed : List Stream
   pub given : List Act
@@ -139,14 +138,14 @@ pub record MeansStray (limits : Limits) (bytes : List ℕ) (out : Output) : Type
   pub number : ℕ
   -- the bytes spell acts of listed processes, within the reader's limits
   pub spelled : Spells limits bytes listed (Some given)
-  -- of the given acts this process could make those before this number; it is refused, because the
-  -- process under a lock isn't that of the lock, which no call leaves so
+  -- act `number` of the process's own given acts was refused as `Stray`: a lock held another
+  -- process than its own; no call leaves a lock so, but no clause says that
   pub refused : IsDriveFault top ranks (pids_of listed) (scripts_of (pids_of listed) given)
       (drive.Act pid number act.Stray)
   -- the text names the process and the number
   pub text : out.text ≡ ended_line (act_fault_words pid number)
 
--- a run: status 0 of `replay`, which has no status 1
+-- a run, status 0 of `replay`, which has no status 1
 pub record MeansReplayed (limits : Limits) (bytes : List ℕ) (out : Output) : Type 0 where
   pub listed : List Stream
   pub streams : List Stream
@@ -154,7 +153,7 @@ pub record MeansReplayed (limits : Limits) (bytes : List ℕ) (out : Output) : T
   pub outcomes : List Outcome
   -- the bytes spell acts of listed processes, within the reader's limits
   pub spelled : Spells limits bytes listed (Some acts)
-  -- the acts are a run of the machine from zero clocks over these processes
+  -- the acts are a run of the machine from zero clocks over the listed processes
   pub runs : run top (pids_of streams) acts ≡ Some outcomes
   pub pids : pids_of streams ≡ pids_of listed
   -- in it each process reports exactly its stream; so the acts show the streams (`Shows`)
@@ -162,7 +161,7 @@ pub record MeansReplayed (limits : Limits) (bytes : List ℕ) (out : Output) : T
   -- the text is that of the streams with these acts
   pub text : out.text ≡ spelling (record { streams = streams; acts = Some acts })
 
--- a chart: status 0 of `chart`
+-- a chart, status 0 of `chart`: the items with the label
 pub record MeansCharted (limits : Limits) (label : Label) (bytes : List ℕ) (out : Output) : Type 0
   where
     pub streams : List Stream
@@ -170,16 +169,16 @@ pub record MeansCharted (limits : Limits) (label : Label) (bytes : List ℕ) (ou
     pub items : List Item
     -- the bytes spell streams, and acts or none, within the reader's limits
     pub spelled : Spells limits bytes streams given
-    -- no reason of pairing holds, so each receive has its one send, which was reported or wasn't
+    -- no reason of pairing holds, so each receive has one send, which was reported or wasn't
     pub accepted : refusal streams ≡ None
     -- the items are the events and the sends that weren't reported, in their order
     pub order : IsOrder streams items
-    -- one of them has the label
+    -- an item has the label
     pub labelled : list_any (item_has_label streams label) items ≡ true
-    -- the text is the chart of those with the label
+    -- the text is the chart of the items with the label
     pub text : out.text ≡ chart_text streams items label
 
--- no item with the label: status 1 of `chart`, if no reason of pairing holds
+-- no item has the label, status 1 of `chart` if no reason of pairing holds
 pub record MeansNoLabel (limits : Limits) (label : Label) (bytes : List ℕ) (out : Output) : Type 0
   where
     pub streams : List Stream
@@ -191,12 +190,12 @@ pub record MeansNoLabel (limits : Limits) (label : Label) (bytes : List ℕ) (ou
     pub accepted : refusal streams ≡ None
     -- the items are the events and the sends that weren't reported, in their order
     pub order : IsOrder streams items
-    -- none of them has the label
+    -- no item has the label
     pub unlabelled : list_any (item_has_label streams label) items ≡ false
-    -- the text says so
+    -- the text says that no item has the label
     pub text : out.text ≡ ended_line (codes "no label " ++ words.label label)
 
--- an event and a reason of pairing: status 1 of a command that needs pairs
+-- an event and a reason of pairing, status 1 of a command that needs pairs
 pub record MeansUnpaired (limits : Limits) (bytes : List ℕ) (out : Output) : Type 0 where
   pub streams : List Stream
   pub given : Option (List Act)
@@ -209,22 +208,22 @@ pub record MeansUnpaired (limits : Limits) (bytes : List ℕ) (out : Output) : T
   pub unpaired : IsSome (fault_of (finding.Unfit pid index reason))
   -- no acts without a reset show the streams
   pub ruled_out : (acts : List Act) → NoReset acts → ¬ Shows top streams acts
-  -- since the reason holds at the event
+  -- the reason holds at the event
   pub holds : IsReason top streams pid index reason
   -- the text names the event and the reason, and what the reason rests on
   pub text : out.text ≡ report_text streams (finding.Unfit pid index reason)
 
--- no chart: status 1 of `chart`
+-- no chart, status 1 of `chart`: no item has the label, or a reason of pairing holds
 pub data MeansNoChart (limits : Limits) (label : Label) (bytes : List ℕ) (out : Output) : Type 0
   where
     Unlabelled : MeansNoLabel limits label bytes out → MeansNoChart limits label bytes out
     Unpaired : MeansUnpaired limits bytes out → MeansNoChart limits label bytes out
 
--- a no that never comes: no output means it
+-- the meaning of a no that never comes: no output has it
 abbrev pub NeverMeant : List ℕ → Output → Type 0
 NeverMeant bytes out = ⊥
 
--- all bytes were read, and of them an output with this meaning was written whole
+-- all bytes were read, and an output that `Means` holds of was written whole
 pub record Says (limits : Limits) {R W : Type 0} (reader : ReaderCall R) (writer : WriterCall W)
     (Means : List ℕ → Output → Type 0) : Type 0 where
   pub bytes : List ℕ
@@ -233,15 +232,15 @@ pub record Says (limits : Limits) {R W : Type 0} (reader : ReaderCall R) (writer
   pub writes : Writes writer.device.puts writer.device.failed output.text writer.old writer.new
   pub means : Means bytes output
 
--- A call of a command delivers an output that it owes for the bytes; and a yes,
--- which is status 0, and a no, which is status 1, mean what the command's records say.
+-- A call of a command delivers an output that it owes. If it returns 0 or 1, it read all bytes and
+-- wrote an output whole; status 0 means `Yes` of the output, and status 1 means `No`.
 pub record Performs (limits : Limits) {R W : Type 0} (reader : ReaderCall R) (writer : WriterCall W)
     (IsOutput Yes No : List ℕ → Output → Type 0) (status : ℕ) : Type 0 where
   pub told : Tells writer (Owes limits reader IsOutput) status
   pub yes : status ≡ 0 → Says limits reader writer Yes
   pub no : status ≡ 1 → Says limits reader writer No
 
--- what each command comes to
+-- each command with its outputs and with the meaning of its yes and of its no
 module _ (limits : Limits) {R W : Type 0} (reader : ReaderCall R) (writer : WriterCall W) where
   abbrev pub PerformsBy : Task → ℕ → Type 0
   PerformsBy task.Check status =

@@ -20,7 +20,7 @@ pub record Output : Type 0 where
 
 -- ---- verdicts
 
--- a reported receive and its send, each by the number of its act
+-- the words of a pair: the number of the act of a reported receive, and that of its send's act
 abbrev pub pair_words : ℕ × ℕ → List ℕ
 pair_words p = codes "pair " ++ decimal p.0 ++ codes " " ++ decimal p.1
 
@@ -44,7 +44,7 @@ judged v = record { text = verdict_text v; status = verdict_status v }
 
 -- ---- bundles
 
--- the text of streams and acts
+-- the output that writes streams and acts as a bundle
 abbrev pub bundled : List Stream → List Act → Output
 bundled streams acts = record {
   text = spelling (record { streams = streams; acts = Some acts });
@@ -78,11 +78,11 @@ fault_status faults.Truncated = 2
 abbrev pub refused : ReadFault → Output
 refused f = record { text = ended_line (fault_words f); status = fault_status f }
 
--- a bundle without acts, though acts are wanted
+-- the output of a command that needs acts, for a bundle without acts
 abbrev pub no_acts : Output
 no_acts = record { text = ended_line (codes "fault no acts"); status = 2 }
 
--- memory ran out, or the reader failed
+-- the outputs if memory ran out and if the reader failed
 abbrev pub no_memory : Output
 no_memory = refused faults.Memory
 
@@ -97,7 +97,7 @@ usage_words = codes "usage: seqaudit check|audit|replay|drive|chart --label N"
 abbrev pub usage : Output
 usage = record { text = ended_line usage_words; status = 3 }
 
--- words that ask for no command
+-- the output for words that ask for no command
 abbrev pub refusal_output : Refusal → Output
 refusal_output refusals.Memory = no_memory
 refusal_output refusals.Usage = usage

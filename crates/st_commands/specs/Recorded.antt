@@ -1,6 +1,6 @@
--- The result of `drive` on bytes: the bundle of one run in which each process makes its own of the
--- acts that they spell, in order, or that there is none, or why they spell no acts. The events in
--- the input are ignored.
+-- The output of `drive`: the bundle of one run in which each process makes its own acts among
+-- those that the bytes spell, in order; or why no run was made, or why the bytes spell no acts.
+-- The events in the input are ignored.
 use Rattle.std.specs.Prelude.{◌≡◌, ℕ, List, ◌++◌, Some, map, codes, decimal}
 use Rattle.st_core.specs.declared.types.Pid.{Pid}
 use Rattle.st_core.specs.declared.types.Act.{Act}
@@ -18,23 +18,23 @@ use Rattle.st_text.specs.Fault.{fault_within}
 use Rattle.st_commands.specs.Output.{Output, refused, no_acts}
 use Rattle.st_commands.specs.Checked.{top, Spells, LacksActs}
 
--- the greatest rank that an entry of a log of the program can have: the greatest u64
+-- the greatest rank that the program can give to an entry of a log: the greatest u64
 abbrev pub ranks : ℕ
 ranks = 18446744073709551615
 
--- each process's acts among these, in order
+-- the scripts of the processes: the script of a process is its own acts, in order
 abbrev pub scripts_of : List Pid → List Act → List (List Act)
 scripts_of pids acts = map (λ p. acts_by p acts) pids
 
--- the record as a bundle
+-- the output that writes a record as a bundle
 abbrev pub record_output : Record → Output
 record_output r = record {
   text = spelling (record { streams = r.streams; acts = Some r.acts });
   status = 0;
 }
 
--- the bytes spell streams and acts, and this is a record of the acts as scripts of the streams'
--- processes
+-- the bytes spell streams and acts, and r is the record of one run in which each of the streams'
+-- processes made exactly its own acts, in order
 pub record HasRecord (limits : Limits) (bytes : List ℕ) (r : Record) : Type 0 where
   pub streams : List Stream
   pub acts : List Act
@@ -46,15 +46,15 @@ pub record HasRecord (limits : Limits) (bytes : List ℕ) (r : Record) : Type 0 
 abbrev pub act_fault_words : Pid → ℕ → List ℕ
 act_fault_words p n = codes "fault act " ++ spelled.pid p ++ codes " " ++ decimal n
 
--- act n of p's script was refused
+-- the output if act n of p's script was refused
 abbrev pub act_fault : Pid → ℕ → Output
 act_fault p n = record { text = ended_line (act_fault_words p n); status = 1 }
 
--- a thread couldn't be started
+-- the output if a thread couldn't be started
 abbrev pub thread_fault : Output
 thread_fault = record { text = ended_line (codes "fault thread"); status = 4 }
 
--- what the threads left is no run
+-- the output if the pieces that the threads left aren't one run
 abbrev pub join_fault : Output
 join_fault = record { text = ended_line (codes "fault join"); status = 4 }
 
@@ -64,8 +64,8 @@ pub record HasActs (limits : Limits) (bytes : List ℕ) : Type 0 where
   pub acts : List Act
   pub spelled : Spells limits bytes streams (Some acts)
 
--- The bytes spell streams and acts, and the output says that act n of p's script found another
--- process under a lock than its own. No call leaves that, which no clause says.
+-- The bytes spell streams and acts, and act n of p's script was refused as `Stray`: a lock held
+-- another process than its own. No call leaves a lock so, but no clause says that.
 pub record HasStray (limits : Limits) (bytes : List ℕ) (p : Pid) (n : ℕ) : Type 0 where
   pub streams : List Stream
   pub acts : List Act
@@ -73,7 +73,7 @@ pub record HasStray (limits : Limits) (bytes : List ℕ) (p : Pid) (n : ℕ) : T
   pub refused : IsDriveFault top ranks (pids_of streams) (scripts_of (pids_of streams) acts)
       (drive.Act p n act.Stray)
 
--- the output of the bytes; an act is refused for no other cause
+-- the output that `drive` has for bytes; no act is refused for another cause than `Stray`
 pub data IsRecorded (limits : Limits) : List ℕ → Output → Type 0 where
   Recorded : (bytes : List ℕ) (r : Record) → HasRecord limits bytes r
       → IsRecorded limits bytes (record_output r)

@@ -1,5 +1,5 @@
--- The result of `replay` on bytes: the bundle of what the acts that they spell report, or the act
--- without a step, or why they spell none. The events in the input are ignored.
+-- The output of `replay`: the bundle of the acts that the bytes spell and of what the acts report,
+-- or the act without a step, or why the bytes spell no acts. The events in the input are ignored.
 use Rattle.std.specs.Prelude.{◌≡◌, ℕ, List, ◌++◌, Some, codes, decimal}
 use Rattle.st_core.specs.declared.types.Pid.{Pid}
 use Rattle.st_core.specs.declared.types.Act.{Act}
@@ -14,7 +14,7 @@ use Rattle.st_text.specs.Spelling.{ended_line}
 use Rattle.st_commands.specs.Output.{Output, refused, no_acts}
 use Rattle.st_commands.specs.Checked.{top, Spells, LacksActs}
 
--- what the acts' run over the pids reports, as a bundle with the acts
+-- the output that writes the streams that the acts report in their run over the pids, and the acts
 abbrev pub replayed : List Pid → List Act → List Outcome → Output
 replayed pids acts os =
     record {
@@ -22,11 +22,12 @@ replayed pids acts os =
       status = 0;
     }
 
--- act n has no step
+-- the output if act n has no step
 abbrev pub stuck : ℕ → Output
 stuck n = record { text = ended_line (codes "no stuck " ++ decimal n); status = 1 }
 
--- the bytes spell streams and acts that have this run over the streams' pids
+-- the bytes spell streams and acts, and os are the outcomes of the acts' run over the pids of the
+-- streams
 pub record HasRun (limits : Limits) (bytes : List ℕ) (pids : List Pid) (acts : List Act)
     (os : List Outcome) : Type 0 where
   pub streams : List Stream
@@ -34,14 +35,14 @@ pub record HasRun (limits : Limits) (bytes : List ℕ) (pids : List Pid) (acts :
   pub listed : pids ≡ pids_of streams
   pub runs : run top pids acts ≡ Some os
 
--- the bytes spell streams and acts of which act n is stuck
+-- the bytes spell streams and acts, and act n is the first that has no step
 pub record HasStuck (limits : Limits) (bytes : List ℕ) (n : ℕ) : Type 0 where
   pub streams : List Stream
   pub acts : List Act
   pub spelled : Spells limits bytes streams (Some acts)
   pub sticks : SticksAt top (pids_of streams) acts n
 
--- the output of the bytes
+-- the output that `replay` has for bytes
 pub data IsReplayed (limits : Limits) : List ℕ → Output → Type 0 where
   Ran : (bytes : List ℕ) (pids : List Pid) (acts : List Act) (os : List Outcome)
       → HasRun limits bytes pids acts os

@@ -21,7 +21,7 @@ use Rattle.st_commands.specs.declared.words.Refusal.TheVariants as refused
 abbrev pub greatest_label : ℕ
 greatest_label = 4294967295
 
--- `--label N`, which has to be given, read as a number from 0 to the greatest label
+-- the option `--label N`: it has to be given, and N is a number from 0 to the greatest label
 abbrev pub label_rule : Rule
 label_rule = record (new_rule (codes "label")) {
   long = Some (codes "label");
@@ -32,7 +32,7 @@ label_rule = record (new_rule (codes "label")) {
 abbrev pub chart_line : App
 chart_line = with_rule (new_app (codes "chart")) label_rule
 
--- the program and its commands, of which `chart` alone takes words of its own
+-- the program and its commands; only `chart` takes words of its own
 abbrev pub command_line : App
 command_line =
     with_subcommand (with_subcommand
@@ -45,20 +45,20 @@ command_line =
 abbrev pub label_numbered : ℕ → Label
 label_numbered n = record { 0 = n }
 
--- the label that a text writes: its number, if it is one from 0 to the greatest
+-- the label whose number a text writes; none if the number is no label's, or if there is no number
 abbrev pub label_in : Text → Option Label
 label_in text =
     if is_unsigned_in 0 greatest_label text
     then Some (label_numbered (digits_value 10 (without_leading_plus text)))
     else None
 
--- the chart that the words of `chart` ask for, by what `clap` found in them; of a number it leaves
--- a first minus out
+-- the chart that the words of `chart` ask for, by what `clap` found in them; `clap` leaves out the
+-- first minus of a number
 abbrev pub chart_of : List Row → Option Task
 chart_of found =
     option_map (λ l. task.Chart l) (option_and_then label_in (one_of (codes "label") found))
 
--- the command of this name, of whose own words `clap` found these
+-- the command with the name, by what `clap` found in the command's own words
 abbrev pub task_of : Text → List Row → Option Task
 task_of name found =
     if bytes_eq name (codes "check") then Some task.Check
@@ -67,8 +67,8 @@ task_of name found =
     else (if bytes_eq name (codes "drive") then Some task.Drive
     else (if bytes_eq name (codes "chart") then chart_of found else None))))
 
--- the command that the words ask for, by the subcommand that `clap` finds in them; none if it
--- refuses them, or if it finds no subcommand
+-- the command that the words ask for, by the subcommand that `clap` finds in them; none if `clap`
+-- refuses the words or finds no subcommand
 abbrev pub task_asked : List Text → Option Task
 task_asked words =
     if is_empty (fault_of command_line words) then option_and_then (λ p. task_of p.0 p.1)
@@ -76,12 +76,12 @@ task_asked words =
 
 -- ---- refusals
 
--- `clap` refuses because memory ran out, or for another cause
+-- the refusal for an error of `clap`: Memory if memory ran out, and Usage for any other kind
 abbrev pub IsRefusalOf : ErrorKind → Refusal → Type 0
 IsRefusalOf kind refused.Memory = kind ≡ kinds.OutOfMemory
 IsRefusalOf kind refused.Usage = kind ≢ kinds.OutOfMemory
 
--- words are refused because memory ran out, or because they ask for no command
+-- the words may be refused so: as Usage only if they ask for no command, as Memory always
 abbrev pub IsRefusal : List Text → Refusal → Type 0
 IsRefusal words refused.Memory = Unit {0}
 IsRefusal words refused.Usage = task_asked words ≡ None

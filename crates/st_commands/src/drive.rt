@@ -79,7 +79,8 @@ fn tell_undriven<W: ByteSink>(writer: &mut W, fault: DriveFault) -> u8
     }
 }
 
-/// Writes what the acts of the streams' processes come to, and returns its status.
+/// Drives the acts of the streams' processes, writes the record or why there is none, and returns
+/// the status.
 fn drive_acts<H: Threads + Wait + Sync, W: ByteSink>(
     rt: &H,
     alloc: Global,
@@ -98,7 +99,7 @@ fn drive_acts<H: Threads + Wait + Sync, W: ByteSink>(
     }
 }
 
-/// Writes what a bundle's acts come to, and returns its status.
+/// Does what `drive_acts` does with a bundle's acts, or writes that it has none.
 fn drive_bundle<H: Threads + Wait + Sync, W: ByteSink>(
     rt: &H,
     alloc: Global,

@@ -48,8 +48,8 @@ pub fn unfit_means()
     ensures { UnfitMeans }
 {}
 
-/// The audit writes a certificate if the bytes spell streams of which no reason holds, or which
-/// some run without a reset reported as all of itself.
+/// The audit writes a certificate if the bytes spell streams of which no reason holds, or streams
+/// of a run without a reset that reported everything.
 pub fn certain_traces_fit()
     ensures { CertainTracesFit }
 {

@@ -20,7 +20,7 @@ use st_text::{
 /// A line of the program's own.
 #[derive(Clone, Copy, Debug)]
 pub(crate) enum OutputLine {
-    /// The certificate is one.
+    /// The acts show the streams.
     Yes,
     /// A reported receive and its send, by the numbers of their acts.
     Pair(u64, u64),
@@ -46,7 +46,7 @@ pub(crate) enum OutputLine {
     Usage,
 }
 
-/// Appends the numbers of a receive's act and of its send's.
+/// Appends the words of a pair: the numbers of the receive's act and of its send's act.
 fn put_pair(buffer: &mut Buffer, receive: u64, send: u64)
     requires { HasRoom output_room buffer.old }
     ensures { Puts output_room (pair_words (receive, send)) buffer.old buffer.new }

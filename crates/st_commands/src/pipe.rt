@@ -9,8 +9,8 @@ use std::io::{self, Error, ErrorKind, Write};
 /// number.
 const READER_GONE: u8 = 141;
 
-/// A writer that notices if its reader is gone. The program then ends as others in a pipeline do,
-/// which no fault of a device would tell from a full disk.
+/// A writer that notices if its reader is gone. The program then ends as others in a pipeline do;
+/// a device's fault alone wouldn't tell that the reader is gone from a full disk.
 #[derive(Drop)]
 pub struct Pipe<W> {
     writer: W,

@@ -79,7 +79,7 @@ fn chart_of(found: &ArgMatches) -> Option<Task>
     }
 }
 
-/// The command of this name, of whose own words `clap` found these.
+/// Returns the command with this name, by what `clap` found in the command's own words.
 fn task_of(name: &str, found: &ArgMatches) -> Option<Task>
     ensures { result ≡ task_of name.now (rows_of (found_of found.now)) }
 {

@@ -1,4 +1,4 @@
--- The auditor's finding is reported; if memory ran out, a line of its own says so.
+-- The auditor's finding is reported, or `fault memory` is written if memory ran out.
 use Rattle.st_commands.specs.Output.{no_memory}
 use Rattle.st_commands.specs.Audited.{report_output}
 use Rattle.st_commands.specs.Parts.{Finds, NoRoomToAudit}

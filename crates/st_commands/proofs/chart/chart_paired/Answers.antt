@@ -1,4 +1,4 @@
--- The items are in order, and the chart is theirs; that memory ran out is said by itself.
+-- The items are put in order and charted, or `fault memory` is written if memory ran out.
 use Rattle.std.proofs.Common.{sym, subst}
 use Rattle.st_order.specs.Order.{IsOrder}
 use Rattle.st_commands.specs.Output.{no_memory}

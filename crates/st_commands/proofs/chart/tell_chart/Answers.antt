@@ -1,5 +1,5 @@
--- The chart says how it ended: written whole, or the writer failed; else the writer wasn't touched,
--- and a line is told.
+-- The chart's result says how it ended: it was written whole, or the writer failed, or the writer
+-- wasn't touched; in the last case a line is written instead.
 use Rattle.st_commands.specs.Charted.{drawn, no_label}
 use Rattle.st_commands.specs.Command.{Whole, Part}
 use Rattle.st_commands.specs.Output.{no_memory}

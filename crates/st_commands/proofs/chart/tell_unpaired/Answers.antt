@@ -1,4 +1,4 @@
--- A reason of pairing is reported, and that memory ran out is said by itself.
+-- A reason of pairing is reported, or `fault memory` is written if memory ran out.
 use Rattle.std.proofs.Common.{sym, ◌∙◌}
 use Rattle.st_commands.specs.Output.{no_memory}
 use Rattle.st_commands.specs.Audited.{report_output}

@@ -1,4 +1,4 @@
--- `check` returns the verdict, and if memory runs out a line of its own says so.
+-- The verdict that `check` returns is written, or `fault memory` if memory ran out.
 use Rattle.st_check.specs.Answers.{verdict_of}
 use Rattle.st_commands.specs.Output.{judged, no_memory}
 use Rattle.st_commands.specs.Parts.{Judges, NoRoomToCheck}

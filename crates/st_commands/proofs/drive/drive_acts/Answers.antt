@@ -1,5 +1,4 @@
--- The result of `drive` is written, and if memory runs out for the scripts a line of its own says
--- so.
+-- The result of `drive` is written, or `fault memory` if memory runs out for the scripts.
 use Rattle.st_commands.specs.Output.{no_memory}
 use Rattle.st_commands.specs.Recorded.{record_output}
 use Rattle.st_commands.specs.Parts.{Records, Refuses, NoRoomToDrive, drive_refused}

@@ -1,4 +1,4 @@
--- As many empty scripts as turns.
+-- There are as many empty scripts as turns so far.
 use Rattle.std.proofs.Common.{◌≡◌, []}
 use Rattle.std.specs.Prelude.{replicate}
 use Rattle.st_commands.proofs.drive.empty_scripts.Given as goal

@@ -1,4 +1,4 @@
--- One more act is at the end of its own process's script.
+-- One more act is appended to the script of its own process.
 use Rattle.std.proofs.Common.{◌<◌, length, ap, ◌∙◌}
 use Rattle.std.proofs.lemmas.List.{with_items_is}
 use Rattle.st_core.specs.Run.{pids_of}

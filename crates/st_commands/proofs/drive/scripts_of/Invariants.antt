@@ -1,4 +1,4 @@
--- Each process's script is its acts among those so far.
+-- Each process's script is its own acts among the acts so far.
 use Rattle.std.proofs.Common.{◌≡◌, take}
 use Rattle.st_core.specs.Run.{pids_of}
 use Rattle.st_commands.specs.Recorded.{scripts_of}

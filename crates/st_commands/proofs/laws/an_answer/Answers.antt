@@ -1,5 +1,5 @@
--- Bytes are a text or have a fault; acts have a verdict and a run, and streams a reason against
--- them or an order.
+-- Bytes are a text or have a fault; acts have a verdict and a run, and pairing refuses streams or
+-- they have an order.
 use Rattle.st_commands.proofs.OwedOutputs.{a_check, a_replay}
 use Rattle.st_commands.proofs.ChartOutputs.{a_chart}
 use Rattle.st_commands.proofs.laws.an_answer.Goals as goal

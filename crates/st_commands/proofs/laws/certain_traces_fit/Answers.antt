@@ -1,4 +1,4 @@
--- The finding of such streams is a certificate.
+-- The finding on streams that are plain or fully shown is a certificate.
 use Rattle.st_commands.proofs.AuditOutputs as outputs
 use Rattle.st_commands.proofs.laws.certain_traces_fit.Goals as goal
 

@@ -1,4 +1,4 @@
--- The words, the pid and the number are one after the other.
+-- The words, the pid and the number are put one after the other.
 use Rattle.std.proofs.Common.{◌≡◌, ℕ, List, ◌++◌, ◌∙◌, ap, append_assoc, codes, decimal, arith}
 use Rattle.st_text.specs.Spelling as spelled
 use Rattle.st_commands.proofs.lines.put_act_fault.Goals as goal

@@ -1,4 +1,4 @@
--- The lines of the pairs so far were written, or wait.
+-- The lines of the pairs so far were written, or wait in the buffer.
 use Rattle.std.proofs.Common.{take}
 use Rattle.std.specs.List.{flat_map}
 use Rattle.st_commands.specs.Output.{pair_line}

@@ -1,4 +1,4 @@
--- Words ask for a command or for none, and then nothing is read and the status is 3 or 4.
+-- Words ask for a command, or for none; if for none, nothing is read and the status is 3 or 4.
 use Rattle.std.proofs.Common.{map, arith}
 use Rattle.st_text.specs.Limits.{standard}
 use Rattle.st_commands.specs.Command.{ForCommand}

@@ -1,5 +1,5 @@
--- The reader tells which bytes it gave, what was delivered is what they owe, and its status says
--- what it is.
+-- The reader says which bytes it gave, an output that is owed for them was delivered, and the
+-- status says what that output means.
 use Rattle.std.proofs.Common.{◌≤◌, arith}
 use Rattle.st_commands.specs.Checked.{top}
 use Rattle.st_commands.specs.Command.{call}

@@ -1,4 +1,4 @@
--- The number that was read is the label, and no number is no chart.
+-- The number that was read is the label; if there is no number, no chart is asked for.
 use Rattle.std.proofs.Common.{ap, codes, sym, ◌∙◌}
 use Rattle.std.specs.Prelude.{option_map}
 use Rattle.std.specs.Str.Parse.{ParsesUnsigned, ExplainsUnsignedError, HasUnsignedDigitsIfOk}

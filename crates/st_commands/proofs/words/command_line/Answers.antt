@@ -1,5 +1,5 @@
--- Each command is added to those before it; none of them has an argument of the whole command
--- line's.
+-- Each command is added to those before it; none of them has an argument that belongs to the whole
+-- command line.
 use Rattle.std.proofs.Common.{◌≡◌, Bool, true, false, ap, ap₂, refl, ◌∙◌}
 use Rattle.std.specs.Prelude.{not}
 use Rattle.clap.proofs.WalkLemmas.{both}
