@@ -1,4 +1,4 @@
-//! A check and a replay of as many acts as users have, and what is left if memory runs out.
+//! Checks and replays: of more than 100,000 acts, and again after memory ran out.
 
 use crate::helpers::{same, streams_at_last};
 use st_check::{CheckFault, ReplayFault, Replayed, Reports, Verdict, check, replay, reports};
@@ -16,7 +16,7 @@ const RECEIVED: &str = "seqtrace 1\n\
     process <0.31.0>\n\
     {seq_trace,1,{'receive',{0,1},<0.30.0>,<0.31.0>,5}}\n";
 
-/// How many pairs a yes has.
+/// Returns how many pairs `check` finds, or None if it doesn't say yes.
 fn pair_count(alloc: Global, streams: &Streams, acts: &[Act]) -> Result<Option<usize>, CheckFault> {
     match check::<MOST>(alloc, streams, acts)? {
         Verdict::Yes(pairs) => Ok(Some(pairs.len())),
@@ -24,7 +24,7 @@ fn pair_count(alloc: Global, streams: &Streams, acts: &[Act]) -> Result<Option<u
     }
 }
 
-/// Replays acts that have a run, and returns the streams and the number of replies.
+/// Replays the acts, and returns the streams and the number of replies; None if an act is stuck.
 fn replayed(alloc: Global, acts: &[Act]) -> Result<Option<(Streams, usize)>, ReplayFault> {
     match replay::<MOST>(alloc, &[p30(), p31()], acts)? {
         Replayed::Ran(streams, replies) => Ok(Some((streams, replies.len()))),
@@ -32,7 +32,7 @@ fn replayed(alloc: Global, acts: &[Act]) -> Result<Option<(Streams, usize)>, Rep
     }
 }
 
-/// How many events these acts report, if they have a run.
+/// Returns how many events the acts report, or None if an act is stuck.
 fn report_count(alloc: Global, acts: &[Act]) -> Result<Option<u64>, ReplayFault> {
     match reports::<MOST>(alloc, &[p30(), p31()], acts)? {
         Reports::Ran(streams) => Ok(Some(streams.total())),
@@ -40,7 +40,7 @@ fn report_count(alloc: Global, acts: &[Act]) -> Result<Option<u64>, ReplayFault>
     }
 }
 
-/// Makes this many traced sends, each received at once.
+/// Makes `count` traced sends, each received at once.
 fn exchanges(alloc: Global, count: u64) -> Result<Vec<Act>, AllocError> {
     let mut acts = Vec::new(alloc);
     acts.push(Act::Tracer(p30(), true))?;
@@ -74,8 +74,8 @@ fn send_one() -> [Act; 5] {
     ]
 }
 
-// If memory runs out the result is Memory, and the same call succeeds afterwards. That is seen if
-// these three tests run with an allocation that fails.
+// If memory runs out, a call returns Memory and succeeds when it is made again. The three tests
+// show that only if they run with an allocation that fails.
 #[test]
 fn a_check_without_memory_may_be_asked_again(rt: HostRuntime) {
     let alloc = rt.alloc();

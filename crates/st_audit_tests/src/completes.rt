@@ -1,5 +1,5 @@
-//! Completions and their acts: that they are found, of 100,000 events too, and what is left if
-//! memory runs out.
+//! Completions and their acts: that they are found, of 100,000 events too, and found again after
+//! memory ran out.
 
 use crate::helpers::{same, streams_at_last};
 use lack_decide::{
@@ -16,7 +16,7 @@ use std::test::Fail;
 /// The greatest clock of the program.
 const MOST: u64 = u64::MAX;
 
-/// 30 took a message of 3 and then goes on from one of 2, which nobody reported.
+/// 30 received a message of 3 and then goes on from a message of 2 that nobody reported.
 const NEEDING: &str = "seqtrace 1\n\
     process <0.30.0>\n\
     {seq_trace,1,{'receive',{0,3},<0.31.0>,<0.30.0>,4}}\n\
@@ -40,7 +40,7 @@ const REQUEST: &str = "seqtrace 1\n\
     {seq_trace,1,{'receive',{0,1},<0.30.0>,<0.31.0>,4}}\n\
     {seq_trace,1,{send,{1,2},<0.31.0>,<0.30.0>,4}}\n";
 
-/// The completion of these streams, at the second try if memory runs out.
+/// Returns the completion of the streams, at the second try if memory runs out.
 fn completion_at_last(rt: &impl Abort, alloc: Global, streams: &Streams) -> Completion {
     let answer = match complete::<MOST>(alloc, streams) {
         Err(CompleteFault::Memory) => complete::<MOST>(alloc, streams),
@@ -75,7 +75,7 @@ fn the_acts_of_the_construction_show_the_streams(rt: HostRuntime) -> Result<(), 
     Ok(())
 }
 
-/// If memory runs out the call says so, and the same call succeeds afterwards.
+/// Asserts that a call that ran out of memory finds the completion when it is made again.
 #[test]
 fn a_completion_without_memory_may_be_asked_again(rt: HostRuntime) {
     let alloc = rt.alloc();
@@ -85,7 +85,8 @@ fn a_completion_without_memory_may_be_asked_again(rt: HostRuntime) {
     same(&rt, &completion.added(), &3);
 }
 
-/// Asserts it for a reason that there is none.
+/// Asserts that a call that ran out of memory finds why there is no completion when it is made
+/// again.
 #[test]
 fn a_reason_without_memory_may_be_asked_again(rt: HostRuntime) {
     let alloc = rt.alloc();
@@ -97,7 +98,7 @@ fn a_reason_without_memory_may_be_asked_again(rt: HostRuntime) {
     assert!(rt; matches!(answer, Ok(Answer::Never(_, 0, Never::Unfounded))));
 }
 
-/// Asserts it for a completion's acts.
+/// Asserts that a call that ran out of memory finds a completion's acts when it is made again.
 #[test]
 fn a_certificate_without_memory_may_be_asked_again(rt: HostRuntime) {
     let alloc = rt.alloc();
@@ -112,10 +113,11 @@ fn a_certificate_without_memory_may_be_asked_again(rt: HostRuntime) {
     assert!(rt; matches!(found, Ok(_)));
 }
 
-/// How many messages were received.
+/// The number of messages that 31 received.
 const RECEIVES: u64 = 100_000;
 
-/// Makes the stream of 31, which received this many messages of 30, whose sends nobody reported.
+/// Makes the streams of 30 and 31, in which 31 received `RECEIVES` messages of 30 and nobody
+/// reported their sends.
 fn receives_of_hidden_sends(alloc: Global) -> Result<Streams, Fail> {
     let mut draft = Draft::new(alloc);
     draft.open(p30())?;

@@ -1,4 +1,4 @@
-//! Helpers of several modules' tests.
+//! Helpers that the tests of several modules call.
 
 use st_core::{MemorySink, MemorySource, Streams};
 use st_text::read;
@@ -6,8 +6,8 @@ use std::alloc::Global;
 use std::fmt::Debug;
 use std::process::Abort;
 
-/// Asserts that a value is the wanted one. A test that calls this is proved in a fourth of the time
-/// that it takes if it writes `assert_eq!` itself.
+/// Asserts that `found` equals `wanted`. A test that calls `same` is proved in a fourth of the
+/// time that a test with `assert_eq!` takes.
 pub(crate) fn same<T: PartialEq + Debug>(rt: &impl Abort, found: &T, wanted: &T) {
     assert_eq!(rt; found, wanted);
 }
@@ -17,8 +17,8 @@ fn streams_of(alloc: Global, text: &str) -> Option<Streams> {
     Some(bundle.streams)
 }
 
-/// The streams of a text. If memory runs out it is asked for again, so that a test in which that
-/// happens once gets to what it tests.
+/// Reads the streams of a text, a second time if memory ran out. So a test in which memory runs
+/// out once goes on to the call that it tests.
 pub(crate) fn streams_at_last(rt: &impl Abort, alloc: Global, text: &str) -> Streams {
     match streams_of(alloc, text) {
         Some(streams) => streams,
@@ -26,7 +26,7 @@ pub(crate) fn streams_at_last(rt: &impl Abort, alloc: Global, text: &str) -> Str
     }
 }
 
-/// Makes a sink for this many bytes. If memory runs out, the second try succeeds.
+/// Makes a sink for `room` bytes, at the second try if memory runs out.
 pub(crate) fn sink_at_last(rt: &impl Abort, alloc: Global, room: usize) -> MemorySink {
     match MemorySink::new(alloc, room, None) {
         Ok(sink) => sink,

@@ -5,7 +5,7 @@
 //! | `checks` | `st_check`: checks and replays |
 //! | `completes` | `lack_decide` |
 //! | `memory` | the other crates, if memory runs out |
-//! | `helpers` | none: what several of these take |
+//! | `helpers` | none: helpers that several of the modules call |
 #![tactic(auto)]
 
 #[cfg(test)]

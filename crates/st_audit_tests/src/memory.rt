@@ -1,5 +1,5 @@
-//! Calls after memory ran out: each says so, and the same call succeeds afterwards. That is seen if
-//! `rt try --test --fail-alloc N` fails the N-th allocation.
+//! Calls that run out of memory: each says so, and succeeds when it is made again. The tests show
+//! that only if `rt try --test --fail-alloc N` fails the N-th allocation.
 
 use crate::helpers::{same, sink_at_last, streams_at_last};
 use lack_needs::renumbered;
@@ -28,7 +28,7 @@ fn a_pairing_without_memory_may_be_asked_again(rt: HostRuntime) -> Result<(), Fa
     Ok(())
 }
 
-/// The way back from the receive, over the chains of the streams' pairing.
+/// Returns the way back from the receive, over the chains of the streams' pairing.
 fn way_back(alloc: Global, streams: &Streams) -> Option<Vec<(Pid, u64)>> {
     let pairing = pair(alloc, streams).ok()?;
     let chains = Chains::new(alloc, streams, &pairing).ok()?;
@@ -47,7 +47,7 @@ fn a_way_back_without_memory_may_be_asked_again(rt: HostRuntime) {
     same(&rt, &back.as_slice(), &[(p31(), 0), (p30(), 0)].as_slice());
 }
 
-/// How many items the streams have, and how many labels.
+/// Returns how many items the streams have, and how many labels.
 fn counts(
     rt: &(impl Threads + Sync),
     alloc: Global,
@@ -119,7 +119,7 @@ fn a_renumbering_without_memory_may_be_asked_again(rt: HostRuntime) {
     same(&rt, &ranked.total(), &4);
 }
 
-/// The chart of a hidden send and its receive.
+/// Writes the chart of a hidden send and its receive.
 fn chart_of(alloc: Global, sink: &mut MemorySink, streams: &Streams) -> Result<(), ChartFault> {
     let Ok(pairing) = pair(alloc, streams) else {
         return Err(ChartFault::Memory);
@@ -135,7 +135,7 @@ fn chart_of(alloc: Global, sink: &mut MemorySink, streams: &Streams) -> Result<(
     chart(alloc, sink, streams, &chains, &items, Label(17))
 }
 
-/// If memory runs out nothing is written.
+/// Asserts that a chart that runs out of memory writes nothing.
 #[test]
 fn a_chart_without_memory_writes_nothing(rt: HostRuntime) {
     let alloc = rt.alloc();
