@@ -1,9 +1,8 @@
-//! As many words as a command line has at most.
+//! A command line of 100,000 words.
 
 use st_commands::{Refusal, read_words};
 use std::test::Fail;
 
-// A count that memory holds.
 #[test]
 fn a_hundred_thousand_words_are_told_the_usage(rt: HostRuntime) -> Result<(), Fail> {
     let words = vec![in rt.alloc(); "check"; 100_000]?;

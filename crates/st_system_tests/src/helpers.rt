@@ -1,4 +1,4 @@
-//! Helpers of several modules' tests.
+//! Helpers that the tests of several modules call.
 
 use st_core::Pid;
 use std::alloc::Global;
@@ -6,7 +6,7 @@ use std::fmt::Debug;
 use std::process::Abort;
 use std::test::Fail;
 
-/// A hundred thousand pids, half of them on each of two nodes.
+/// Makes a hundred thousand pids, half of them on each of two nodes.
 pub(crate) fn many_pids(alloc: Global) -> Result<Vec<Pid>, Fail> {
     let mut pids = Vec::new(alloc);
     for node in 0..2 {
@@ -17,8 +17,8 @@ pub(crate) fn many_pids(alloc: Global) -> Result<Vec<Pid>, Fail> {
     Ok(pids)
 }
 
-/// Asserts that a value is the wanted one. A test that calls this is proved in a fourth of the time
-/// that it takes if it writes `assert_eq!` itself.
+/// Asserts that `found` equals `wanted`. A test that calls `same` is proved in a fourth of the
+/// time that a test with `assert_eq!` takes.
 pub(crate) fn same<T: PartialEq + Debug>(rt: &impl Abort, found: &T, wanted: &T) {
     assert_eq!(rt; found, wanted);
 }

@@ -2,12 +2,12 @@
 //!
 //! | Module | Tests |
 //! |---|---|
-//! | `runtime` | `st_runtime`: its calls; refusals, and if memory runs out |
+//! | `runtime` | `st_runtime`: replies, refusals, and calls that run out of memory |
 //! | `runs` | `st_runtime`: threads that meet, and scripts that are driven |
 //! | `systems` | `st_runtime`: systems of 100,000 processes, by one thread |
 //! | `commands` | `st_commands`: many words |
 //! | `sizes` | many crates: calls with 100,000 of what they take |
-//! | `helpers` | none: what several of these take |
+//! | `helpers` | none: helpers that several of the modules call |
 #![tactic(auto)]
 
 #[cfg(test)]

@@ -1,6 +1,6 @@
-//! The acts of threads, seen from outside: scripts that busy one another are driven, and `check`
-//! says that their record is one run. That it is one, with each script in it, is a clause of
-//! `drive`; that it is driven is none.
+//! Scripts that act on one another's processes are driven on threads, and `check` says that their
+//! record is one run. A clause of `drive` says that a record is one run with each script in it; no
+//! clause says that there is a record.
 
 mod meetings;
 mod scripts;
@@ -17,13 +17,13 @@ use std::thread::Threads;
 /// The greatest clock and rank of the program.
 const MOST: u64 = u64::MAX;
 
-/// Whether `check` says yes of the record.
+/// Returns whether `check` says yes of the record.
 fn is_one_run(alloc: Global, record: &Record) -> Result<bool, CheckFault> {
     let verdict = check::<MOST>(alloc, &record.streams, record.acts.as_slice())?;
     Ok(matches!(verdict, Verdict::Yes(_)))
 }
 
-/// Drives busy processes, asserts that they made one run, and counts the events of that.
+/// Drives busy processes, asserts that they made one run, and returns how many events it reported.
 fn assert_driven<R: Threads + Wait + Sync + Abort>(
     rt: &R,
     alloc: Global,
@@ -45,7 +45,7 @@ fn twelve_scripts_of_thousands_of_acts_are_one_run(rt: HostRuntime) -> Result<()
         on_each: 6,
     };
     let events = assert_driven(&rt, rt.alloc(), places, 3_000)?;
-    // How many depends on when the resets and the changes of the tracer came.
+    // The number of events depends on when the resets and the changes of the tracer came.
     assert!(rt; events > 0);
     Ok(())
 }
@@ -62,7 +62,7 @@ fn four_scripts_of_fifty_acts_are_one_run_each_time(rt: HostRuntime) -> Result<(
     Ok(())
 }
 
-// One on each node. No clause says that there is memory for all of them.
+// No clause says that there is memory for a hundred thousand acts.
 #[test]
 fn two_scripts_of_fifty_thousand_acts_are_one_run(rt: HostRuntime) -> Result<(), Fail> {
     let places = Places {

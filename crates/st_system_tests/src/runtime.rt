@@ -1,6 +1,5 @@
-//! Calls of `st_runtime`: refusals, and what is left if memory runs out. Each call is made once
-//! more if memory ran out: in a run of which one request for memory fails, the second result is the
-//! right one.
+//! Calls of `st_runtime`: replies, refusals, and calls that run out of memory. A call that ran out
+//! of memory is made again: if one request for memory fails in a run, the second result is right.
 
 ghost use Rattle.std.specs.Prelude.{◌≡◌, [], IfOk};
 
@@ -15,7 +14,7 @@ use std::alloc::{AllocError, Global};
 use std::process::Abort;
 use std::sync::Wait;
 
-/// Makes an empty list with room for this many.
+/// Makes an empty list with room for `count` items, at the second try if memory runs out.
 fn room_at_last<T>(alloc: Global, count: usize) -> Result<Vec<T>, AllocError>
     ensures { IfOk result (λ v. v.items ≡ []) }
 {
@@ -25,7 +24,7 @@ fn room_at_last<T>(alloc: Global, count: usize) -> Result<Vec<T>, AllocError>
     }
 }
 
-/// Opens a system.
+/// Opens a system, at the second try if memory runs out.
 fn open_at_last<const TOP: u64, const RANKS: u64>(
     alloc: Global,
     pids: &[Pid],
@@ -36,7 +35,7 @@ fn open_at_last<const TOP: u64, const RANKS: u64>(
     }
 }
 
-/// Makes an act. If memory runs out, its seat stays as it was.
+/// Makes an act. If memory runs out, asserts that the seat kept no act, and makes the act again.
 fn act_at_last<const TOP: u64, const RANKS: u64, R: Wait + Abort, G: Gate>(
     rt: &R,
     gate: &G,
@@ -54,7 +53,7 @@ fn act_at_last<const TOP: u64, const RANKS: u64, R: Wait + Abort, G: Gate>(
     }
 }
 
-/// Gathers the pieces.
+/// Gathers the pieces of a system, at the second try if the first fails.
 fn gather_at_last<const TOP: u64, const RANKS: u64>(
     system: System<TOP, RANKS>,
     seats: Vec<Seat>,

@@ -1,7 +1,7 @@
-//! Each call that can run out of memory, with 100,000 of what it takes. No clause can say that
-//! memory is left, so the prover accepts a body that gives up at some size; these tests don't.
-//! `text` of `st_machine_tests` and `checks` of `st_audit_tests` have the reader, the check
-//! and the replay.
+//! Calls that can run out of memory, each with 100,000 of the items that it takes. No clause can
+//! say that memory is left, so the prover accepts a body that gives up at some size; the tests
+//! don't. `text` of `st_machine_tests` tests the reader so, and `checks` of `st_audit_tests` the
+//! check and the replay.
 
 ghost use Rattle.std.specs.Prelude.{◌<◌};
 
@@ -19,13 +19,13 @@ use st_samples::{p30, p31};
 use std::alloc::Global;
 use std::test::Fail;
 
-/// How many there are of anything.
+/// The size that each call is tested with.
 const MANY: u64 = 100_000;
 
-/// A send and a receive each.
+/// The number of messages, each with a send and a receive.
 const MESSAGES: u64 = 50_000;
 
-/// Message `this` of those that 30 and 31 send to each other in turn.
+/// Makes an event of message `this`, if 30 and 31 send to each other in turn.
 fn message(kind: Kind, this: u64) -> Event {
     let (from, to) = if this % 2 == 1 {
         (p30(), p31())
@@ -45,7 +45,8 @@ fn message(kind: Kind, this: u64) -> Event {
     }
 }
 
-/// A message that goes to and fro, each time reported by both: each event causes the next.
+/// Makes the streams of a message that goes to and fro, each time reported by both: each event
+/// causes the next.
 fn to_and_fro(alloc: Global) -> Result<Streams, Fail> {
     let mut draft = Draft::new(alloc);
     draft.open(p30())?;
@@ -110,7 +111,7 @@ const PROCESSES: u16 = 1_000;
 
 const PRINTS: u16 = 100;
 
-/// A print of a process, with a label that no other has.
+/// Makes a print of a process, with a label that no other print has.
 fn lone_print(process: u16, number: u16) -> Event {
     let this = u64::from(number).saturating_add(1);
     let label = u32::from(process).wrapping_mul(u32::from(PRINTS));

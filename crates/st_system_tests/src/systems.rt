@@ -1,6 +1,6 @@
-//! Systems of 100,000 processes, and of as many acts of each kind of call, by one thread. No clause
-//! says that these calls have enough memory, so the prover accepts a body that gives up at some
-//! size; these tests don't.
+//! Systems of 100,000 processes, and 100,000 acts of each kind, by one thread. No clause says that
+//! the calls have enough memory, so the prover accepts a body that gives up at some size; the
+//! tests don't.
 
 use crate::helpers::{many_pids, same};
 use st_core::{Act, Pid, Reply, Want};
@@ -11,12 +11,12 @@ use std::process::Abort;
 use std::sync::Wait;
 use std::test::Fail;
 
-/// How many there are of anything.
+/// The size that each call is tested with.
 const MANY: usize = 100_000;
 
 type Great = System<{ u64::MAX }, { u64::MAX }>;
 
-/// Makes the act this many times.
+/// Makes the act `times` times, and asserts each reply.
 fn make_many<R: Wait + Abort>(
     rt: &R,
     system: &Great,
@@ -31,7 +31,7 @@ fn make_many<R: Wait + Abort>(
     same(rt, &seat.mine().len(), &times);
 }
 
-/// The pieces of a system and its seats.
+/// Gathers the pieces of a system and its seats.
 fn pieces_of<R: Abort>(
     rt: &R,
     system: Great,
@@ -43,8 +43,7 @@ fn pieces_of<R: Abort>(
     }
 }
 
-/// Makes the act of 30 this many times while 31 acts too, and asserts that the record has all of
-/// them.
+/// Makes the act `MANY` times in a system of 30 and 31, and asserts that the record has all acts.
 fn assert_joined<R: Wait + Abort>(
     rt: &R,
     alloc: Global,
@@ -77,7 +76,7 @@ fn a_hundred_thousand_acts_of_one_process_are_joined(rt: HostRuntime) -> Result<
     assert_joined(&rt, alloc, &Act::Send(p30(), p30(), 1), Reply::Done)
 }
 
-// Each is in the logs of both processes.
+// Each act is in the logs of both processes.
 #[test]
 fn a_hundred_thousand_acts_on_two_processes_are_joined(rt: HostRuntime) -> Result<(), Fail> {
     let alloc = rt.alloc();
@@ -86,7 +85,7 @@ fn a_hundred_thousand_acts_on_two_processes_are_joined(rt: HostRuntime) -> Resul
     assert_joined(&rt, alloc, &Act::Tracer(p30(), false), Reply::Was(false))
 }
 
-// They aren't joined: each pid is looked for among all seats.
+// The pieces aren't joined, since `join_pieces` looks for each pid among all seats.
 #[test]
 fn a_system_of_a_hundred_thousand_processes_is_gathered(rt: HostRuntime) -> Result<(), Fail> {
     let pids = many_pids(rt.alloc())?;

@@ -1,5 +1,5 @@
-//! Threads that meet at a gate: acts on processes apart are made at once, and no act holds its
-//! locks at a gate that it has left, or lacks one at a gate that it has entered.
+//! Threads that meet at a gate: acts on different processes are made at the same time, and an act
+//! holds all its locks while it is at the gate `before`, and none while it is at the gate `after`.
 
 use super::{MOST, is_one_run};
 use crate::helpers::same;
@@ -15,13 +15,13 @@ use std::thread;
 use std::thread::Threads;
 use std::time::{Clock, Duration};
 
-/// How often a thread looks for what another does, with a pause of a millisecond after each look.
+/// The number of times that a thread looks for another's act, with a millisecond after each look.
 const TURNS: u64 = 5_000;
 
-/// So long an act is watched that is to wait for a lock.
+/// The number of times that a thread looks for an act that should be waiting for a lock.
 const WATCHED: u64 = 100;
 
-/// Waits until the other thread has said so, and returns whether it did.
+/// Waits until the other thread has set `said`, and returns whether it did.
 fn await_other<R: Clock>(clock: &R, said: &AtomicBool, turns: u64) -> bool {
     for _ in 0..turns {
         if said.load(Ordering::SeqCst) {
@@ -58,7 +58,8 @@ impl<R: Clock> Gate for Meeting<'_, R> {
     fn after(&self, _pid: Pid, _n: u64) {}
 }
 
-/// Drives two senders that meet, each with a receiver of its own, and returns how many met too.
+/// Drives two senders that meet, each with a receiver of its own, and returns how many of them
+/// met, and the record.
 fn drive_meetings<R: Threads + Wait + Sync + Abort + Clock>(
     rt: &R,
     alloc: Global,
@@ -93,8 +94,8 @@ fn drive_meetings<R: Threads + Wait + Sync + Abort + Clock>(
     Ok((gate.met.load(Ordering::SeqCst), record))
 }
 
-// One lock round all processes, or one thread for all scripts, would keep the second act from its
-// locks.
+// With one lock for all processes, or one thread for all scripts, the second act wouldn't get its
+// locks while the first holds its own.
 #[test]
 fn two_senders_at_once(rt: HostRuntime) -> Result<(), Fail> {
     let (met, record) = drive_meetings(&rt, rt.alloc())?;
@@ -116,7 +117,7 @@ struct Turnstile<'a, R: Clock> {
     pressed_in: AtomicBool,
     /// The other act has come to the gate.
     came: AtomicBool,
-    /// It had come before the holder's call returned.
+    /// The other act came to the gate before the holder's call returned.
     let_in: AtomicBool,
 }
 
@@ -139,8 +140,8 @@ impl<R: Clock> Gate for Turnstile<'_, R> {
     }
 }
 
-/// Whether the other's act came in while the holder's was at the gate before, and while it was at
-/// the gate after.
+/// Returns whether the other's act came to the gate while the holder's act was at `before`, and
+/// whether it had come by the time that the holder's act left `after`.
 fn came_in<R: Threads + Wait + Sync + Abort + Clock>(
     rt: &R,
     system: &System<99, 99>,

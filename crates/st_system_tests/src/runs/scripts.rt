@@ -1,9 +1,9 @@
-//! Scripts that busy one another: every act and every want, on one node or more.
+//! Scripts of processes that act on one another: every act and every want, on one node or more.
 
 use st_core::{Act, Component, Flags, Label, Pid, Sequence, Serial, Token, Want};
 use std::alloc::{AllocError, Global};
 
-/// The places of a run's processes: a number on each of a number of nodes, from 0 on.
+/// The places of a run's processes: `nodes` nodes with `on_each` processes on each, from 0 on.
 #[derive(Clone, Copy)]
 pub(super) struct Places {
     pub nodes: u16,
@@ -23,7 +23,7 @@ pub(super) fn processes(alloc: Global, places: Places) -> Result<Vec<Pid>, Alloc
     Ok(pids)
 }
 
-/// Makes a script of this many acts for each of these processes.
+/// Makes a script of `acts` acts for each of the processes.
 pub(super) fn scripts(
     alloc: Global,
     pids: &[Pid],
@@ -103,7 +103,7 @@ fn token(from: Pid, value: u64) -> Token {
     }
 }
 
-/// A number that looks random, of a process and the number of its act.
+/// Returns a number that looks random, made from a process and the number of its act.
 fn mixed_number(me: Pid, n: u64) -> u64 {
     let seed = u64::from(me.node()) * 65_536 + u64::from(me.number());
     let first = seed

@@ -1,4 +1,4 @@
-//! Worked acts in systems, on one thread and on two.
+//! Worked acts in systems: replies, refusals, and what a gate is told.
 
 use super::{act_at_last, gather_at_last, open_at_last, room_at_last};
 use crate::helpers::{same, same_at};
@@ -14,7 +14,7 @@ use std::thread::Threads;
 /// An act and what it returns.
 type Played = (Act, Result<Reply, ActFault>);
 
-/// Asserts that a seat made, after its first acts, exactly those of these acts that are accepted.
+/// Asserts that a seat kept, after its first acts, exactly the played acts that were accepted.
 fn assert_made(rt: &impl Abort, seat: &Seat, first: usize, acts: &[Played]) {
     let mut place = first;
     for (act, expected) in acts {
@@ -26,8 +26,8 @@ fn assert_made(rt: &impl Abort, seat: &Seat, first: usize, acts: &[Played]) {
     same(rt, &seat.mine().len(), &place);
 }
 
-/// Makes acts through a seat, and asserts what each returns, and that the seat keeps those that are
-/// accepted.
+/// Makes the acts through a seat, and asserts what each returns and that the seat keeps exactly
+/// the accepted ones.
 fn play<const TOP: u64, const RANKS: u64, R: Wait + Abort, G: Gate>(
     rt: &R,
     gate: &G,
@@ -42,7 +42,8 @@ fn play<const TOP: u64, const RANKS: u64, R: Wait + Abort, G: Gate>(
     }
 }
 
-/// Counts how often it is told, and adds the numbers of acts that it is told, before and after.
+/// A gate that counts its calls of `before` and of `after`, and adds up the numbers of acts that
+/// they pass.
 #[derive(Drop)]
 struct Counting {
     before: AtomicU64,
@@ -93,7 +94,7 @@ fn acts_with_refusals(me: Pid) -> [Played; 9] {
     ]
 }
 
-// The gate is told of those acts that hold their lock, refused ones too.
+// The gate is told of each act that holds its lock, even of an act that is refused then.
 #[test]
 fn a_gate_is_told_of_acts_under_their_lock(rt: HostRuntime) -> Result<(), Fail> {
     let me = Pid::new(30);
@@ -110,7 +111,7 @@ fn a_gate_is_told_of_acts_under_their_lock(rt: HostRuntime) -> Result<(), Fail> 
     Ok(())
 }
 
-// The gate is told how many acts the seat kept before, whatever locks the act takes.
+// The gate is told how many acts the seat kept before the act, whatever locks the act takes.
 #[test]
 fn a_gate_is_told_how_many_acts_there_were_before(rt: HostRuntime) -> Result<(), Fail> {
     let me = Pid::new(30);
@@ -137,7 +138,7 @@ fn a_gate_is_told_how_many_acts_there_were_before(rt: HostRuntime) -> Result<(),
     Ok(())
 }
 
-// An act of a whole node is told of once before and once after, also if it is refused.
+// The gate is told once before and once after an act of a whole node, even if the act is refused.
 #[test]
 fn a_gate_is_told_of_acts_of_a_node_once(rt: HostRuntime) -> Result<(), Fail> {
     let me = Pid::new(30);
@@ -161,7 +162,7 @@ fn a_gate_is_told_of_acts_of_a_node_once(rt: HostRuntime) -> Result<(), Fail> {
     Ok(())
 }
 
-// Each refusal leaves the seat's acts and the process as they were.
+// A refused act leaves the seat's acts and the process as they were.
 #[test]
 fn refused_acts_change_nothing(rt: HostRuntime) -> Result<(), Fail> {
     let me = Pid::new(30);
@@ -178,7 +179,7 @@ fn refused_acts_change_nothing(rt: HostRuntime) -> Result<(), Fail> {
     Ok(())
 }
 
-// Three entries fill the ranks of a log. What was made stays.
+// Three entries fill the ranks of a log, and a refused fourth act leaves them.
 #[test]
 fn a_full_rank_keeps_what_was_made(rt: HostRuntime) -> Result<(), Fail> {
     let me = Pid::new(30);
@@ -199,7 +200,7 @@ fn a_full_rank_keeps_what_was_made(rt: HostRuntime) -> Result<(), Fail> {
     Ok(())
 }
 
-// A reset and a tracer change reach the processes of the actor's node, and no other.
+// A reset or a change of the tracer reaches each process of the actor's node, and no other.
 #[test]
 fn acts_of_a_node_leave_other_nodes(rt: HostRuntime) -> Result<(), Fail> {
     let here = Pid::on(1, 30);
@@ -242,10 +243,10 @@ fn acts_of_a_node_leave_other_nodes(rt: HostRuntime) -> Result<(), Fail> {
     Ok(())
 }
 
-/// As many processes as a node may have here.
+/// The number of processes on the large node.
 const MANY: u16 = 1_024;
 
-/// Makes the act in a thread whose stack is a worker's. None, if no thread could be started.
+/// Makes the act in a thread with a worker's stack; None if no thread could be started.
 fn on_worker_stack<R: Threads + Wait + Sync + Abort>(
     rt: &R,
     system: &System<9, 9>,
@@ -261,7 +262,7 @@ fn on_worker_stack<R: Threads + Wait + Sync + Abort>(
     })
 }
 
-// The locks of a node take a frame each, and a worker's stack has room for those of 1,024
+// Each lock of a node takes a frame, and a worker's stack has room for the locks of 1,024
 // processes.
 #[test]
 fn a_reset_of_a_large_node_fits_a_workers_stack(rt: HostRuntime) -> Result<(), Fail> {

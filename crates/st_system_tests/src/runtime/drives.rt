@@ -1,4 +1,4 @@
-//! Driven scripts: refusals, and what is left if memory runs out.
+//! Driven scripts: refusals, and drives that are made again after memory ran out.
 
 use crate::helpers::same;
 use st_core::{Act, Component, Label, Pid, Sequence, Want};
@@ -9,7 +9,7 @@ use std::sync::Wait;
 use std::test::Fail;
 use std::thread::Threads;
 
-/// Drives these scripts, which are as many as the pids.
+/// Drives the scripts, one for each pid.
 fn drive_once<const TOP: u64, const RANKS: u64, R: Threads + Wait + Sync + Abort>(
     rt: &R,
     alloc: Global,
@@ -27,7 +27,8 @@ fn drive_once<const TOP: u64, const RANKS: u64, R: Threads + Wait + Sync + Abort
     drive::<TOP, RANKS, R, OpenGate>(rt, alloc, pids, all, &OpenGate)
 }
 
-/// Asserts why these scripts are not driven; once more if memory or a thread was refused.
+/// Asserts that the scripts aren't driven for the expected reason, at the second try if memory or
+/// a thread was refused.
 fn assert_refused<const TOP: u64, const RANKS: u64, R: Threads + Wait + Sync + Abort>(
     rt: &R,
     alloc: Global,
@@ -71,7 +72,7 @@ fn refused_acts_and_falling_pids(rt: HostRuntime) {
     assert_refused::<3, 9, _>(&rt, alloc, &both, &[&prints, &[nobody]], clock);
 }
 
-/// Drives no acts of one process on so large a stack.
+/// Drives an empty script of one process in a thread whose stack has `stack` bytes.
 fn on_stack<R: Threads + Wait + Sync + Abort>(
     rt: &R,
     alloc: Global,
@@ -86,7 +87,7 @@ fn on_stack<R: Threads + Wait + Sync + Abort>(
     drive_on::<9, 9, R, OpenGate>(rt, alloc, &pids, scripts, &OpenGate, stack)
 }
 
-// No thread has so large a stack.
+// No thread has a stack of `usize::MAX` bytes.
 #[test]
 fn a_refused_thread_is_told(rt: HostRuntime) {
     let refused = match on_stack(&rt, rt.alloc(), usize::MAX) {
@@ -143,8 +144,8 @@ fn drive_four_busy<R: Threads + Wait + Sync + Abort>(
     Ok(record.acts.len())
 }
 
-/// If memory runs out or a thread can't be started, the call returns that, or is right; and the
-/// same call is right afterwards.
+/// Asserts that a drive is right, or returns that memory ran out or that a thread couldn't be
+/// started and is right when it is made again.
 #[test]
 fn a_drive_without_memory_may_be_asked_again(rt: HostRuntime) -> Result<(), Fail> {
     let acts = match drive_four_busy(&rt, rt.alloc()) {

@@ -1,5 +1,5 @@
-//! Pieces are joined, whichever request for memory fails. That pieces which don't fit aren't joined
-//! is a clause.
+//! Joins of pieces, whichever request for memory fails. A clause says that pieces that don't fit
+//! aren't joined.
 
 use super::{act_at_last, gather_at_last, open_at_last, room_at_last};
 use crate::helpers::same;
@@ -8,7 +8,7 @@ use st_runtime::{ActFault, JoinFault, OpenGate, Pieces, Record, join_pieces};
 use std::alloc::Global;
 use std::test::Fail;
 
-/// The record; joined a second time if memory ran out the first time.
+/// Joins the pieces, a second time if memory ran out.
 fn join_at_last(alloc: Global, pieces: &Pieces<9, 9>) -> Result<Record, JoinFault> {
     match join_pieces(alloc, pieces) {
         Err(JoinFault::Memory) => join_pieces(alloc, pieces),
@@ -16,9 +16,8 @@ fn join_at_last(alloc: Global, pieces: &Pieces<9, 9>) -> Result<Record, JoinFaul
     }
 }
 
-// Whichever request for memory fails, as when this test runs with an allocation that fails, the
-// call that meets it returns Memory and leaves no trace: made once more it returns the right
-// result.
+// A call whose request for memory fails returns Memory and changes nothing: when it is made again
+// it returns the right result. The test shows that only if it runs with an allocation that fails.
 #[test]
 fn joins_without_memory_leave_no_trace(rt: HostRuntime) -> Result<(), Fail> {
     let pids = [Pid::new(30), Pid::new(31), Pid::new(32)];
@@ -47,8 +46,8 @@ fn joins_without_memory_leave_no_trace(rt: HostRuntime) -> Result<(), Fail> {
     Ok(())
 }
 
-// A reset of four processes that runs out of memory, as when this test runs with an allocation that
-// fails, is in no log: the processes can go on, and the record has none.
+// A reset of four processes that runs out of memory is in no log, and the processes can go on. The
+// test shows that only if it runs with an allocation that fails.
 #[test]
 fn a_refused_reset_leaves_no_trace(rt: HostRuntime) -> Result<(), Fail> {
     let pids = [Pid::new(30), Pid::new(31), Pid::new(32), Pid::new(33)];

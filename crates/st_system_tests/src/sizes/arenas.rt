@@ -1,4 +1,4 @@
-//! Lists, mailboxes, worlds, drafts and devices of 100,000.
+//! Lists, mailboxes, worlds, drafts and devices that hold 100,000 items.
 
 ghost use Rattle.std.specs.Prelude.{◌≡◌, ◌<◌, length};
 
@@ -15,10 +15,10 @@ use st_world::World;
 use std::process::Abort;
 use std::test::Fail;
 
-/// How many there are of anything, as a length.
+/// The size that each call is tested with, as a length.
 const LENGTH: usize = 100_000;
 
-/// Pushes this many items on the last list.
+/// Pushes `MANY` items on the last list.
 fn push_many(lists: &mut Lists<u64>) -> Result<(), Fail>
     requires { 99999 < length lists.old.lists }
     ensures { length lists.new.lists ≡ length lists.old.lists }
@@ -39,7 +39,7 @@ fn a_hundred_thousand_lists_take_as_many_items(rt: HostRuntime) -> Result<(), Fa
     Ok(())
 }
 
-/// A message of 30 whose token has this own count.
+/// Makes a message of 30 whose token has the count `this`.
 fn stamped_message(this: u64) -> Message {
     let mut token = Token::made_by(p30());
     token.serial = Serial { prev: 0, this };
@@ -50,7 +50,7 @@ fn stamped_message(this: u64) -> Message {
     }
 }
 
-/// Puts this many messages into the last mailbox.
+/// Puts `MANY` messages into the last mailbox.
 fn put_many(mail: &mut Mailboxes) -> Result<(), Fail>
     requires { 99999 < length mail.old.boxes }
     ensures { length mail.new.boxes ≡ length mail.old.boxes }
@@ -75,7 +75,7 @@ fn a_hundred_thousand_mailboxes_take_as_many_messages(rt: HostRuntime) -> Result
     Ok(())
 }
 
-/// Sends this many messages with its token from 30 to 31.
+/// Sends `MANY` messages with the token of 30 from 30 to 31.
 fn send_many(rt: &impl Abort, world: &mut World<{ u64::MAX }>) {
     assert!(rt;
         world

@@ -1,4 +1,4 @@
--- As many lists are there as before.
+-- There are as many lists as before.
 use Rattle.std.proofs.Common.{◌≡◌, length}
 use Rattle.st_system_tests.proofs.sizes.arenas.push_many.Given as goal
 

@@ -1,4 +1,4 @@
--- As many mailboxes are there as before.
+-- There are as many mailboxes as before.
 use Rattle.std.proofs.Common.{◌≡◌, length}
 use Rattle.st_system_tests.proofs.sizes.arenas.put_many.Given as goal
 
