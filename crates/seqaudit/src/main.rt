@@ -13,8 +13,8 @@ use std::io::ErrorKind;
 use std::process::ExitCode;
 use std::{env, io};
 
-/// Why the words of the command line can't be read: memory ran out, or one isn't UTF-8 and so is no
-/// word of a command.
+/// Returns why the words of the command line can't be read: memory ran out, or a word isn't UTF-8
+/// and so is no word of a command.
 fn why_unread(error: &io::Error) -> Refusal
     ensures memory { error_kind error.now ≡ ErrorKind.OutOfMemory → result ≡ Refusal.Memory }
     ensures usage { error_kind error.now ≢ ErrorKind.OutOfMemory → result ≡ Refusal.Usage }
@@ -25,7 +25,7 @@ fn why_unread(error: &io::Error) -> Refusal
     }
 }
 
-/// The words of the command line.
+/// Reads the words of the command line.
 fn words_of(rt: &HostRuntime) -> io::Result<Vec<String>> {
     let words = env::args(rt)?.collect(rt.alloc())?;
     Ok(words)

@@ -14,7 +14,7 @@ use std::process::ExitCode;
 use std::thread::Threads;
 use std::{env, fs, io};
 
-/// The words of the command line.
+/// Reads the words of the command line.
 fn words_of(rt: &HostRuntime) -> io::Result<Vec<String>> {
     let words = env::args(rt)?.collect(rt.alloc())?;
     Ok(words)
@@ -55,8 +55,8 @@ fn serve<H: AllocGlobal + Threads + Sync, W: ByteSink>(
     }
 }
 
-/// Says that there was no memory for the words, or that one isn't UTF-8 and so is no word of a
-/// command.
+/// Writes that there was no memory for the words, or that a word isn't UTF-8 and so is no word of
+/// a command.
 fn tell_unread<W: ByteSink>(error: &io::Error, writer: &mut W) -> u8 {
     match error.kind() {
         ErrorKind::OutOfMemory => tell_fault(writer, ReadFault::Memory),
