@@ -337,26 +337,24 @@ impl Sentences<'_> {
     fn write_counters(&self, out: &mut Output) -> io::Result<()> {
         let silent = self.counted(|it| it.silent);
         if !silent.is_empty() {
-            let not = self.cut_or("aren't here", "weren't reported");
             let by = of_processes(&silent, |(pid, number)| {
                 format!("{} of {}", grouped(*number), self.shown.process(*pid))
             });
-            writeln!(
-                out,
-                "Counts that no event here has, of prints, or of sends whose receives {not} \
-                 either, unless a token's serial was set by hand (set_token/2): {by}."
-            )?;
+            writeln!(out, "Counts that no event here has: {by}.")?;
         }
         let jumps = self.counted(|it| it.jumps);
         if !jumps.is_empty() {
             let anything = self.cut_or("anything here", "anything reported");
+            let often = self.often(&jumps);
+            writeln!(out, "A counter jumps if it is higher than {anything} explains: {often}.")?;
+        }
+        if !silent.is_empty() || !jumps.is_empty() {
             let that = self.cut_or("that isn't here", "that wasn't reported");
             writeln!(
                 out,
-                "A counter jumps if it is higher than {anything} explains: {}. Something was \
-                 received, sent or printed there {that}, unless a token's serial was set by hand \
-                 (set_token/2).",
-                self.often(&jumps)
+                "Something was received, sent or printed there {that}, unless a process was \
+                 spawned, a token from elsewhere or from before the trace was put back, or a \
+                 token's serial was set by hand (set_token/2)."
             )?;
         }
         self.write_beginnings(out)
