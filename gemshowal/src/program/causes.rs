@@ -7,7 +7,8 @@
 //! completion puts no token back, so nothing is said where a known token may have been.
 
 use crate::audit;
-use crate::messages::{before, last_of_answer, Found, LabelUse, Messages, Source, Sources};
+use crate::messages::{before, last_of_answer};
+use crate::messages::{Found, LabelUse, Messages, Source, Sources, Strays};
 use crate::names::Names;
 use crate::reason::paired;
 use crate::view::{Kept, Place, Shown, View};
@@ -31,6 +32,9 @@ pub(crate) enum Grade {
     Perhaps,
 }
 
+/// The premise of a receive's send.
+const SENDS_REPORTED: Grade = Grade::Under(&[4]);
+
 /// The premises where a token was put back, or a spawn moved the counters.
 const OWN_TOKENS: Grade = Grade::Under(&[5, 6, 7]);
 
@@ -46,7 +50,7 @@ impl Grade {
             NodePremises::Nothing => Grade::Certain,
             NodePremises::KeptCounters => Grade::Under(&[1, 2]),
             NodePremises::KeptToken => Grade::Under(&[1, 2, 3]),
-            NodePremises::SendsReported => Grade::Under(&[4]),
+            NodePremises::SendsReported => SENDS_REPORTED,
         }
     }
 
@@ -157,6 +161,19 @@ impl Link {
         Link { cause, grade, ..self }
     }
 
+    /// Returns this link of a receive as the sends to aliases and names tell it that may be its own,
+    /// if no reported send to its process is left.
+    fn by_strays(self, strays: &[Place]) -> Link {
+        let item = |&(pid, index): &Place| Item::Reported(pid, index);
+        match strays {
+            [] => self,
+            [one] => Link { cause: Cause::After(item(one)), grade: SENDS_REPORTED, ..self },
+            [one, other, ..] => {
+                Link { cause: Cause::Either(Some(item(one)), Some(item(other))), ..self }
+            }
+        }
+    }
+
     /// Returns the receive that a send or print follows, or the send of a receive.
     pub(crate) fn after(self) -> Option<Item> {
         match self.cause {
@@ -216,6 +233,8 @@ pub(crate) struct Links<'a> {
     hops: ProcessHops<'a>,
     /// The messages, if no receive was reported.
     messages: Option<Messages<'a>>,
+    names: &'a Names,
+    strays: OnceCell<Strays>,
     tokens: OnceCell<HashSet<(u32, u64, u64)>>,
     found: RefCell<HashMap<Pid, Vec<Link>>>,
 }
@@ -227,8 +246,9 @@ impl<'a> Links<'a> {
         is_answer: impl Fn(Place) -> bool + 'a,
     ) -> Result<Links<'a>, OutOfMemory> {
         let (hops, messages) = (ProcessHops::of(trace.streams())?, Messages::of(trace, names));
-        let (is_answer, tokens, found) = (Box::new(is_answer), OnceCell::new(), RefCell::default());
-        Ok(Links { trace, is_answer, hops, messages, tokens, found })
+        let (is_answer, strays, tokens) = (Box::new(is_answer), OnceCell::new(), OnceCell::new());
+        let found = RefCell::default();
+        Ok(Links { trace, is_answer, hops, messages, names, strays, tokens, found })
     }
 
     pub(crate) fn of_view(view: &View<'a>) -> Result<Links<'a>, OutOfMemory> {
@@ -248,8 +268,20 @@ impl<'a> Links<'a> {
     }
 
     fn by_hops(&self, pid: Pid) -> Result<Vec<Link>, OutOfMemory> {
-        let hops = self.hops.find(pid)?.into_iter().zip(0..);
-        Ok(hops.map(|(hop, index)| Link::of(hop, (pid, index))).collect())
+        let events = self.trace.streams().events(pid).iter();
+        let hops = self.hops.find(pid)?.into_iter().zip(events).zip(0..);
+        Ok(hops.map(|((hop, event), index)| self.by_hop(hop, event, (pid, index))).collect())
+    }
+
+    fn by_hop(&self, hop: NodeHop, event: &Event, place: Place) -> Link {
+        let link = Link::of(hop, place);
+        match link.cause {
+            Cause::After(Item::Hidden(..)) => {
+                let strays = self.strays.get_or_init(|| Strays::of(self.trace, self.names));
+                link.by_strays(strays.alike(event))
+            }
+            _ => link,
+        }
     }
 
     fn of_process(&self, pid: Pid) -> Result<Vec<Link>, OutOfMemory> {

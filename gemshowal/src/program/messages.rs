@@ -33,7 +33,7 @@
 
 use crate::names::Names;
 use crate::view::Place;
-use gemshowal::{Event, Kind, Pid, Serial, Trace, COUNTS};
+use gemshowal::{Event, Kind, MessageContent, Pid, Serial, Trace, COUNTS};
 use std::collections::{HashMap, HashSet};
 
 /// A counter can't have wrapped if no count that was reported reaches this one: a stamp adds 1 to
@@ -142,6 +142,42 @@ impl<'a> Messages<'a> {
         let events = self.trace.streams().events(pid).iter().zip(0..);
         events.map(|(stamp, index)| walk.find(index, stamp)).collect()
     }
+}
+
+/// The sends to aliases and names of which it isn't known whose they are, as when two processes
+/// received alike messages under a token that was put back between their sends.
+pub(crate) struct Strays(HashMap<MessageContent, Vec<Place>>);
+
+impl Strays {
+    pub(crate) fn of(trace: &Trace, names: &Names) -> Strays {
+        let mut sends: HashMap<MessageContent, Vec<Place>> = HashMap::new();
+        for (place, event) in trace.events().filter(|(_, event)| event.kind == Kind::Send) {
+            if event.to.is_some_and(|to| is_address(names, to)) {
+                sends.entry(without_receiver(event)).or_default().push(place);
+            }
+        }
+        Strays(sends)
+    }
+
+    /// Returns what all events of messages have in common that may be the same: where a message like
+    /// it went to an alias or a name, the receiver isn't known.
+    pub(crate) fn content(&self, event: &Event) -> MessageContent {
+        let common = without_receiver(event);
+        if self.0.contains_key(&common) {
+            common
+        } else {
+            MessageContent::of(event)
+        }
+    }
+
+    /// Returns those that may have sent the message of a receive.
+    pub(crate) fn alike(&self, receive: &Event) -> &[Place] {
+        self.0.get(&without_receiver(receive)).map_or(&[], Vec::as_slice)
+    }
+}
+
+fn without_receiver(event: &Event) -> MessageContent {
+    MessageContent { to: None, ..MessageContent::of(event) }
 }
 
 /// Returns whether this is an alias or a name, and it isn't known of which process.

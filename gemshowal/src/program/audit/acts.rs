@@ -22,6 +22,7 @@ pub(super) fn missing(node: &NodeTrace, judged: &Judged, is_cut: bool) -> Option
         (is_cut, "the rules were asked of the whole trace"),
         (!judged.earlier.is_empty(), "counters go on from before the trace"),
         (judged.found.is_some(), "the run that was found has events that nobody reported"),
+        (judged.has_strays, "it isn't known whose the aliases and names are"),
     ];
     reasons.into_iter().find(|(is_so, _)| *is_so).map(|(_, reason)| reason)
 }

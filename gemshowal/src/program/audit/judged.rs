@@ -6,7 +6,7 @@ use super::lives;
 use super::unexplained::Explainer;
 use super::unreceived::after_unreceived;
 use super::walk::{walk, Run};
-use crate::messages::spawns;
+use crate::messages::{spawns, Strays};
 use crate::names::Names;
 use crate::view::{Kept, Place};
 use crate::Failure;
@@ -115,18 +115,21 @@ pub(super) struct Judged {
     pub(super) waiting: Vec<Place>,
     /// A run that was found, if a kind of events wasn't reported.
     pub(super) found: Option<Found>,
+    /// Tells whether messages to aliases and names explain receives.
+    pub(super) has_strays: bool,
 }
 
 impl Judged {
     /// Judges a trace of which each send, receive and print was reported.
     pub(super) fn of(trace: &NodeTrace, names: &Names) -> Result<Judged, Failure> {
         let mut finding = trace.audit()?;
+        let has_strays = pair_strays(trace, names, &mut finding);
         let sent = sent_contents(trace, &finding.unsent);
         let is_sent = |&place: &Place| {
             event_at(trace, place).is_some_and(|event| sent.contains(&MessageContent::of(&event)))
         };
         let waiting = std::mem::take(&mut finding.unreceived);
-        let mut judged = Judged { waiting, ..Judged::default() };
+        let mut judged = Judged { waiting, has_strays, ..Judged::default() };
         let explainer = Explainer::new(trace, names, &judged.waiting);
         let has = |kind| trace.events(kind).next().is_some();
         let has_messages = has(Kind::Send) && has(Kind::Receive);
@@ -279,6 +282,23 @@ impl Judged {
 
 fn is_ungiven(way: Way) -> bool {
     way == Way::Ungiven
+}
+
+/// Takes away the receives that may be of messages to aliases and names, and as many of those: it
+/// isn't known whose they are. Returns whether there are such.
+fn pair_strays(trace: &NodeTrace, names: &Names, finding: &mut NodeFinding) -> bool {
+    if finding.unsent.is_empty() {
+        return false;
+    }
+    let strays = Strays::of(trace.trace(), names);
+    let mut paired = HashSet::new();
+    finding.unsent.retain(|&receive| {
+        let alike = event_at(trace, receive).map(|event| strays.alike(&event));
+        let send = alike.into_iter().flatten().find(|send| !paired.contains(*send));
+        send.is_none_or(|&send| !paired.insert(send))
+    });
+    finding.unreceived.retain(|send| !paired.contains(send));
+    !paired.is_empty()
 }
 
 /// Returns the contents of all messages that were sent, if a receive has no send.

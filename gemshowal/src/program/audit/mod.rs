@@ -17,6 +17,7 @@ mod walk;
 
 use crate::args::Audit;
 use crate::input::Input;
+use crate::messages::Strays;
 use crate::names::Names;
 use crate::output::Output;
 use crate::times::summary;
@@ -118,7 +119,8 @@ fn has_copies(view: &View<'_>) -> bool {
 /// Splits the trace at possible resets; returns no parts if there is one alone, or too many, or if
 /// events are twice in it: then nothing says that there was a reset.
 pub(crate) fn parts(view: &View<'_>) -> Result<Vec<(Kept, Trace)>, OutOfMemory> {
-    let split = resets::split(view.trace, PARTS).unwrap_or_default();
+    let strays = Strays::of(view.trace, view.names);
+    let split = resets::split(view.trace, &strays, PARTS).unwrap_or_default();
     if split.len() < 2 || has_copies(view) {
         return Ok(Vec::new());
     }

@@ -6,6 +6,7 @@
 //! part in which it was sent. The longest beginnings of this kind are taken, one part after
 //! the other.
 
+use crate::messages::Strays;
 use gemshowal::{Event, Kind, MessageContent, Pid, Trace};
 use std::collections::HashMap;
 
@@ -17,11 +18,11 @@ pub(super) type Part = HashMap<Pid, (usize, usize)>;
 
 /// Splits the trace into parts, one alone if nothing says that there was a reset. Returns `None` if
 /// there would be more than `most`.
-pub(super) fn split(trace: &Trace, most: usize) -> Option<Vec<Part>> {
+pub(super) fn split(trace: &Trace, strays: &Strays, most: usize) -> Option<Vec<Part>> {
     let mut parts = Vec::new();
     let mut begins: HashMap<Pid, usize> = trace.processes().map(|(pid, _)| (pid, 0)).collect();
     loop {
-        let ends = take(trace, &begins);
+        let ends = take(trace, strays, &begins);
         let taken: usize = begins.iter().map(|(pid, begin)| ends[pid] - begin).sum();
         let left: usize = trace.processes().map(|(pid, events)| events.len() - ends[&pid]).sum();
         let is_last = taken == 0 || left == 0;
@@ -44,8 +45,8 @@ pub(super) fn split(trace: &Trace, most: usize) -> Option<Vec<Part>> {
 }
 
 /// Finds how far each process's events go in the first part of the rest.
-fn take(trace: &Trace, begins: &HashMap<Pid, usize>) -> HashMap<Pid, usize> {
-    let mut run = Run::new(trace, begins);
+fn take(trace: &Trace, strays: &Strays, begins: &HashMap<Pid, usize>) -> HashMap<Pid, usize> {
+    let mut run = Run::new(trace, strays, begins);
     let mut going: Vec<Pid> = trace.streams().pids().iter().rev().copied().collect();
     while let Some(pid) = going.pop() {
         run.go_on(pid, &mut going);
@@ -63,6 +64,7 @@ enum Next {
 /// Processes that go on side by side as far as they can.
 struct Run<'a> {
     trace: &'a Trace,
+    strays: &'a Strays,
     begins: &'a HashMap<Pid, usize>,
     ends: HashMap<Pid, usize>,
     clocks: HashMap<Pid, u64>,
@@ -76,16 +78,17 @@ struct Run<'a> {
 }
 
 impl<'a> Run<'a> {
-    fn new(trace: &'a Trace, begins: &'a HashMap<Pid, usize>) -> Run<'a> {
+    fn new(trace: &'a Trace, strays: &'a Strays, begins: &'a HashMap<Pid, usize>) -> Run<'a> {
         let mut sends = HashMap::new();
         for (pid, events) in trace.processes() {
             let left = events.iter().skip(begins[&pid]);
             for event in left.filter(|event| event.kind == Kind::Send) {
-                *sends.entry(MessageContent::of(event)).or_default() += 1;
+                *sends.entry(strays.content(event)).or_default() += 1;
             }
         }
         Run {
             trace,
+            strays,
             begins,
             ends: begins.clone(),
             clocks: HashMap::new(),
@@ -100,7 +103,7 @@ impl<'a> Run<'a> {
     fn go_on(&mut self, pid: Pid, going: &mut Vec<Pid>) {
         let end = self.ends[&pid];
         let Some(event) = self.trace.streams().events(pid).get(end) else { return };
-        let content = MessageContent::of(event);
+        let content = self.strays.content(event);
         match self.next(pid, event, content) {
             Next::Ends => return,
             Next::Waits => return self.waiting.entry(content).or_default().push(pid),
@@ -131,7 +134,7 @@ impl<'a> Run<'a> {
         }
         match self.stamps.get(&(event.from, this)).map(|&(pid, at)| &self.events(pid)[at]) {
             _ if self.received.contains_key(&(event.from, this)) => Next::Ends,
-            Some(stamp) if stamp.kind == Kind::Send && MessageContent::of(stamp) == content => {
+            Some(stamp) if stamp.kind == Kind::Send && self.strays.content(stamp) == content => {
                 Next::Taken
             }
             Some(_) => Next::Ends,
@@ -188,8 +191,8 @@ impl<'a> Run<'a> {
         for (pid, events) in self.trace.processes() {
             for event in events.iter().skip(self.ends[&pid]) {
                 match event.kind {
-                    Kind::Receive => *wanted.entry(MessageContent::of(event)).or_default() += 1,
-                    Kind::Send => *wanted.entry(MessageContent::of(event)).or_default() -= 1,
+                    Kind::Receive => *wanted.entry(self.strays.content(event)).or_default() += 1,
+                    Kind::Send => *wanted.entry(self.strays.content(event)).or_default() -= 1,
                     Kind::Print => {}
                 }
             }
@@ -199,7 +202,7 @@ impl<'a> Run<'a> {
             let own = events.iter().enumerate().take(self.ends[&pid]).skip(self.begins[&pid]);
             for (place, event) in own.rev().filter(|(_, event)| event.kind == Kind::Send) {
                 let is_received = self.received.contains_key(&(pid, event.serial.this));
-                match wanted.get_mut(&MessageContent::of(event)) {
+                match wanted.get_mut(&self.strays.content(event)) {
                     Some(left) if *left > 0 && !is_received => {
                         *left -= 1;
                         found.push((pid, place));
