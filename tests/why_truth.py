@@ -37,7 +37,7 @@ class Trace:
 
     def __init__(self, name):
         self.name = name
-        self.terms = read_terms(Path(name + ".terms"))
+        self.terms, self.named = read_terms(Path(name + ".terms"))
         self.streams = self.read_streams(Path(name + ".seqtrace"))
         self.log, self.requested = defaultdict(list), {}
         for line in Path(name + ".truth").read_text().splitlines():
@@ -45,15 +45,16 @@ class Trace:
             self.log[pid].append((word, what))
             if found := REQUESTED.fullmatch(what):
                 self.requested["spawn_request", found[1]], self.requested["spawn_reply", found[1]] = found[2], found[3]
+        # The places of each message: one that went to two aliases has two sends and two receives.
         self.numbers = numbers = {}
         for pid, events in self.streams.items():
             for i, event in enumerate(events):
                 if mark := self.mark(event.term):
-                    numbers[event.kind, int(mark[1])] = pid, i
+                    numbers.setdefault((event.kind, int(mark[1])), []).append((pid, i))
         self.pids = {}
         for pid, entries in self.log.items():
-            places = [numbers.get((KINDS.get(word), int(what))) for word, what in entries if word in KINDS]
-            self.pids.update({pid: place[0] for place in places if place})
+            places = [numbers.get((KINDS.get(word), int(what)), ()) for word, what in entries if word in KINDS]
+            self.pids.update({pid: own[0][0] for own in places if len({place[0] for place in own}) == 1})
         self.spawns = {}
         born = {SPAWN.fullmatch(what)[1] for entries in self.log.values() for word, what in entries if word == "spawned"}
         self.did = {self.pids[pid]: self.all_done(self.pids[pid], entries, pid[1:-1] in born)
@@ -99,9 +100,9 @@ class Trace:
 
         for word, what in entries:
             if word in KINDS:
-                place = self.numbers.get((KINDS[word], int(what)))
-                if place:
-                    reach(place[1])
+                own = [i for of, i in self.numbers.get((KINDS[word], int(what)), ()) if of == pid]
+                if own:
+                    reach(next((i for i in own if i >= placed), own[-1]))
                 else:
                     did.append(Did("unreported " + KINDS[word], None))
             elif word == "spawned":
@@ -139,21 +140,22 @@ class Trace:
             return "home"
         if cause[0] == "spawned":
             return next((j for j in range(i) if events[j].to == pid and self.is_request(events[j])), None)
-        place = self.numbers.get(("receive", int(cause[0])))
-        return place[1] if place and place[0] == pid else None
+        received = [j for of, j in self.numbers.get(("receive", int(cause[0])), ()) if of == pid and j < i]
+        return received[-1] if received else None
 
-    def source(self, pid, i):
-        """The place of the send whose message gave a send or print its token, "unreported" if that isn't in the trace, "home",
-        or None if nothing says it."""
+    def sources(self, pid, i):
+        """The place of the send whose message gave a send or print its token, and of those like it, "unreported" if that isn't
+        in the trace, or "home"; None if nothing says it."""
         event, mark = self.streams[pid][i], self.mark(self.streams[pid][i].term)
         cause = (mark[2], mark[3] == "true") if mark else self.spawns.get((pid, i))
         if cause is None:
-            return self.request_of(pid) if event.term.startswith("{spawn_reply,") else None
+            request = self.request_of(pid) if event.term.startswith("{spawn_reply,") else None
+            return request and [request]
         if cause[1] or cause[0] == "begins":
-            return "home"
+            return ["home"]
         if cause[0] == "spawned":
-            return self.request_of(pid) or "unreported"
-        return self.numbers.get(("send", int(cause[0])), "unreported")
+            return [self.request_of(pid) or "unreported"]
+        return self.numbers.get(("send", int(cause[0])), ["unreported"])
 
     def request_of(self, pid):
         """The place of the request to spawn this process, or None if it isn't in the trace."""
@@ -164,7 +166,7 @@ class Trace:
     def gave_label(self, pid, i):
         """Whether a process made a token of the label of this event, or set the label on one, as far as its events tell."""
         events = self.streams[pid]
-        return any(events[j].label == events[i].label and events[j].kind != "receive" and self.source(pid, j) == "home"
+        return any(events[j].label == events[i].label and events[j].kind != "receive" and self.sources(pid, j) == ["home"]
                    for j in range(len(events)))
 
     def last_received(self, pid, i):
@@ -188,11 +190,13 @@ class Trace:
 
 KINDS = {"sent": "send", "received": "receive", "printed": "print"}
 MOVES = {"unreported receive", "put", "spawned"}
+RAISES = {"put", "spawned", "handed_over"}
 
 
 def read_terms(path):
-    rows = (line.split("\t") for line in path.read_text(errors="replace").splitlines())
-    return {row[1]: row[2] for row in rows if row[0] == "value"}
+    """The texts of messages by their numbers, and the processes by their names."""
+    rows = [line.split("\t") for line in path.read_text(errors="replace").splitlines()]
+    return {row[1]: row[2] for row in rows if row[0] == "value"}, {row[2]: row[1] for row in rows if row[0] == "process"}
 
 
 def holds(trace, pid, after, i, premises):
@@ -240,7 +244,8 @@ class Judge:
                 self.judge_link(place, links[place])
 
     def judge_audit(self, told):
-        """Counts what `audit` says, and whether there was a lost receive where it says that there probably was."""
+        """Counts what `audit` says, and whether there was a lost receive where it says that there probably was. A send of which
+        it says that nobody reported it mustn't be there, and something must have raised a counter that it calls raised."""
         is_lost = any(it.word == "unreported receive" for did in self.trace.did.values() for it in did)
         is_probably_lost = bool(re.search("probably [^,;]*receive", told["headline"]))
         self.counted["fits if"] += told["result"] == "unexplained"
@@ -249,6 +254,15 @@ class Judge:
         self.counted["put back or lost"] += bool(re.search(r", or [\d,]+ receive", told["headline"]))
         self.counted["probably lost"] += is_probably_lost
         self.counted["none lost"] += is_probably_lost and not is_lost
+        unsent = [it["received_as"] for it in told.get("unreported", ()) if it["certain"] and it.get("received_as")]
+        for it in unsent + told.get("unsent", []):
+            mark = self.trace.mark(self.trace.streams[it["pid"]][it["index"]].term)
+            if mark and ("send", int(mark[1])) in self.trace.numbers:
+                self.false.append(("its send was reported", it))
+        for name in {*told.get("silent_counts", ()), *told.get("jumps", ())}:
+            did = self.trace.did.get(self.trace.named.get(name))
+            if did is not None and not any(it.word in RAISES or it.word.startswith("unreported") for it in did):
+                self.false.append(("nothing raised its counter", name))
 
     def judge_link(self, place, link):
         pid, i = place
@@ -267,14 +281,17 @@ class Judge:
         elif not is_true and not holds(self.trace, pid, after, i, link["premises"]):
             self.counted["false as a premise fails"] += 1
         elif not is_true:
-            self.false.append((place, event, link, self.trace.origin(pid, i), self.trace.source(pid, i)))
+            self.false.append((place, event, link, self.trace.origin(pid, i), self.trace.sources(pid, i)))
 
     def receive(self, place, link):
         """Whether what is said of a receive is true, and no place. A message without a mark is known by its content."""
         event = self.trace.streams[place[0]][place[1]]
         mark, named = self.trace.mark(event.term), self.places.get(link["after"])
         if mark:
-            return named == self.trace.numbers.get(("send", int(mark[1]))), None
+            sends = self.trace.numbers.get(("send", int(mark[1])), [None])
+            if link["cause"] == "several":
+                return bool({*self.either(place)} & {*sends}), None
+            return named in sends, None
         if named is None:
             return None, None
         sent = self.trace.streams[named[0]][named[1]]
@@ -283,7 +300,7 @@ class Judge:
     def stamp(self, place, link):
         """Whether what is said of a send or print is true, and the index of the receive that is named."""
         pid, i = place
-        origin, source, cause = self.trace.origin(pid, i), self.trace.source(pid, i), link["cause"]
+        origin, sources, cause = self.trace.origin(pid, i), self.trace.sources(pid, i), link["cause"]
         if link["grade"] == "perhaps":
             return self.is_as_completed(place), None
         named = self.places.get(link["after"], (pid, None))
@@ -291,16 +308,19 @@ class Judge:
         if cause == "moved":
             return self.is_moved(place, link["moved"]["since"]), None
         if cause == "several":
-            found = EITHER.search(self.run("why", self.trace.name, "%s#%d" % place).stdout)
-            either = [self.places[name] if name else "home" for name in found.groups()]
-            is_among = bool({source, origin if origin == "home" else (pid, origin)} & set(either))
+            is_among = bool({*(sources or ()), origin if origin == "home" else (pid, origin)} & {*self.either(place)})
             self.counted["neither of several"] += not is_among
             return is_among or None, None
         if cause == "message":
-            return (None if source is None else named == source), None
+            return (None if sources is None else named in sources), None
         if origin is None:
-            return (False if cause == "after" else source and source == "home"), after
+            return (False if cause == "after" else sources and sources == ["home"]), after
         return origin == (after if cause == "after" else "home"), after
+
+    def either(self, place):
+        """The two that an event is said to follow, by their places, or "home"."""
+        found = EITHER.search(self.run("why", self.trace.name, "%s#%d" % place).stdout)
+        return [self.places[name] if name else "home" for name in found.groups()]
 
     def is_as_completed(self, place):
         """Whether a send or print truly follows the message whose receive the completion adds before it; of an unknown message

@@ -35,11 +35,13 @@ run(Seed, #{nodes := Nodes, flags := Flags, late := Late} = How, Name) ->
     Servers = [erpc:call(Node, seqaudit_truth_servers, start, [server(rand:uniform(6), Tokens)])
                || Node <- Nodes, _ <- [1, 2]],
     {Players, Drawn} = steps(2 + rand:uniform(4), 30 + rand:uniform(60), Servers),
-    Steps = [{Player, in_place_of(Step, Tokens)} || {Player, Step} <- Drawn],
+    Steps = [Step || {Player, Own} <- Drawn,
+                     Step <- in_place_of(Player, Own, Tokens, length(Players))],
     Pids = [spawn(lists:nth(1 + N rem length(Nodes), Nodes), ?MODULE, play,
                   [N, self(), Flags, Tokens])
             || N <- Players],
-    Numbered = maps:from_list(lists:zip(Players, Pids)),
+    Aliases = [receive {alias, N, Alias} -> {{alias, N}, Alias} end || N <- Players],
+    Numbered = maps:from_list(lists:zip(Players, Pids) ++ Aliases),
     Half = length(Steps) div 2,
     ok = play_all(lists:sublist(Steps, Half), Numbered, Servers),
     Late andalso (ok = seqaudit_trace:start(#{name => Name, nodes => Nodes})),
@@ -61,10 +63,14 @@ run(Seed, #{nodes := Nodes, flags := Flags, late := Late} = How, Name) ->
 server(4, none) -> 1;
 server(Kind, _) -> Kind.
 
-in_place_of(put, none) -> print;
-in_place_of(take, handed_over) -> hand_over;
-in_place_of(put, handed_over) -> put_handed;
-in_place_of(Step, _) -> Step.
+in_place_of(P, put, none, _) -> [{P, print}];
+in_place_of(P, take, handed_over, _) -> [{P, hand_over}];
+in_place_of(P, put, handed_over, _) -> [{P, put_handed}];
+in_place_of(P, {send, Q, K}, published, Count) ->
+    Both = [Q, 1 + Q rem Count],
+    [{P, {publish, Both, K}} | [{R, {wait, K}} || R <- Both]];
+in_place_of(_, {wait, _}, published, _) -> [];
+in_place_of(P, Step, _, _) -> [{P, Step}].
 
 %% A service that spawns a process for each request, which a client makes one after the other. Each
 %% is under a label of its own, asks two servers, and ends.
@@ -180,10 +186,10 @@ write_log(Log, Name) ->
 
 %% Each player gets its steps of a part, and does them without a message of anybody else in between.
 play_all(Steps, Numbered, Servers) ->
+    Players = [{N, Pid} || {N, Pid} <- maps:to_list(Numbered), is_integer(N)],
     [Pid ! {steps, [Step || {Who, Step} <- Steps, Who =:= N], Numbered, Servers}
-     || {N, Pid} <- maps:to_list(Numbered)],
-    [receive {played, Pid} -> ok after 60_000 -> error({stuck, Pid}) end
-     || Pid <- maps:values(Numbered)],
+     || {N, Pid} <- Players],
+    [receive {played, Pid} -> ok after 60_000 -> error({stuck, Pid}) end || {_, Pid} <- Players],
     ok.
 
 %% The deeds of the players, in one order: messages are received after their sends, in any order.
@@ -217,6 +223,7 @@ step(K, Players, Servers, Open) ->
 %% A player. What it knows of its token: the message that gave it, and whether it set the label
 %% itself.
 play(Number, Boss, Flags, Tokens) ->
+    Boss ! {alias, Number, alias()},
     know(none),
     player(Number, Boss, Flags, Tokens).
 
@@ -238,11 +245,16 @@ resume({[], _}, _) -> know(none);
 resume(_, none) -> know(none);
 resume({Token, Known}, _) -> put_back(Token, Known).
 
-%% Without a token it mostly begins a trace, as the message would take the receiver's token away.
-act({send, To, Number}, Me, Flags, Numbered, Servers) ->
-    [act({begins, 1_000_000 + 1_000 * Me + Number}, Me, Flags, Numbered, Servers)
-     || seq_trace:get_token() =:= [], Number rem 5 > 0],
+act({send, To, Number}, Me, Flags, Numbered, _) ->
+    begins_to_send(Number, Me, Flags),
     maps:get(To, Numbered) ! {Number, content(sent)};
+act({publish, [One, Other], Number}, Me, Flags, Numbered, _) ->
+    begins_to_send(Number, Me, Flags),
+    {Token, Known} = {seq_trace:get_token(), get(known)},
+    Message = maps:get({alias, One}, Numbered) ! {Number, content(sent)},
+    put_back(Token, Known),
+    [log(sent, Sent) || {_, {m, Sent, Cause, _}} <- [Message], Cause =/= none],
+    maps:get({alias, Other}, Numbered) ! Message;
 act({wait, Number}, _, _, _, _) -> receive {Number, Content} -> got(Content) end;
 act(print, _, _, _, _) -> seq_trace:print(content(printed));
 act({begins, Label}, _, Flags, _, _) -> begins(Label, Flags);
@@ -289,6 +301,11 @@ act({call, Which}, Me, Flags, Numbered, Servers) ->
     [act({begins, 2_000_000 + erlang:unique_integer([positive])}, Me, Flags, Numbered, Servers)
      || seq_trace:get_token() =:= [], rand:uniform(5) > 1],
     seqaudit_truth_servers:ask(lists:nth(Which, Servers)).
+
+%% Without a token it mostly begins a trace, as the message would take the receiver's token away.
+begins_to_send(Number, Me, Flags) ->
+    [begins(1_000_000 + 1_000 * Me + Number, Flags)
+     || seq_trace:get_token() =:= [], Number rem 5 > 0].
 
 begins(Label, Flags) ->
     Began = seq_trace:get_token() =:= [],

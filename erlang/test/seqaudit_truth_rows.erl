@@ -36,5 +36,6 @@ how("no_receive") -> #{flags => ?ALL -- ['receive'], late => false};
 how("no_print") -> #{flags => ?ALL -- [print], late => false};
 how("late") -> #{flags => ?ALL, late => true};
 how("handed_over") -> (how("all"))#{tokens => handed_over};
+how("published") -> (how("all"))#{tokens => published};
 how("none_put_back") -> (how("all"))#{tokens => none};
 how("none_put_back_" ++ Row) -> (how(Row))#{tokens => none}.

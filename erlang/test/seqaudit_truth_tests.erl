@@ -49,15 +49,16 @@ why_is_true(Names) ->
         end
     end).
 
-%% Half of them with all flags, the others with one off or a tracer that comes on late; half of them
-%% on two nodes.
+%% Half of them with all flags, the others with one off, a tracer that comes on late or one message
+%% to two aliases; half of them on two nodes.
 how(Seed, Nodes) ->
     Some = case Seed rem 4 of
                0 -> Nodes;
                1 -> Nodes;
                _ -> [hd(Nodes)]
            end,
-    Rows = lists:duplicate(6, "all") ++ ["no_send", "no_receive", "no_print", "late"],
+    Rows = lists:duplicate(5, "all")
+        ++ ["published", "no_send", "no_receive", "no_print", "late"],
     (seqaudit_truth_rows:how(lists:nth(1 + Seed rem 10, Rows)))#{nodes => Some}.
 
 %% The files of the last ones stay.
