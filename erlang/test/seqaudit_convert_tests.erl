@@ -3,7 +3,7 @@
 
 -export([captures_test_/0, equal_terms_test/0, numbers_test/0, parties_test/0, aliases_test/0,
          reset_aliases_test/0, ambiguous_aliases_test/0, spawned_there_test/0,
-         repeated_names_test/0, callers_test/0,
+         refused_there_test/0, repeated_names_test/0, callers_test/0,
          spawned_test/0, counts_test/0, many_processes_test_/0, lost_test/0, hostile_test_/0,
          hostile_trace_test_/0, hostile_process_test_/0, text_test/0, text_faults_test/0,
          external_test/0, trace_file_test/0, damaged_event_test/0]).
@@ -146,6 +146,24 @@ spawned_there_test() ->
     ["<1.90.0>", Unknown, "<1.91.0>", Unknown, "<0.80.0>", "<0.80.0>"] =
         receivers(send, convert(Spawn(1, A, [1]) ++ Spawn(1, B, [1]))),
     false = lists:member(Unknown, ["<1.90.0>", "<1.91.0>"]).
+
+%% A node that refuses the requests of several processes with the same counts gives each its reply,
+%% which has the tag of that request.
+refused_there_test() ->
+    Refused = fun(Parent, Tag) ->
+                      R = make_ref(),
+                      [{seq_trace, 1, {send, {1, 2}, 'b@h', Parent, {spawn_reply, R, error, no}}},
+                       {seq_trace, 1, {'receive', {1, 2}, 'b@h', Parent, {Tag, R, error, no}}}]
+              end,
+    #{seqtrace := Text} = convert(lists:append([Refused(pid('a@h', N, 0), {tag, N})
+                                                || N <- [80, 81, 82]])),
+    Replies = fun(Kind) ->
+                      {match, Found} = re:run(Text, [Kind, ",.*,(<.*>),([0-9]+)}}"],
+                                              [global, {capture, all_but_first, list}]),
+                      lists:sort(Found)
+              end,
+    [["<0.80.0>", _], ["<0.81.0>", _], ["<0.82.0>", _]] = Replies("send"),
+    true = Replies("send") =:= Replies("'receive'").
 
 %% The receivers of the sends, or of other events, in the order of the bundle.
 receivers(Kind, #{seqtrace := Text}) ->

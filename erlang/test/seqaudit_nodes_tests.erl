@@ -21,8 +21,8 @@ node_goes_down_test_() ->
         end)
     end}.
 
-%% The reply of a process that is spawned there has the tag that the request asks for; another
-%% request is refused.
+%% The reply of a process that is spawned there has the tag that the request asks for, and so has
+%% the reply to one of two requests that are refused.
 spawned_there_test_() ->
     {timeout, 60, fun() ->
         seqaudit_test_nodes:with_second("spawned there", fun(There) ->
@@ -32,18 +32,22 @@ spawned_there_test_() ->
                 Tagged = spawn_request(There, seq_trace, print, [born], [{reply_tag, tag}]),
                 receive {tag, Tagged, ok, _} -> seq_trace:print(spawned) end,
                 Refused = spawn_request(There, erlang, self, [], [nonsense]),
-                receive {spawn_reply, Refused, error, badopt} -> seq_trace:print(refused) end
+                receive {spawn_reply, Refused, error, badopt} -> seq_trace:print(refused) end,
+                Both = spawn_request(There, erlang, self, [], [nonsense, {reply_tag, {no, 1}}]),
+                receive {{no, 1}, Both, error, badopt} -> seq_trace:print(refused) end
             end),
             {ok, #{events := Events}} = seqaudit_trace:stop(),
-            {Events, 14} = {14, Events},
-            Received = [maps:get(value, Event) || #{kind := <<"'receive'">>} = Event <-
-                                                      seqaudit_test_traces:events(Name)],
-            Tags = [Tag || Value <- Received,
-                           {match, [Tag]} <- [re:run(maps:get({value, Value},
-                                                              seqaudit_test_traces:terms(Name)),
-                                                     "^\\{(tag|spawn_reply),",
-                                                     [{capture, [1], list}])]],
-            ["spawn_reply", "tag"] = lists:sort(Tags),
+            {Events, 20} = {20, Events},
+            Terms = seqaudit_test_traces:terms(Name),
+            Replies = fun(Kind) ->
+                [Tag || #{kind := Of, value := Value} <- seqaudit_test_traces:events(Name),
+                        Of =:= Kind,
+                        {match, [Tag]} <- [re:run(maps:get({value, Value}, Terms),
+                                                  "^{(.*),#Ref<[0-9.]*>,(?:ok|error),",
+                                                  [{capture, [1], list}])]]
+            end,
+            ["spawn_reply", "tag", "{no,1}"] = lists:sort(Replies(<<"'receive'">>)),
+            ["spawn_reply", "tag", "{no,1}"] = lists:sort(Replies(<<"send">>)),
             seqaudit_audits:fits(Name)
         end)
     end}.

@@ -141,7 +141,7 @@ parts(#build{actors = Actors, others = Others} = Whole) ->
     Spawns = seqaudit_spawns:read(Build#build.values),
     Senders = seqaudit_spawns:senders(element(1, Listed)),
     Births = seqaudit_spawns:births(Untagged, Senders, Spawns),
-    Packed = seqaudit_spawns:with_tags(Untagged, Births, Spawns, Build#build.values),
+    Packed = seqaudit_spawns:with_tags(Untagged, Senders, Spawns, Build#build.values),
     {Streams, Nameless, Placed} = streams(Packed, Spelled, Births),
     Wrapped = seqaudit_spawns:has_wrapped(Packed, Spawns),
     Sorted = lists:sort([{Number, Party} || {Party, Number} <- maps:to_list(Numbers)]),

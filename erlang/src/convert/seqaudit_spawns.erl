@@ -6,8 +6,8 @@
 %%
 %% The reply is an answer if its receiver spawned by `spawn' and its kin, which wait for it: its
 %% next event is the receive of the reply, and it keeps its token. The reply to `spawn_request', and
-%% that of another node, is an ordinary message. Another node doesn't know the tag which the reply
-%% shall have (`reply_tag'), and reports the send of a `spawn_reply'.
+%% that of another node, is an ordinary message. Another node, whether it spawns or refuses to,
+%% doesn't know the tag that the request asks for (`reply_tag'), and reports a `spawn_reply'.
 -module(seqaudit_spawns).
 
 -include("seqaudit_packed.hrl").
@@ -23,6 +23,7 @@
 -define(REMOTE_REQUEST, 3).
 -define(REPLY, 4).
 -define(REMOTE_REPLY, 5).
+-define(REFUSAL, 6).
 -define(KINDS, 8).
 -define(AT_ONCE, 1_000).
 %% An answer moves the counter to 16 T + 15. From this T on that is more than the 59 bits which a
@@ -74,6 +75,7 @@ message(<<104, 4, 100, 11:16, "spawn_reply", _/binary>> = Term) ->
         [{reference, Here, _}, {atom, <<"ok">>}, {process, There, _, _}] when Here =/= There ->
             sent_by(Child, ?REMOTE_REPLY);
         [_, {atom, <<"ok">>}, _] -> sent_by(Child, ?REPLY);
+        [_, {atom, <<"error">>}, _] -> ?REFUSAL;
         _ -> ?OTHER_MESSAGE
     end;
 message(_) ->
@@ -105,11 +107,14 @@ there(_) ->
 senders(Actors) ->
     << <<(erlang:phash2(Actor)):32>> || Actor <- Actors >>.
 
-%% Returns the kind of an event's message. One that another process sends on is no spawn.
+%% Returns the kind of an event's message. One that another process sends on is no spawn; a node
+%% refuses in its own name.
 kind(From, Value, Senders, Spawns) ->
     case atomics:get(Spawns, Value + 1) of
         ?OTHER_MESSAGE ->
             ?OTHER_MESSAGE;
+        ?REFUSAL when From >= ?OTHER ->
+            ?REFUSAL;
         Spawn when From < ?OTHER ->
             Hash = Spawn div ?KINDS,
             case binary:part(Senders, 4 * From, 4) of
@@ -168,34 +173,28 @@ first(Birth, Places) ->
     end.
 
 %% @doc The records with the replies of other nodes as they were received, with their tags.
--spec with_tags(seqaudit_build:packed(), births(), spawns(), seqaudit_numbers:table()) ->
+-spec with_tags(seqaudit_build:packed(), senders(), spawns(), seqaudit_numbers:table()) ->
           seqaudit_build:packed().
-with_tags(Packed, Births, Spawns, Values) ->
-    Sent = maps:from_list([{Key, Value}
-                           || #{reply := Place} <- maps:values(Births),
-                              <<?WITH_VALUE(?SEND, Key, Value, _)>>
-                                  <- [binary:part(Packed, Place * ?PACKED_SIZE, ?PACKED_SIZE)],
-                              atomics:get(Spawns, Value + 1) rem ?KINDS =:= ?REMOTE_REPLY]),
-    case tags(Packed, Sent, Values, #{}) of
-        Tags when map_size(Tags) =:= 0 -> Packed;
-        Tags -> << <<?WITH_VALUE(Kind, Key, (maps:get(Value, Tags, Value)), Rest)>>
-                   || <<?WITH_VALUE(Kind, Key, Value, Rest)>> <= Packed >>
+with_tags(Packed, Senders, Spawns, Values) ->
+    Sent = maps:groups_from_list(fun({Key, _}) -> Key end, fun({_, Value}) -> Value end,
+                                 sent_there(Packed, Senders, Spawns)),
+    Tags = maps:from_list([{Reply, Value}
+                           || map_size(Sent) > 0,
+                              <<?WITH_VALUE(?RECEIVE, Key, Value, _)>> <= Packed,
+                              Reply <- maps:get(Key, Sent, []), Reply =/= Value,
+                              without_tag(Reply, Values) =:= without_tag(Value, Values)]),
+    case map_size(Tags) of
+        0 -> Packed;
+        _ -> << <<?WITH_VALUE(Kind, Key, (maps:get(Value, Tags, Value)), Rest)>>
+                || <<?WITH_VALUE(Kind, Key, Value, Rest)>> <= Packed >>
     end.
 
-%% The reply as it was received, by the reply that was sent: they differ in the tag alone.
-tags(_Packed, Sent, _Values, Tags) when map_size(Sent) =:= map_size(Tags) ->
-    Tags;
-tags(<<?WITH_VALUE(Kind, Key, Value, _), Rest/binary>>, Sent, Values, Tags) ->
-    case Sent of
-        #{Key := Reply} when Kind =:= ?RECEIVE, Reply =/= Value ->
-            case [without_tag(Number, Values) || Number <- [Reply, Value]] of
-                [Same, Same] -> tags(Rest, Sent, Values, Tags#{Reply => Value});
-                _ -> tags(Rest, Sent, Values, Tags)
-            end;
-        _ -> tags(Rest, Sent, Values, Tags)
-    end;
-tags(<<>>, _Sent, _Values, Tags) ->
-    Tags.
+%% The replies that another node sent, by what they have in common with their receives. A node may
+%% refuse two processes with the same counts.
+sent_there(Packed, Senders, Spawns) ->
+    [{Key, Value} || <<?WITH_VALUE(?SEND, Key, Value, _)>> <= Packed,
+                     <<From:32, _/binary>> <- [Key],
+                     lists:member(kind(From, Value, Senders, Spawns), [?REMOTE_REPLY, ?REFUSAL])].
 
 without_tag(Number, Values) ->
     [Term] = seqaudit_numbers:part(Number, 1, Values),
