@@ -53,7 +53,7 @@
                 folder :: file:filename(),
                 bytes :: pos_integer(),
                 grace :: non_neg_integer(),
-                trigger :: seqaudit_trigger:trigger() | none | {pulled, seqaudit_trigger:pulled()},
+                trigger = none :: seqaudit_trigger:pulled() | none,
                 former :: tracer(),
                 by :: {port, port()} | {scribe, seqaudit_scribe:scribe()} | closed,
                 watch = none :: none | seqaudit_watch:watch(),
@@ -83,6 +83,7 @@ start(Options) ->
     case gen_server:start({local, ?MODULE}, ?MODULE, Options,
                           [{spawn_opt, [{message_queue_data, off_heap}]}]) of
         {error, {already_started, Other}} -> start_beside(Other, Options);
+        {error, {shutdown, Reason}} -> {error, Reason};
         Started -> Started
     end.
 
@@ -92,7 +93,6 @@ start_beside(Other, Options) ->
     catch exit:{noproc, _} -> start(Options)
     end.
 
-%% @doc The folder to which the events go.
 -spec folder(pid()) -> file:filename().
 folder(Collector) ->
     gen_server:call(Collector, folder).
@@ -137,7 +137,6 @@ init(#{owner := Owner} = Options) ->
                            folder = Folder,
                            bytes = maps:get(bytes, Options, ?BYTES),
                            grace = maps:get(grace, Options, ?GRACE_MS),
-                           trigger = maps:get(trigger, Options, none),
                            former = seq_trace:get_system_tracer(), by = closed},
             begin_tracing(State, Options);
         {error, Reason} ->
@@ -152,7 +151,7 @@ begin_tracing(#state{folder = Folder} = State, Options) ->
         _ = seq_trace:set_system_tracer(own_tracer(By)),
         Opened = State#state{by = By, watch = watch(By, State),
                              asker = seqaudit_asker:start(Folder)},
-        case pull_trigger(State#state.trigger) of
+        case seqaudit_trigger:pull(maps:get(trigger, Options, none)) of
             {ok, Trigger} ->
                 erlang:send_after(?TICK_MS, self(), tick),
                 {ok, Opened#state{trigger = Trigger}, {continue, names}};
@@ -206,21 +205,13 @@ own_tracer({scribe, _}) -> self().
 watch({port, Port}, #state{folder = Folder}) -> seqaudit_watch:start(Port, Folder);
 watch({scribe, _}, _State) -> none.
 
-pull_trigger(none) ->
-    {ok, none};
-pull_trigger(Trigger) ->
-    case seqaudit_trigger:pull(Trigger) of
-        {ok, Pulled} -> {ok, {pulled, Pulled}};
-        {error, Reason} -> {error, Reason}
-    end.
-
 %% Tokens that the trigger set would stay with their processes; if nobody else traces, all are
 %% taken off.
-release_trigger(#state{trigger = {pulled, Pulled}, former = Former}) ->
+release_trigger(#state{trigger = none}) ->
+    ok;
+release_trigger(#state{trigger = Pulled, former = Former}) ->
     ok = seqaudit_trigger:release(Pulled),
     _ = Former =:= false andalso seq_trace:reset_trace(),
-    ok;
-release_trigger(_State) ->
     ok.
 
 %% @private
@@ -281,9 +272,9 @@ handle_info(timeout, #state{asked = From} = State) when From =/= undefined ->
     Closed = close(State),
     gen_server:reply(From, ok),
     {stop, normal, Closed#state{asked = undefined}};
-handle_info(tick, State) ->
+handle_info(tick, #state{trigger = Trigger} = State) ->
     erlang:send_after(?TICK_MS, self(), tick),
-    go_on(tick(count_calls(State)));
+    go_on(tick(State#state{trigger = seqaudit_trigger:tick(Trigger)}));
 handle_info({'DOWN', Owner, process, _, noconnection}, #state{owner = Owner} = State) ->
     go_on(State#state{lost = erlang:start_timer(State#state.grace, self(), owner)});
 handle_info({timeout, Lost, owner}, #state{lost = Lost} = State) ->
@@ -379,11 +370,6 @@ look_at_queue(#state{tracer = on, by = {scribe, Scribe}} = State) ->
 look_at_queue(State) ->
     State.
 
-count_calls(#state{trigger = {pulled, Pulled}} = State) ->
-    State#state{trigger = {pulled, seqaudit_trigger:tick(Pulled)}};
-count_calls(State) ->
-    State.
-
 %% Has the port write what it holds, so that a node that is killed leaves it on the disk.
 tick(#state{by = {port, Port}} = State) ->
     try erlang:port_control(Port, $f, "") of
@@ -412,13 +398,10 @@ look(#state{look = {File, Offset}, folder = Folder} = State) ->
                         _ -> {[], 0}
                     end,
     Next = (File + 1) rem (?FILES + 1),
-    Place = case Used =:= 0 orelse Used > ?LOOK_BYTES div 2 of
-                true ->
-                    case file:read_file_info(Name(Next), [raw]) of
-                        {ok, _} -> {Next, 0};
-                        {error, _} -> {File, Offset + Used}
-                    end;
-                false -> {File, Offset + Used}
+    MayBeAtEnd = Used =:= 0 orelse Used > ?LOOK_BYTES div 2,
+    Place = case MayBeAtEnd andalso file:read_file_info(Name(Next), [raw]) of
+                {ok, _} -> {Next, 0};
+                _ -> {File, Offset + Used}
             end,
     meet_all(Infos, State#state{look = Place}).
 

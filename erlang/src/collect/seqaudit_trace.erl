@@ -208,7 +208,6 @@ with_trace(Label, Flags, Fun) when is_list(Flags), is_function(Fun, 0) ->
         _ = seq_trace:set_token([])
     end.
 
-%% @doc A reason of `start' or `stop' in words, with what to do about it.
 -spec format_error(term()) -> string().
 format_error({already_started, _}) ->
     "a trace is already being collected here; end it first: seqaudit_trace:stop()";
@@ -300,12 +299,11 @@ handle_call(stop, _From, State0) ->
         {error, Reason} ->
             {reply, {error, Reason}, State}
     end;
-handle_call({rotate, Name}, From, #state{turning = no} = State) ->
+handle_call({rotate, Name}, From, State0) ->
+    State = awaited(State0),
     Self = self(),
     {Worker, Monitor} = spawn_monitor(fun() -> Self ! {turned, self(), rotated(Name, State)} end),
     {noreply, State#state{turning = {Worker, Monitor, From}}};
-handle_call({rotate, Name}, From, State) ->
-    handle_call({rotate, Name}, From, awaited(State));
 handle_call(cancel, _From, State0) ->
     #state{nodes = Nodes} = State = stopped(given_up(State0)),
     lists:foreach(fun remove/1, Nodes),
@@ -407,15 +405,12 @@ start_all([Node | Nodes], Options, Started) ->
             On = #node{node = Node, collector = Pid, monitor = monitor(process, Pid),
                        folder = seqaudit_collector:folder(Pid)},
             start_all(Nodes, Options, [On | Started]);
-        {error, {shutdown, Reason}} -> failed(Node, Reason, Started);
-        {error, Reason} -> failed(Node, Reason, Started)
+        {error, Reason} ->
+            %% Nothing was asked of the nodes that are on, so what they have is removed.
+            _ = seqaudit_collector:stop_all([Collector || #node{collector = Collector} <- Started]),
+            lists:foreach(fun remove/1, Started),
+            {error, {node, Node, Reason}}
     end.
-
-%% Nothing was asked of the nodes that are on, so what they have is removed.
-failed(Node, Reason, Started) ->
-    _ = seqaudit_collector:stop_all([Collector || #node{collector = Collector} <- Started]),
-    lists:foreach(fun remove/1, Started),
-    {error, {node, Node, Reason}}.
 
 start_on(Node, Options) when Node =:= node() ->
     seqaudit_collector:start(Options);
@@ -442,20 +437,23 @@ stopped(#state{nodes = Nodes0} = State) ->
                      end;
                  _ -> Node
              end || Node <- Nodes0],
-    On = [Node || #node{is = on} = Node <- Nodes],
-    Ends = lists:zip([Node#node.node || Node <- On],
-                     seqaudit_collector:stop_all([Node#node.collector || Node <- On])),
-    State#state{nodes = [stopped_node(Node, lists:keyfind(Node#node.node, 1, Ends))
-                         || Node <- Nodes]}.
+    State#state{nodes = [stopped_node(Node, Reply)
+                         || {Node, Reply} <- replies(fun seqaudit_collector:stop_all/1, Nodes)]}.
 
-stopped_node(Node, {_, ok}) ->
+%% Asks the collectors that are led from here, and returns each node with the reply of its own.
+replies(Ask, Nodes) ->
+    Led = [Node || #node{is = on} = Node <- Nodes],
+    Replies = maps:from_list(lists:zip(Led, Ask([Node#node.collector || Node <- Led]))),
+    [{Node, maps:get(Node, Replies, none)} || Node <- Nodes].
+
+stopped_node(Node, ok) ->
     %% It has replied and goes now; once it has gone, the next one can start.
     _ = end_of(Node),
     Node#node{is = {gone, normal}};
-stopped_node(Node, {_, {error, {gone, noproc}}}) -> Node#node{is = {gone, end_of(Node)}};
-stopped_node(Node, {_, {error, {gone, Reason}}}) -> Node#node{is = {gone, Reason}};
-stopped_node(#node{is = {away, _}} = Node, false) -> Node#node{is = {gone, noconnection}};
-stopped_node(Node, false) -> Node.
+stopped_node(Node, {error, {gone, noproc}}) -> Node#node{is = {gone, end_of(Node)}};
+stopped_node(Node, {error, {gone, Reason}}) -> Node#node{is = {gone, Reason}};
+stopped_node(#node{is = {away, _}} = Node, none) -> Node#node{is = {gone, noconnection}};
+stopped_node(Node, none) -> Node.
 
 %% Why the collector ended. The message that says so may still be on its way.
 end_of(#node{monitor = Monitor}) ->
@@ -468,27 +466,24 @@ end_of(#node{monitor = Monitor}) ->
 
 %% Each collector goes on to other files; then what came before is fetched and removed where it was.
 rotated(Name, #state{nodes = Nodes, options = Options}) ->
-    On = [Node || #node{is = on} = Node <- Nodes],
-    Replies = lists:zip([Node#node.node || Node <- On],
-                        seqaudit_collector:rotate_all([Node#node.collector || Node <- On])),
-    [{Node#node.node, rotated(lists:keyfind(Node#node.node, 1, Replies), Node,
-                              Name ++ "." ++ integer_to_list(Number), Options)}
-     || {Number, Node} <- lists:enumerate(Nodes)].
+    [{Node#node.node, rotated(Reply, Node, Name ++ "." ++ integer_to_list(Number), Options)}
+     || {Number, {Node, Reply}} <- lists:enumerate(replies(fun seqaudit_collector:rotate_all/1,
+                                                           Nodes))].
 
-rotated({_, {ok, Folder}}, Node, File, _Options) ->
+rotated({ok, Folder}, Node, File, _Options) ->
     {{on, Folder}, fetched(Node#node{is = {gone, normal}}, File)};
-rotated({_, {error, ended}}, #node{collector = Collector} = Node, File, Options) ->
+rotated({error, ended}, #node{collector = Collector} = Node, File, Options) ->
     _ = seqaudit_collector:stop_all([Collector]),
     begun_again(Node#node{is = {gone, normal}}, File, Options);
-rotated({_, {error, {gone, noconnection}}}, _Node, _File, _Options) ->
+rotated({error, {gone, noconnection}}, _Node, _File, _Options) ->
     {same, {error, unreachable}};
-rotated({_, {error, {gone, Reason}}}, Node, File, Options) ->
+rotated({error, {gone, Reason}}, Node, File, Options) ->
     begun_again(Node#node{is = {gone, Reason}}, File, Options);
-rotated({_, {error, Reason}}, _Node, _File, _Options) ->
+rotated({error, Reason}, _Node, _File, _Options) ->
     {same, {error, Reason}};
-rotated(false, #node{is = {gone, _}} = Node, File, Options) ->
+rotated(none, #node{is = {gone, _}} = Node, File, Options) ->
     begun_again(Node, File, Options);
-rotated(false, _Node, _File, _Options) ->
+rotated(none, _Node, _File, _Options) ->
     {same, {error, unreachable}}.
 
 %% Somebody else's tracer isn't replaced, nor are tokens taken off a second time.
@@ -500,20 +495,17 @@ begun_again(#node{node = Name} = Node, File, Options) ->
               catch
                   error:{erpc, _} -> {error, unreachable}
               end,
-    case Started of
-        {ok, Collector} ->
+    case {Started, Written} of
+        {{ok, Collector}, _} ->
             {{again, Collector, seqaudit_collector:folder(Collector)},
              case Written of
                  {ok, Events} -> {again, Events};
                  {error, nothing} -> {again, none};
                  {error, Reason} -> {error, Reason}
              end};
-        {error, {shutdown, Reason}} -> not_again(Reason, Written);
-        {error, Reason} -> not_again(Reason, Written)
+        {{error, Reason}, {ok, Events}} -> {gone, {gone, Events, Reason}};
+        {{error, Reason}, {error, _}} -> {gone, {error, Reason}}
     end.
-
-not_again(Reason, {ok, File}) -> {gone, {gone, File, Reason}};
-not_again(Reason, {error, _}) -> {gone, {error, Reason}}.
 
 fetched(#node{folder = none}, _File) ->
     {error, nothing};

@@ -73,7 +73,9 @@ functions(#{function := Function}) -> [{Function, [{'_', []}]}];
 functions(_) -> [].
 
 %% @doc From now on calls set the token.
--spec pull(trigger()) -> {ok, pulled()} | {error, {trigger, term()}}.
+-spec pull(trigger() | none) -> {ok, pulled() | none} | {error, {trigger, term()}}.
+pull(none) ->
+    {ok, none};
 pull(Trigger) ->
     Calls = maps:get(calls, Trigger, infinity),
     Counts = Calls =/= infinity orelse maps:get(numbered, Trigger, false),
@@ -201,12 +203,11 @@ owner(Tracer) when is_pid(Tracer), node(Tracer) =:= node() ->
 owner(Tracer) ->
     {lists:flatten(io_lib:format("~0tp", [Tracer])), none}.
 
-word_in_use(false) -> [];
-word_in_use(true) ->
-    [{word_in_use, Word} || Word <- [erlang:system_info(trace_control_word)], Word =/= 0].
+word_in_use(Counts) ->
+    [{word_in_use, Word} || Counts, Word <- [erlang:system_info(trace_control_word)], Word =/= 0].
 
 %% @doc To be called a few times a second: a new second allows new calls.
--spec tick(pulled()) -> pulled().
+-spec tick(Pulled) -> Pulled when Pulled :: pulled() | none.
 tick(#pulled{calls = {_, second}, since = Since} = Pulled) ->
     Now = erlang:monotonic_time(millisecond),
     case Now - Since >= ?SECOND_MS of
@@ -238,7 +239,6 @@ take_off(#pulled{functions = Functions, tracer = Tracer, session = Session}) ->
     unlink(Tracer),
     exit(Tracer, kill).
 
-%% @doc Why calls set no token on this node, in words, with what to do about it.
 -spec format_error(node(), term()) -> string().
 format_error(Node, {no_function, {Module, Function, Arity}}) ->
     text("node ~ts has no function ~ts:~ts/~b; is its module loaded there, and is it spelled so?",
