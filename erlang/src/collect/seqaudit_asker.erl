@@ -16,12 +16,10 @@
 
 -type known() :: #{pid() => seqaudit_spool:about()}.
 
-%% @doc Begins to note names in this folder.
 -spec start(file:filename()) -> asker().
 start(Folder) ->
     spawn_link(fun() -> ask_on(Folder, #{}, #{}) end).
 
-%% @doc Asks what these processes are called.
 -spec meet([pid()], asker()) -> ok.
 meet([], _Asker) ->
     ok;

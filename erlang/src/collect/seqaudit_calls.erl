@@ -22,8 +22,6 @@ function(Word) ->
         Failed -> Failed
     end.
 
-are_atoms(Names) -> lists:all(fun(Name) -> length(Name) =< ?LONGEST end, Names).
-
 no_function(Word) ->
     {error, text("~ts isn't a function; it is written module:function/2, or with a condition "
                  "module:function(A, B) when A > B", [Word])}.
@@ -66,7 +64,8 @@ labelled(Word, Label) ->
                    none -> captured(Word, "^([^:(]+):([^:(]+)(\\(.*)$");
                    [Module, Function, Digits] -> [Module, Function, list_to_integer(Digits)]
                end,
-    case Captured =/= none andalso are_atoms(lists:droplast(Captured)) of
+    IsAtom = fun(Name) -> length(Name) =< ?LONGEST end,
+    case Captured =/= none andalso lists:all(IsAtom, lists:droplast(Captured)) of
         true ->
             [Name, Called, Arguments] = Captured,
             clauses({list_to_atom(Name), list_to_atom(Called), Arguments}, Label, Word);

@@ -38,7 +38,11 @@ from(Node, Release) ->
     end.
 
 load(From, Node, Module) ->
-    {Binary, File} = code(From, Node, Module),
+    {Module, Own, File} = code:get_object_code(Module),
+    Binary = case From of
+                 compiled -> compiled(Node, Module, Own);
+                 _ -> Own
+             end,
     There = try erpc:call(Node, Module, module_info, [md5], ?REMOTE_MS)
             catch error:{exception, undef, _} -> none
             end,
@@ -56,25 +60,17 @@ load(From, Node, Module, File, Binary) ->
         {error, Reason} -> throw({load, Module, Reason})
     end.
 
-code(compiled, Node, Module) ->
-    {_, File} = beam(Module),
-    case erpc:call(Node, compile, noenv_forms, [forms(Module), [binary, return_errors]],
+compiled(Node, Module, Own) ->
+    case erpc:call(Node, compile, noenv_forms, [forms(Module, Own), [binary, return_errors]],
                    ?REMOTE_MS) of
-        {ok, Module, Binary} -> {Binary, File};
-        {ok, Module, Binary, _Warnings} -> {Binary, File};
+        {ok, Module, Binary} -> Binary;
+        {ok, Module, Binary, _Warnings} -> Binary;
         {error, Reason, _} -> throw({load, Module, Reason});
         error -> throw({load, Module, compile})
-    end;
-code(_, _Node, Module) ->
-    beam(Module).
+    end.
 
-beam(Module) ->
-    {Module, Binary, File} = code:get_object_code(Module),
-    {Binary, File}.
-
-forms(Module) ->
-    {Binary, _} = beam(Module),
-    case beam_lib:chunks(Binary, [abstract_code]) of
+forms(Module, Own) ->
+    case beam_lib:chunks(Own, [abstract_code]) of
         {ok, {Module, [{abstract_code, {raw_abstract_v1, Forms}}]}} -> Forms;
         _ -> throw({no_forms, Module})
     end.

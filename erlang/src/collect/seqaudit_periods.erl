@@ -100,15 +100,11 @@ audited(#state{name = Name, number = Number, rest = Rest}) ->
             {error, seqaudit_events:format_error(Reason)}
     end.
 
-file({ok, File}) -> [File];
+file({error, _}) -> [];
 file({again, none}) -> [];
-file({again, File}) -> [File];
-file({gone, File, _}) -> [File];
-file({error, _}) -> [].
+file(Written) -> [element(2, Written)].
 
-has_ended({again, _}) -> true;
-has_ended({gone, _, _}) -> true;
-has_ended(_) -> false.
+has_ended(Written) -> lists:member(element(1, Written), [again, gone]).
 
 became({_, {ok, _}}) -> "";
 became({Node, {again, _}}) -> [", ", atom_to_list(Node), " had stopped collecting and began again"];
@@ -123,10 +119,7 @@ why(Node, Reason) -> seqaudit_trace:format_error({node, Node, Reason}).
 
 %% Puts what was left of the last period first, in its node's file.
 joined(Files, Period) ->
-    ByNode = lists:foldl(fun(File, Known) ->
-                                 maps:update_with(number(File), fun(Others) -> Others
-                                                  ++ [File] end, [File], Known)
-                         end, #{}, Files),
+    ByNode = maps:groups_from_list(fun number/1, Files),
     join(lists:sort(maps:to_list(ByNode)), Period, []).
 
 %% Files are called NAME.PERIOD.NODE.events, and what is left of one NAME.PERIOD.NODE.rest.events.

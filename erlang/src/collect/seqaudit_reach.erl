@@ -46,8 +46,8 @@ begin_node(Kind, Cookie) ->
     _ = [application:ensure_all_started(ssl)
          || {ok, Carriers} <- [init:get_argument(proto_dist)],
             [Carrier] <- Carriers, string:find(Carrier, "tls") =/= nomatch],
-    case is_alive()
-        orelse silently(fun() -> net_kernel:start(own_name(Kind), own_options(Kind)) end) of
+    Own = #{name_domain => Kind, dist_listen => false, hidden => true},
+    case is_alive() orelse silently(fun() -> net_kernel:start(own_name(Kind), Own) end) of
         {error, Reason} ->
             {error, {distribution, Reason}};
         _ ->
@@ -65,13 +65,8 @@ silently(Do) ->
 
 %% In containers many commands have the same number, so that alone would be no name.
 own_name(Kind) ->
-    <<Random:32>> =
-        binary:part(erlang:md5(term_to_binary({make_ref(), os:system_time(), os:getpid()})), 0, 4),
-    Name = text("seqaudit_~ts_~8.16.0b", [os:getpid(), Random]),
+    Name = text("seqaudit_~ts_~8.16.0b", [os:getpid(), rand:uniform(16#FFFF_FFFF)]),
     list_to_atom(Name ++ case Kind of longnames -> ?HOST; shortnames -> "" end).
-
-own_options(Kind) ->
-    #{name_domain => Kind, dist_listen => false, hidden => true}.
 
 %% Words of a command line are seen by all users of the machine; a file and a variable aren't.
 cookie(#{"--cookie" := [Cookie | _]}) ->
@@ -133,7 +128,6 @@ host_says(_Name, Host, {error, address}) ->
 host_says(_Name, Host, {error, Reason}) ->
     text("~ts: ~ts; is its name spelled so?", [Host, inet:format_error(Reason)]).
 
-%% @doc A reason of {@link connect/2} in words, with what to do about it.
 -spec format_error({cookie | distribution, term()}) -> string().
 format_error({cookie, none}) ->
     "there is no cookie; put it into a file (--cookie-file FILE, or ~/.erlang.cookie) or into the "

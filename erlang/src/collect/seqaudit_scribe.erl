@@ -66,7 +66,6 @@ drop(#scribe{writer = Writer}) ->
     Writer ! drop,
     ok.
 
-%% @doc Gives so many bytes to be written.
 -spec write(iodata(), non_neg_integer(), scribe()) -> scribe().
 write(Entries, Size, #scribe{writer = Writer, given = Given} = Scribe) ->
     Writer ! {write, Entries, Size},

@@ -34,20 +34,17 @@ create(default) ->
 create(Parent) ->
     Random = [io_lib:format("~2.16.0b", [Byte]) || <<Byte>> <= crypto_bytes()],
     Folder = filename:absname(filename:join(Parent, lists:flatten(["seqaudit_", Random]))),
-    case file:make_dir(Folder) of
-        ok ->
-            case file:change_mode(Folder, 8#700) of
-                ok -> {ok, Folder};
-                {error, Reason} -> {error, {file, Folder, Reason}}
-            end;
-        {error, Reason} ->
-            {error, {file, Folder, Reason}}
+    try
+        ok = file:make_dir(Folder),
+        ok = file:change_mode(Folder, 8#700),
+        {ok, Folder}
+    catch
+        error:{badmatch, {error, Reason}} -> {error, {file, Folder, Reason}}
     end.
 
 %% A node may lack the application crypto.
 crypto_bytes() ->
-    State = rand:seed_s(exsss),
-    {Bytes, _} = rand:bytes_s(8, State),
+    {Bytes, _} = rand:bytes_s(8, rand:seed_s(exsss)),
     erlang:md5([Bytes, term_to_binary({node(), self(), make_ref(), os:system_time(),
                                        os:getpid()})]).
 
@@ -62,7 +59,6 @@ base(Folder) ->
 note(Folder, Facts) ->
     file:write_file(filename:join(Folder, ?FACTS), entry(Facts), [append, raw]).
 
-%% @doc Facts as they are in a file.
 -spec entry(facts()) -> iolist().
 entry(Facts) ->
     Term = term_to_binary(Facts),
@@ -94,10 +90,9 @@ number(_) ->
 
 from_oldest(Numbers) ->
     {Newer, Older} = lists:splitwith(fun({Place, Number}) -> Place =:= Number end,
-                                     lists:zip(lists:seq(0, length(Numbers) - 1), Numbers)),
+                                     lists:enumerate(0, Numbers)),
     [Number || {_, Number} <- Older ++ Newer].
 
-%% @doc A piece of a file of the folder.
 -spec read(file:filename(), non_neg_integer(), pos_integer()) ->
           {ok, binary()} | eof | {error, term()}.
 read(File, Offset, Size) ->
@@ -127,13 +122,10 @@ remove(Folder) ->
 about(Pid) ->
     case process_info(Pid, [registered_name, initial_call]) of
         [{registered_name, Name}, {initial_call, Call}] ->
-            maps:merge(named(Name), called(Call, Pid));
+            maps:merge(maps:from_list([{name, Name} || Name =/= []]), called(Call, Pid));
         undefined ->
             #{}
     end.
-
-named([]) -> #{};
-named(Name) -> #{name => Name}.
 
 called({proc_lib, init_p, _}, Pid) ->
     case process_info(Pid, dictionary) of

@@ -67,7 +67,6 @@ output(Port, Output) ->
         {Port, {exit_status, Status}} -> {Status, iolist_to_binary(lists:reverse(Output))}
     end.
 
-%% @doc A reason of this module in words, with what to do about it.
 -spec format_error(reason()) -> string().
 format_error({no_program, Files}) ->
     text("there is no ~ts at ~ts, nor on the path; `make rust' builds it in the repository, and "
