@@ -8,7 +8,6 @@
 text(Format, Values) ->
     lists:flatten(io_lib:format(Format, Values)).
 
-%% @doc Says how many of a thing there are.
 -spec count(non_neg_integer(), string()) -> string().
 count(1, Thing) -> "1 " ++ Thing;
 count(N, "process") -> number(N) ++ " processes";
@@ -20,7 +19,6 @@ count(N, Thing) -> number(N) ++ " " ++ Thing ++ "s".
 number(N) when N < 1000 -> integer_to_list(N);
 number(N) -> number(N div 1000) ++ text(",~3..0b", [N rem 1000]).
 
-%% @doc A file can't be written.
 -spec unwritten(file:filename(), term()) -> string().
 unwritten(File, Reason) ->
     text("~ts can't be written: ~ts", [File, file:format_error(Reason)]).

@@ -3,7 +3,6 @@
 
 -export([all/0, version/0, usage/1, of_command/1]).
 
-%% @doc The commands, a line each.
 -spec all() -> string().
 all() ->
     "usage: seqaudit-node COMMAND ..\n"
@@ -14,21 +13,18 @@ all() ->
     "`seqaudit-node COMMAND --help' has the options of each, and `seqaudit-node --version'\n"
     "says which version this is.\n" ++ statuses().
 
-%% @doc The version of the application.
 -spec version() -> string().
 version() ->
     _ = application:load(seqaudit),
     {ok, Version} = application:get_key(seqaudit, vsn),
     Version.
 
-%% @doc How a command is called.
 -spec usage(string()) -> string().
 usage(Command) ->
     {Usage, _} = text(Command),
     lists:append(["usage: seqaudit-node ", Usage, "\n`seqaudit-node ", Command,
                   " --help' has the options.\n"]).
 
-%% @doc The whole help of a command.
 -spec of_command(string()) -> string().
 of_command(Command) ->
     {Usage, About} = text(Command),

@@ -17,7 +17,6 @@
 %% The commands that this one had before `gemshowal'.
 -define(READING, ["audit", "chart", "why", "times"]).
 
-%% @doc Runs the command and halts with its status.
 -spec main([string()]) -> no_return().
 main(Words) ->
     %% Events that were collected are written even if nobody reads what is said of them.
@@ -38,7 +37,6 @@ main(Words) ->
     ok = seqaudit_output:flush(),
     halt(Status).
 
-%% @doc Runs the command, and returns its status.
 -spec run([string()]) -> ?DONE..?SYSTEM.
 run([Help | _]) when Help =:= "--help"; Help =:= "-h"; Help =:= "help" ->
     io:put_chars(seqaudit_help:all()),
@@ -125,8 +123,8 @@ is_given(Option, Options) -> lists:any(fun(Word) -> Word =/= "" end, maps:get(Op
 collect(Options) ->
     ok = needs("collect", [{"--node", " NAME@HOST"}, {"-o", " NAME"}], Options),
     Wait = case whole("--seconds", {1, ?MOST_SECONDS}, Options) of
-               none -> infinity;
-               Seconds -> 1_000 * Seconds
+               [] -> infinity;
+               [Seconds] -> 1_000 * Seconds
            end,
     traced(Options, fun(Start, Asked) -> collect(Start, Wait, Asked) end).
 
@@ -137,7 +135,10 @@ collect(Start, Wait, Asked) ->
     _ = seqaudit_signals:wait(Asked, Wait),
     Folders = seqaudit_trace:folders(),
     Stopped = seqaudit_trace:stop(),
-    Status = written(Stopped, fun(Reason) -> not_written(Reason, Folders) end),
+    Status = case Stopped of
+                 {ok, Summary} -> written(Summary);
+                 {error, Reason} -> failed(?SYSTEM, not_written(Reason, Folders))
+             end,
     io:put_chars(never_fitted(Stopped, Start)),
     Status.
 
@@ -145,9 +146,9 @@ watch(Options) ->
     ok = needs("watch", [{"--node", " NAME@HOST"}, {"--every", " SECONDS"}, {"-o", " NAME"}],
                Options),
     #{"-o" := [Name]} = Options,
-    Periods = maps:from_list([{name, Name}, {every, 1_000 * whole("--every", 1, Options)}]
-                             ++ [{keep, Keep} || Keep <- [whole("--keep", 1, Options)],
-                                                 Keep =/= none]),
+    [Every] = whole("--every", {1, infinity}, Options),
+    Periods = maps:from_list([{name, Name}, {every, 1_000 * Every}]
+                             ++ [{keep, Keep} || Keep <- whole("--keep", {1, infinity}, Options)]),
     traced(Options, fun(Start, Asked) -> watch(Start, Periods, Asked) end).
 
 watch(Start, Periods, Asked) ->
@@ -175,26 +176,23 @@ traced(Options, Do) ->
 start_options(#{"--node" := Nodes, "-o" := [Name]} = Options) ->
     maps:from_list([{name, Name}, {nodes, node_names(lists:reverse(Nodes))},
                     {reset, is_map_key("--reset", Options)}, {trigger, trigger(Options)}]
-                   ++ [{bytes, Bytes} || Bytes <- [whole("--bytes", seqaudit_trace:bytes(),
-                                                         Options)], Bytes =/= none]
+                   ++ [{bytes, Bytes} || Bytes <- whole("--bytes", seqaudit_trace:bytes(), Options)]
                    ++ [{folder, Folder} || #{"--folder" := [Folder | _]} <- [Options]]).
 
-%% Any integer is less than an atom.
+%% The number of an option, if it is given. Any integer is less than an atom.
 whole(Option, {Least, Most}, Options) ->
     case Options of
         #{Option := [Word | _]} ->
             case string:to_integer(Word) of
-                {Number, ""} when is_integer(Number), Number >= Least, Number =< Most -> Number;
+                {Number, ""} when is_integer(Number), Number >= Least, Number =< Most -> [Number];
                 _ -> refuse([Option, " can't be ", Word, "; it takes a whole number",
                              case Most of
                                  infinity -> io_lib:format(", ~b or more", [Least]);
                                  _ -> io_lib:format(" from ~b to ~b", [Least, Most])
                              end])
             end;
-        #{} -> none
-    end;
-whole(Option, Least, Options) ->
-    whole(Option, {Least, infinity}, Options).
+        #{} -> []
+    end.
 
 %% The words of the command line may become atoms: there are few of them, and they are the user's
 %% own.
@@ -311,18 +309,16 @@ called(#{functions := Functions}) ->
     lists:join(", ", [io_lib:format("~ts:~ts/~b", [Module, Function, Arity])
                       || {{Module, Function, Arity}, _} <- Functions]).
 
-written({ok, #{events := Events, processes := Processes, notes := Notes, files := Files}}, _) ->
+written(#{events := Events, processes := Processes, notes := Notes, files := Files}) ->
     io:format("~ts of ~ts: ~ts~n",
               [count(Events, "event"), count(Processes, "process"), lists:join(" ", Files)]),
     lists:foreach(fun(Note) -> io:format("  ~ts~n", [Note]) end, Notes),
-    ?DONE;
-written({error, Reason}, FormatError) ->
-    failed(?SYSTEM, FormatError(Reason)).
+    ?DONE.
 
 convert(#{"" := Files, "-o" := [[_ | _] = Name]}) ->
     case seqaudit_convert:from_files(lists:reverse(Files), Name) of
         {ok, Summary} ->
-            written({ok, Summary}, fun seqaudit_events:format_error/1);
+            written(Summary);
         {error, {Which, _, _} = Reason} when Which =:= file; Which =:= unwritten ->
             failed(?SYSTEM, seqaudit_events:format_error(Reason));
         {error, Reason} ->
