@@ -155,7 +155,7 @@ control_characters_test_() ->
     end}.
 
 escaped_test() ->
-    <<"käse\n\tx">> = seqaudit_shown:escaped(<<"käse\n\tx">>),
+    <<"käse\n\tx">> = seqaudit_output:escaped(<<"käse\n\tx">>),
     <<"a\\x{1B}[31m\\x{9B}\\x{7F}\\x{202E}b\\x{0}">> =
-        seqaudit_shown:escaped(<<"a", 27, "[31m", 16#9B/utf8, 127, 16#202E/utf8, "b", 0>>),
-    <<>> = seqaudit_shown:escaped(<<>>).
+        seqaudit_output:escaped(<<"a", 27, "[31m", 16#9B/utf8, 127, 16#202E/utf8, "b", 0>>),
+    <<>> = seqaudit_output:escaped(<<>>).

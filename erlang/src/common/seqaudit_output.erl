@@ -1,17 +1,23 @@
-%% @doc Where a command writes: standard output and standard error, in UTF-8 whatever the locale is,
-%% with control characters escaped.
+%% @doc Where a command writes: standard output and standard error, in UTF-8 whatever the locale is.
+%% Whatever a name, a message or a file has in it, a terminal shows characters alone, on their line
+%% and in their order.
 %%
 %% If whoever reads is gone, as `head' is once it has its lines, the command ends quietly, as others
 %% do that a signal ends then. Erlang's own processes for these files would take the whole system
 %% down, with a crash dump.
 -module(seqaudit_output).
 
--export([open/1, flush/0]).
+-export([open/1, flush/0, escaped/1]).
 
 %% The status that shells report of a command that the signal ended: 128 and its number.
 -define(BROKEN_PIPE, 141).
 -define(SYSTEM, 4).
 -define(DRAIN_MS, 5).
+
+%% ASCII's and Latin-1's control characters without tab and newline; marks of direction; ends of
+%% lines and paragraphs.
+-define(IS_CONTROL(C), C < 9; C > 10, C < 32; C > 126, C < 160; C =:= 16#200E; C =:= 16#200F;
+        C >= 16#2028, C =< 16#202E; C >= 16#2066, C =< 16#2069).
 
 -type closed() :: halt | stop.
 %% The end when nobody reads any more: the command halts, or it is asked to stop, as by a signal.
@@ -20,8 +26,7 @@
 %% `standard_error' goes there.
 -spec open(closed()) -> ok.
 open(Closed) ->
-    Opened = [spawn_link(fun() -> open(File, Closed) end) || File <- [1, 2]],
-    [Output, Errors] = Opened,
+    [Output, Errors] = [spawn_link(fun() -> open(File, Closed) end) || File <- [1, 2]],
     true = group_leader(Output, self()),
     _ = try unregister(standard_error) catch error:badarg -> none end,
     true = register(standard_error, Errors),
@@ -102,9 +107,20 @@ reply(_, _Port) -> {error, enotsup}.
 %% Once the port is closed what is written is lost.
 write(_, none) -> ok;
 write(Bytes, Port) when is_binary(Bytes) ->
-    try port_command(Port, seqaudit_shown:escaped(Bytes)) of
+    try port_command(Port, escaped(Bytes)) of
         true -> ok
     catch
         error:badarg -> ok
     end;
 write(_, _Port) -> {error, put_chars}.
+
+%% @doc The text, in UTF-8, with its control characters escaped as in Erlang's strings: `\x{1b}'.
+%% What is escaped already stays as it is, and so do bytes that are no UTF-8.
+-spec escaped(binary()) -> binary().
+escaped(Text) ->
+    escaped(Text, <<>>).
+
+escaped(<<C/utf8, Rest/binary>>, Done) when ?IS_CONTROL(C) ->
+    escaped(Rest, <<Done/binary, "\\x{", (integer_to_binary(C, 16))/binary, $}>>);
+escaped(<<Byte, Rest/binary>>, Done) -> escaped(Rest, <<Done/binary, Byte>>);
+escaped(<<>>, Done) -> Done.

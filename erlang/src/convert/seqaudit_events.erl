@@ -34,9 +34,8 @@
                    lost | ended | split | where => seqaudit_external:encoded(),
                    dropped | own | strays | written | bytes | kept | kept_bytes | came
                    | cut | unread => non_neg_integer(),
-                   since => calendar:datetime(), tracer => put_back | taken | gone,
-                   pauses => seqaudit_watch:pauses(), by => port | process,
-                   clock => {integer(), pos_integer()}}.
+                   tracer => put_back | taken | gone, pauses => seqaudit_watch:pauses(),
+                   by => port | process, clock => {integer(), pos_integer()}}.
 %% Facts of a file that have the form that they should have.
 
 -type item() :: collection | {facts, facts()} | {event, binary()} | {dropped, non_neg_integer()}
@@ -103,7 +102,7 @@ placed({passed, Lines, First}, File) -> {passed, Lines, place(File, First)};
 placed(Item, _File) -> Item.
 
 place(File, Line) ->
-    text("~ts, line ~b", [seqaudit_shown:escaped(unicode:characters_to_binary(File)), Line]).
+    text("~ts, line ~b", [seqaudit_output:escaped(unicode:characters_to_binary(File)), Line]).
 
 whole(File, Do) ->
     case file:read_file(File) of
@@ -251,10 +250,6 @@ read_fact(Key, Value) ->
     case {Key, small(Value)} of
         {_, N} when is_integer(N), N >= 0 ->
             [{Fact, N} || Fact <- ?COUNTS, atom_to_binary(Fact) =:= Key];
-        {<<"lost">>, _} -> [{lost, Value}];
-        {<<"ended">>, _} -> [{ended, Value}];
-        {<<"split">>, _} -> [{split, Value}];
-        {<<"where">>, _} -> [{where, Value}];
         {<<"clock">>, {Offset, Second}} when is_integer(Offset), is_integer(Second), Second > 0 ->
             [{clock, {Offset, Second}}];
         {<<"pauses">>, {Times, Lasted, First}}
@@ -263,7 +258,8 @@ read_fact(Key, Value) ->
         {<<"by">>, By} when By =:= port; By =:= process -> [{by, By}];
         {<<"tracer">>, Tracer} when Tracer =:= put_back; Tracer =:= taken; Tracer =:= gone ->
             [{tracer, Tracer}];
-        _ -> []
+        _ ->
+            [{Fact, Value} || Fact <- [lost, ended, split, where], atom_to_binary(Fact) =:= Key]
     end.
 
 is_pause({Since, open}) -> is_time(Since);
@@ -302,7 +298,6 @@ open(Name) ->
         error:{badmatch, {error, Reason}} -> {error, {file, File, Reason}}
     end.
 
-%% @doc Begins a collection with these facts.
 -spec begin_collection(file:io_device(), #{atom() => term()}) -> ok | {error, term()}.
 begin_collection(Device, Facts) ->
     Term = term_to_binary(Facts),
@@ -353,7 +348,6 @@ writable(Name) ->
             {error, {unwritable, File, Reason}}
     end.
 
-%% @doc A reason of this module in words, with what to do about it.
 -spec format_error(term()) -> string().
 format_error({file, File, Reason}) ->
     text("~ts: ~ts", [File, file:format_error(Reason)]);
