@@ -7,6 +7,8 @@
 
 -export([write/4]).
 
+-import(seqaudit_external, [view/1]).
+
 %% Lines that are made before they are handed on: a trace may have millions of processes.
 -define(AT_ONCE, 1_000).
 
@@ -24,7 +26,7 @@
             seqaudit_processes:numbers(), fun((iodata()) -> ok)) -> ok.
 write(Listed, Known, Numbers, Out) ->
     ok = Out(<<"seqaudit terms 1\n">>),
-    Many = seqaudit_processes:has_several_homes([Party || {_, Party} <- Listed]),
+    Many = length(lists:usort([seqaudit_processes:home(Party) || {_, Party} <- Listed])) > 1,
     lines(Listed, #names{known = Known, numbers = Numbers, many = Many,
                          repeated = repeated(Listed, Known, Many)}, Out).
 
@@ -35,28 +37,22 @@ lines(Listed, Names, Out) ->
     ok = Out([line(Each, Names) || Each <- Now]),
     lines(Later, Names, Out).
 
-line({Number, Party}, #names{known = Known, many = Many} = Names) ->
+line({Number, Party}, #names{known = Known, many = Many, repeated = Repeated} = Names) ->
     About = maps:get(Party, Known, #{}),
     Caller = caller(About, Names),
     Pid = seqaudit_processes:spell(Number),
-    unicode:characters_to_binary(["process\t", Pid, $\t,
-                                  told_apart(seqaudit_processes:registered(Party, About, Many),
-                                             {Party, Number}, {About, Caller}, Names), $\t,
-                                  seqaudit_processes:what(Party, About, Caller), $\n]).
-
-%% A name that several had, one after the other, is told apart by the number.
-told_apart(none, Numbered, {About, Caller}, _Names) ->
-    seqaudit_processes:name(Numbered, About, Caller);
-told_apart(Name, {_, Number}, _About, #names{repeated = Repeated})
-  when is_map_key(Name, Repeated) ->
-    [Name, $\s, seqaudit_processes:spell(Number)];
-told_apart(Name, _Numbered, _About, _Names) ->
-    Name.
+    Name = case registered(Party, About, Many) of
+               none -> unregistered(Party, About, Caller, Pid);
+               OfSeveral when is_map_key(OfSeveral, Repeated) -> [OfSeveral, $\s, Pid];
+               Own -> Own
+           end,
+    unicode:characters_to_binary(["process\t", Pid, $\t, Name, $\t,
+                                  what(Party, About, Caller), $\n]).
 
 repeated(Listed, Known, Many) ->
     Count = fun({_, Party}, Counts) ->
                     About = maps:get(Party, Known, #{}),
-                    case seqaudit_processes:registered(Party, About, Many) of
+                    case registered(Party, About, Many) of
                         none -> Counts;
                         Name when is_map_key(Name, Counts) -> Counts#{Name := repeated};
                         Name -> Counts#{Name => once}
@@ -71,3 +67,44 @@ caller(#{caller := Caller}, #names{known = Known, numbers = Numbers}) ->
     end;
 caller(_About, _Names) ->
     "".
+
+%% The registered name of a party. If there are several nodes (`Many'), it says which one is meant.
+registered(Party, #{name := Name}, Many) ->
+    seqaudit_terms:atom(Name) ++ on(Party, Many);
+registered(Party, About, _Many) ->
+    case view(Party) of
+        {name, Name, _} when map_size(About) =:= 0 -> seqaudit_terms:atom(Name) ++ on(Party, true);
+        _ -> none
+    end.
+
+on(_Party, false) -> "";
+on(Party, true) -> " on " ++ seqaudit_terms:plain(seqaudit_processes:home(Party)).
+
+%% A short name: for whom a task works, what was called first, or what the party is.
+unregistered(_Party, #{caller := _}, Caller, Pid) -> "task of " ++ Caller ++ " " ++ Pid;
+unregistered(_Party, #{call := Call}, _Caller, Pid) -> called(seqaudit_terms:call(Call), Pid);
+unregistered(Party, _About, _Caller, Pid) ->
+    case view(Party) of
+        {port, _, _} -> "port " ++ Pid;
+        {reference, _, _} -> "alias " ++ Pid;
+        _ -> Pid
+    end.
+
+%% That a process was spawned with a fun says nothing.
+called("erlang:apply/2", Pid) -> Pid;
+called(Call, Pid) -> Call ++ " " ++ Pid.
+
+%% All that is known of a party, in words.
+what(Party, About, Caller) ->
+    [kind(view(Party)), " of node ", seqaudit_terms:plain(seqaudit_processes:home(Party))]
+        ++ [[", registered as ", seqaudit_terms:atom(Name)] || #{name := Name} <- [About]]
+        ++ [[", started by ", seqaudit_terms:call(Call)] || #{call := Call} <- [About]]
+        ++ [[", for ", Caller] || #{caller := _} <- [About]].
+
+kind({process, _, Number, Serial}) ->
+    ["process <0.", integer_to_list(Number), $., integer_to_list(Serial), $>];
+kind({port, _, Number}) -> io_lib:format("port #Port<0.~b>", [Number]);
+kind({reference, _, Ids}) ->
+    ["alias #Ref<0.", lists:join($., [integer_to_list(Id) || Id <- Ids]),
+     "> of an unknown process"];
+kind({name, Name, _}) -> ["name ", seqaudit_terms:atom(Name)].

@@ -1,4 +1,4 @@
-%% @doc Gives each party of a trace a process of the bundle, and a name that people read.
+%% @doc Gives each party of a trace a process of the bundle.
 %%
 %% A process keeps its number: `<0.80.0>' of the only node stays `<0.80.0>'. Nodes are numbered from
 %% 0 by name, so that a process has one number from whichever node it is seen. If another process
@@ -6,7 +6,7 @@
 %% 65,535, and for what is no process, a number is taken that nobody has, from 65,535 downwards.
 -module(seqaudit_processes).
 
--export([number/1, further_nodes/1, has_several_homes/1, spell/1, registered/3, name/3, what/3]).
+-export([number/1, further_nodes/1, home/1, spell/1]).
 -export_type([party/0, pid_number/0, numbers/0]).
 
 -import(seqaudit_external, [view/1]).
@@ -24,9 +24,9 @@
 %% no number is left for has none.
 -spec number([party()]) -> numbers().
 number(Parties) ->
-    Names = lists:sort(maps:keys(maps:from_keys([home(Party) || Party <- Parties], []))),
-    Nodes = maps:from_list(lists:zip(lists:sublist(Names, ?GREATEST + 1),
-                                     lists:seq(0, min(length(Names) - 1, ?GREATEST)))),
+    Names = lists:usort([home(Party) || Party <- Parties]),
+    Nodes = maps:from_list([{Name, Number} || {Number, Name} <- lists:enumerate(0, Names),
+                                              Number =< ?GREATEST]),
     Here = [Party || Party <- Parties, is_map_key(home(Party), Nodes)],
     {Own, Rest, Taken} = own_numbers(lists:usort([{maps:get(Node, Nodes), {Number, Serial}, Pid}
                                            || Pid <- Here,
@@ -40,12 +40,9 @@ number(Parties) ->
 -spec further_nodes([{pid_number(), party()}]) -> [{Node :: 0..?GREATEST, Name :: binary()}].
 further_nodes(Listed) ->
     Homes = maps:from_list([{Node, Party} || {{Node, _}, Party} <- Listed]),
-    {Further, _} = lists:foldl(fun({Node, Party}, {Found, Names}) ->
-                                       Name = home(Party),
-                                       {[{Node, Name} || is_map_key(Name, Names)]
-                                        ++ Found, Names#{Name => Node}}
-                               end, {[], #{}}, lists:sort(maps:to_list(Homes))),
-    lists:reverse(Further).
+    Named = lists:sort([{Node, home(Party)} || {Node, Party} <- maps:to_list(Homes)]),
+    First = maps:from_list([{Name, Node} || {Node, Name} <- lists:reverse(Named)]),
+    [{Node, Name} || {Node, Name} <- Named, maps:get(Name, First) =/= Node].
 
 %% The first process with a number in range keeps it; the others are left over.
 own_numbers(Sorted) ->
@@ -77,67 +74,13 @@ free(_Node, N, _Taken) when N < 0 -> none;
 free(Node, N, Taken) when is_map_key({Node, N}, Taken) -> free(Node, N - 1, Taken);
 free(_Node, N, _Taken) -> N.
 
-%% The name of a party's node.
+-spec home(party()) -> binary().
 home(Party) ->
     case view(Party) of
         {name, _, Node} -> Node;
         Other -> element(2, Other)
     end.
 
-%% @doc Whether the parties are of several nodes.
--spec has_several_homes([party()]) -> boolean().
-has_several_homes(Parties) ->
-    length(lists:usort([home(Party) || Party <- Parties])) > 1.
-
-%% @doc A pid of the bundle in its one spelling.
 -spec spell(pid_number()) -> string().
 spell({Node, Number}) ->
     "<" ++ integer_to_list(Node) ++ "." ++ integer_to_list(Number) ++ ".0>".
-
-%% @doc The registered name of a party. If there are several nodes (`Many'), it says which one is
-%% meant.
--spec registered(party(), seqaudit_events:about(), Many :: boolean()) -> string() | none.
-registered(Party, #{name := Name}, Many) ->
-    seqaudit_terms:atom(Name) ++ on(Party, Many);
-registered(Party, About, _Many) ->
-    case view(Party) of
-        {name, Name, _} when map_size(About) =:= 0 -> seqaudit_terms:atom(Name) ++ on(Party, true);
-        _ -> none
-    end.
-
-%% @doc A short name of a party without a registered one: for whom a task works, what was called
-%% first, or what it is, and the number. `Caller' is the word for whom the process works for.
--spec name({party(), pid_number()}, seqaudit_events:about(), Caller :: string()) -> string().
-name({Party, Number}, About, Caller) ->
-    case {view(Party), About} of
-        {_, #{caller := _}} -> "task of " ++ Caller ++ " " ++ spell(Number);
-        {_, #{call := Call}} -> called(seqaudit_terms:call(Call), Number);
-        {{port, _, _}, _} -> "port " ++ spell(Number);
-        {{reference, _, _}, _} -> "alias " ++ spell(Number);
-        {_, _} -> spell(Number)
-    end.
-
-%% That a process was spawned with a fun says nothing.
-called("erlang:apply/2", Number) -> spell(Number);
-called(Call, Number) -> Call ++ " " ++ spell(Number).
-
-on(_Party, false) -> "";
-on(Party, true) -> " on " ++ seqaudit_terms:plain(home(Party)).
-
-%% @doc All that is known of a party, in words.
--spec what(party(), seqaudit_events:about(), Caller :: string()) -> iolist().
-what(Party, About, Caller) ->
-    [kind(view(Party)), " of node ", seqaudit_terms:plain(home(Party)), known(About, Caller)].
-
-kind({process, _, Number, Serial}) ->
-    ["process <0.", integer_to_list(Number), $., integer_to_list(Serial), $>];
-kind({port, _, Number}) -> io_lib:format("port #Port<0.~b>", [Number]);
-kind({reference, _, Ids}) ->
-    ["alias #Ref<0.", lists:join($., [integer_to_list(Id) || Id <- Ids]),
-     "> of an unknown process"];
-kind({name, Name, _}) -> ["name ", seqaudit_terms:atom(Name)].
-
-known(About, Caller) ->
-    [[", registered as ", seqaudit_terms:atom(Name)] || #{name := Name} <- [About]]
-        ++ [[", started by ", seqaudit_terms:call(Call)] || #{call := Call} <- [About]]
-        ++ [[", for ", Caller] || #{caller := _} <- [About]].
