@@ -51,8 +51,8 @@
 
 %% Pairs of a map that are sorted: in a list, they take far more memory than their bytes.
 -define(SORTED_PAIRS, 1_000_000).
-%% Maps that are so many maps deep have their pairs sorted. Each copies what is in it, and a file
-%% could have millions, one in another.
+%% How deep within other maps the pairs of one are sorted still. Each copies what is in it, and a
+%% file could have millions, one in another.
 -define(SORTED_DEPTH, 1_000).
 %% The size of a fun in its one form, at which Erlang doesn't look, and its process.
 -define(NO_SIZE, 0).
@@ -156,8 +156,8 @@ skip(<<?NEW_FLOAT, _:64, Rest/binary>>, Left) -> skip(Rest, Left - 1);
 skip(<<?MAP, Pairs:32, Rest/binary>>, Left) when Pairs < 2 -> skip(Rest, Left - 1 + 2 * Pairs);
 skip(<<Bytes/binary>>, Left) -> {byte_size(Bytes), Left}.
 
-%% Behind a name of so many bytes come as many more that mean no matter. The term has so many bytes
-%% up to there. Four bytes at once are what Erlang reads fastest.
+%% Skips a name of `Size' bytes and `More' bytes behind it, in a term that has `Term' bytes up to
+%% there. Erlang reads four bytes at once fastest.
 skip_ascii(<<Four:32, Rest/binary>>, Size, More, Left, Term)
   when Size >= 4, Four band 16#80808080 =:= 0 ->
     skip_ascii(Rest, Size - 4, More, Left, Term);
@@ -409,7 +409,7 @@ view(<<?V4_PORT, Rest0/binary>>) ->
     {port, Node, Number};
 view(<<?NEWER_REFERENCE, _:16, Rest0/binary>>) ->
     {Node, <<_Creation:32, Ids/binary>>} = atom_name(Rest0),
-    {reference, Node, lists:reverse([Id || <<Id:32>> <= Ids])};
+    {reference, Node, ids(Ids)};
 view(<<?SMALL_TUPLE, 2, Rest0/binary>>) ->
     case atom_name(Rest0) of
         {Name, Rest} ->
@@ -534,12 +534,10 @@ call(Term) ->
         _ -> other
     end.
 
-%% @doc The triple of these.
 -spec call(Module :: encoded(), Function :: encoded(), Arity :: byte()) -> encoded().
 call(Module, Function, Arity) ->
     <<?SMALL_TUPLE, 3, Module/binary, Function/binary, ?SMALL_INTEGER, Arity>>.
 
-%% @doc The elements of a tuple.
 -spec tuple(encoded()) -> [encoded()] | other.
 tuple(<<?SMALL_TUPLE, Arity, Rest/binary>>) -> elements(Arity, Rest);
 tuple(<<?LARGE_TUPLE, Arity:32, Rest/binary>>) -> elements(Arity, Rest);
@@ -557,18 +555,13 @@ pairs(<<?MAP, _/binary>> = Map) ->
     maps:from_list([{Name, Value} || {Key, Value} <- map(Map), {Name, <<>>} <- [atom_name(Key)]]);
 pairs(_) -> other.
 
-%% @doc The pairs of a map.
 -spec map(encoded()) -> [{encoded(), encoded()}].
-map(<<?MAP, Pairs:32, Rest/binary>>) -> map(Pairs, Rest);
+map(<<?MAP, Pairs:32, Rest/binary>>) -> in_pairs(elements(2 * Pairs, Rest));
 map(_) -> [].
 
-map(0, _Rest) -> [];
-map(Left, Bytes) ->
-    {Key, Rest0} = first(Bytes),
-    {Value, Rest} = first(Rest0),
-    [{Key, Value} | map(Left - 1, Rest)].
+in_pairs([Key, Value | Others]) -> [{Key, Value} | in_pairs(Others)];
+in_pairs([]) -> [].
 
-%% @doc The elements of a list.
 -spec list(encoded()) -> [encoded()].
 list(<<?LIST, Length:32, Rest/binary>>) -> lists:droplast(elements(Length + 1, Rest));
 list(_) -> [].
@@ -594,9 +587,9 @@ part(<<?INTEGER, N:32/signed, Rest/binary>>) -> {leaf, {integer, N}, Rest};
 part(<<?ATOM, Size:16, Name:Size/binary, Rest/binary>>) -> {leaf, {atom, Name}, Rest};
 part(<<?NEW_PID, ?ATOM, Size:16, _:Size/binary, _:12/binary, Rest/binary>> = Bytes) ->
     {leaf, {process, binary:part(Bytes, 0, byte_size(Bytes) - byte_size(Rest))}, Rest};
-part(<<?NEWER_REFERENCE, Words:16, ?ATOM, Size:16, _:Size/binary, _Creation:32, Rest0/binary>>) ->
-    {Ids, Rest} = ids(Words, Rest0, []),
-    {leaf, {reference, Ids}, Rest};
+part(<<?NEWER_REFERENCE, Words:16, ?ATOM, Size:16, _:Size/binary, _Creation:32,
+       Ids:(4 * Words)/binary, Rest/binary>>) ->
+    {leaf, {reference, ids(Ids)}, Rest};
 part(<<?EXPORT, Bytes/binary>>) ->
     {Module, Rest0} = first(Bytes),
     {Function, Rest1} = first(Rest0),
@@ -615,8 +608,7 @@ atom_names(Left, Bytes, Names) ->
     atom_names(Left - 1, Rest, [Name | Names]).
 
 %% The numbers of a reference, last first, as Erlang prints them.
-ids(0, Rest, Ids) -> {Ids, Rest};
-ids(Left, <<Id:32, Rest/binary>>, Ids) -> ids(Left - 1, Rest, [Id | Ids]).
+ids(Ids) -> lists:reverse([Id || <<Id:32>> <= Ids]).
 
 leaf(<<?SMALL_BIG, Size, Sign, N:Size/little-unit:8>>) -> {integer, signed(Sign, N)};
 leaf(<<?LARGE_BIG, Size:32, Sign, N:Size/little-unit:8>>) when Size =< ?PRINTED_BIG ->

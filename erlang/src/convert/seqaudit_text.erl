@@ -17,15 +17,15 @@
 -import(seqaudit_errors, [text/2]).
 
 -define(NOWHERE, <<"nonode@nohost">>).
-%% Terms may be so deep; what is printed for people isn't.
+%% How deep a term may be; what is printed for people isn't.
 -define(DEPTH, 10_000).
 %% The numbers of a pid or reference have 32 bits, that of a port 64.
 -define(GREATEST, 16#FFFF_FFFF).
 -define(GREATEST_PORT, 16#FFFF_FFFF_FFFF_FFFF).
-%% Whole numbers are read up to so many digits: reading one takes the square of their number.
+%% Digits of a whole number that is read: it takes the square of their number.
 -define(DIGITS, 20_000).
 -define(ATOM_CHARACTERS, 255).
-%% A pid or a fun has at most so many bytes between its angles.
+%% Bytes that a pid or a fun may have between its angles.
 -define(INNER, 2_000).
 
 -define(SHOWN, 30).
@@ -244,12 +244,11 @@ term(Bytes, Place, Depth) ->
         <<"#Port<", Rest/binary>> -> opaque(port, Rest, Place);
         <<"#Fun<", Rest/binary>> -> function(Rest);
         <<"\"", Rest/binary>> -> strings(Rest, <<>>);
-        <<"'", Rest/binary>> ->
-            {Name, After} = quoted(Rest, $', <<>>),
-            {atom(Name), After};
         <<C, _/binary>> = Begin when C >= $0, C =< $9; C =:= $- -> number(Begin);
         <<"fun ", Rest/binary>> -> export(Rest);
-        Other -> word(Other)
+        Begin ->
+            {Name, Rest} = name(Begin),
+            {atom(Name), Rest}
     end.
 
 %% Reads parts with commas between them by this function, up to what closes them.
@@ -478,10 +477,6 @@ integer(Bytes) -> syntax(Bytes).
 
 digits(<<C, Rest/binary>>, Done) when C >= $0, C =< $9 -> digits(Rest, <<Done/binary, C>>);
 digits(Rest, Done) -> {Done, Rest}.
-
-word(Bytes) ->
-    {Name, Rest} = bare(Bytes),
-    {atom(Name), Rest}.
 
 bare(<<C/utf8, _/binary>> = Bytes) when C >= $a, C =< $z; C >= 16#DF, C =< 16#FF, C =/= 16#F7 ->
     name_characters(Bytes, <<>>);
