@@ -78,7 +78,7 @@ fun_is_a_term_test() ->
     Form = form(written({Fun, x})),
     Form = form(Form),
     {Fun, x} = seqaudit_external:to_term(Form),
-    "{#Fun<" ++ _ = seqaudit_terms:encoded(Form).
+    "{#Fun<" ++ _ = seqaudit_terms:encoded(Form, #{}).
 
 %% The order of pairs doesn't matter, in a map of any size and in maps deep in others.
 large_maps_test_() ->
@@ -176,10 +176,10 @@ native_record_test() ->
     Record = <<67, 2:32, 0, 119, 2, "nr", 119, 5, "point", 119, 1, "x", 119, 1, "y", 119, 1, "a",
                107, 2:16, "bc">>,
     Empty = <<67, 0:32, 0, 119, 2, "nr", 119, 5, "empty">>,
-    "#nr:point{x = a,y = \"bc\"}" = seqaudit_terms:encoded(form(Record)),
+    "#nr:point{x = a,y = \"bc\"}" = seqaudit_terms:encoded(form(Record), #{}),
     "{[#nr:empty{}],#nr:point{x = a,y = \"bc\"},7}" =
         seqaudit_terms:encoded(form(<<104, 3, 108, 1:32, Empty/binary, 106, Record/binary, 97,
-                                      7>>)),
+                                      7>>), #{}),
     error = seqaudit_external:read(<<131, 67, 1:32, 0, 119, 2, "nr", 119, 5, "point", 119, 1,
                                      "x">>).
 

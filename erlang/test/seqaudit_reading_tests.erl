@@ -386,7 +386,7 @@ equal_maps_test() ->
     Read = fun(Bytes) -> {ok, Term} = seqaudit_external:read(Bytes), Term end,
     [Same, Same] = [Read(<<131, 116, 2:32, 97, 1, 97, 2, 97, 3, 106>>),
                     Read(<<131, 116, 2:32, 97, 3, 106, 97, 1, 97, 2>>)],
-    "#{1 => 2,3 => []}" = seqaudit_terms:encoded(Same),
+    "#{1 => 2,3 => []}" = seqaudit_terms:encoded(Same, #{}),
     Nested = fun(Inner) -> Read(<<131, 104, 1, 116, 2:32, 97, 9, Inner/binary, 97, 1, 97, 2>>) end,
     [Deep, Deep] =
         [Nested(<<116, 2:32, 97, 1, 97, 2, 97, 3, 106>>),

@@ -1,16 +1,25 @@
-%% @doc Takes collected events in, one by one, in little memory.
+%% @doc Takes in what files hold, with events side by side, in little memory.
 %%
 %% An event becomes a record of a fixed size in one binary: numbers for its label, parties and
 %% message, its serial and its time. The terms themselves are in tables, each once. So a million
-%% events take some tens of megabytes beside their different messages. Some events make a part, in
-%% which terms have numbers of their own. A part may be made in another process, and given the
-%% numbers of the tables there; only giving them goes from part to part.
+%% events take some tens of megabytes beside their different messages.
+%%
+%% Most of the work is to read the events' terms and to see which of them are equal. So events are
+%% gathered in batches, and a process of its own makes a part of each, in which terms have numbers
+%% of their own. The parts are added in the order of the batches: every term has the number that it
+%% has if the events are taken in one by one. All else that a file holds is taken in between the
+%% batches.
 -module(seqaudit_build).
 
 -include("seqaudit_packed.hrl").
 
--export([new/0, item/2, context/1, part/2, add/2, fold/3]).
--export_type([build/0, packed/0, collected/0, context/0, part/0]).
+-export([new/0, item/2, build/1]).
+-export_type([build/0, packed/0, collected/0, batches/0]).
+
+-define(BATCH_EVENTS, 1_000).
+-define(BATCH_BYTES, 1_048_576).
+%% Words of memory with which a process that reads a batch begins: it needs about as many.
+-define(HEAP, 60_000).
 
 %% The greatest count that the text of a bundle has, and the least that a node shows.
 -define(GREATEST, 16#FFFF_FFFF_FFFF_FFFF).
@@ -32,15 +41,20 @@
 
 -type build() :: #build{}.
 
--type home() :: binary() | unknown.
+-record(batches, {build :: build(),
+                  events = [] :: [binary()],   % last first
+                  count = 0 :: non_neg_integer(),
+                  bytes = 0 :: non_neg_integer(),
+                  reading = queue:new() :: queue:queue(seqaudit_workers:worker())}).
 
--opaque context() :: {home(), seqaudit_external:encoded() | none, {integer(), pos_integer()}}.
-%% The node where events were collected, the process that did so, and what its clock means.
+-opaque batches() :: #batches{}.
 
 -type terms() :: seqaudit_numbers:few() | [seqaudit_external:encoded()].
 %% The terms of a part, which are a list once it is whole.
 
--record(part, {home :: home(),
+%% Some events, with numbers of their own for their terms; the node where they were collected, the
+%% process that did so, and what its clock means.
+-record(part, {home :: binary() | unknown,
                own :: seqaudit_external:encoded() | none,
                clock :: {integer(), pos_integer()},
                packed = <<>> :: packed(),
@@ -53,38 +67,67 @@
                samples = #{} :: #{atom() => [string()]},
                own_events = 0 :: non_neg_integer()}).
 
--opaque part() :: #part{}.
-%% Some events, with numbers of their own for their terms.
-
 %% @doc Nothing taken in yet. The tables end with the process that makes them.
--spec new() -> build().
+-spec new() -> batches().
 new() ->
-    #build{actors = seqaudit_numbers:new(), others = seqaudit_numbers:new(),
-           labels = seqaudit_numbers:new(), values = seqaudit_numbers:new()}.
+    #batches{build = #build{actors = seqaudit_numbers:new(), others = seqaudit_numbers:new(),
+                            labels = seqaudit_numbers:new(), values = seqaudit_numbers:new()}}.
 
-%% @doc Goes through the records.
--spec fold(fun((tuple(), Acc) -> Acc), Acc, packed()) -> Acc.
-fold(Do, Acc, <<?PACKED(Kind, Label, Prev, This, From, To, Value, Time), Rest/binary>>) ->
-    fold(Do, Do({Kind, Label, Prev, This, From, To, Value, Time}, Acc), Rest);
-fold(_Do, Acc, <<>>) ->
-    Acc.
+%% @doc Takes one item of a file in. The first event of a collection may say what is to be known of
+%% all of them, so it is taken in at once.
+-spec item(seqaudit_events:item(), batches()) -> batches().
+item({event, Event}, #batches{build = #build{home = Home}, events = Events, count = Count,
+                              bytes = Bytes} = Batches)
+  when Home =/= unknown ->
+    More = Batches#batches{events = [Event | Events], count = Count + 1,
+                           bytes = Bytes + byte_size(Event)},
+    case Count + 1 >= ?BATCH_EVENTS orelse More#batches.bytes >= ?BATCH_BYTES of
+        true -> begin_batch(More);
+        false -> More
+    end;
+item(Item, Batches) ->
+    #batches{build = take_item(Item, build(Batches))}.
 
-%% @doc Returns by what the next events are read.
--spec context(build()) -> context().
-context(#build{home = Home, own = Own, clock = Clock}) ->
-    {Home, Own, Clock}.
+%% @doc All that was taken in.
+-spec build(batches()) -> build().
+build(Batches) ->
+    all_added(begin_batch(Batches)).
 
-%% @doc These events alone, packed.
--spec part([binary()], context()) -> part().
-part(Events, {Home, Own, Clock}) ->
-    Part = lists:foldl(fun take/2, #part{home = Home, own = Own, clock = Clock}, Events),
+%% No more batches are read than there are schedulers, so that memory is bounded.
+begin_batch(#batches{events = []} = Batches) ->
+    Batches;
+begin_batch(#batches{reading = Reading, build = Build, events = LastFirst} = Batches) ->
+    case queue:len(Reading) >= erlang:system_info(schedulers_online) of
+        true ->
+            begin_batch(first_added(Batches));
+        false ->
+            Empty = new_part(Build),
+            Worker = seqaudit_workers:begun(fun() -> part(lists:reverse(LastFirst), Empty) end,
+                                            [{min_heap_size, ?HEAP}]),
+            Batches#batches{events = [], count = 0, bytes = 0, reading = queue:in(Worker, Reading)}
+    end.
+
+all_added(#batches{reading = Reading} = Batches) ->
+    case queue:is_empty(Reading) of
+        true -> Batches#batches.build;
+        false -> all_added(first_added(Batches))
+    end.
+
+first_added(#batches{reading = Reading, build = Build} = Batches) ->
+    {{value, Worker}, Later} = queue:out(Reading),
+    Batches#batches{reading = Later, build = add(seqaudit_workers:result(Worker), Build)}.
+
+new_part(#build{home = Home, own = Own, clock = Clock}) ->
+    #part{home = Home, own = Own, clock = Clock}.
+
+part(Events, Empty) ->
+    Part = lists:foldl(fun take/2, Empty, Events),
     Part#part{actors = seqaudit_numbers:terms(Part#part.actors),
               others = seqaudit_numbers:terms(Part#part.others),
               labels = seqaudit_numbers:terms(Part#part.labels),
               values = seqaudit_numbers:terms(Part#part.values)}.
 
-%% @doc Takes a part in: every term gets the number that it gets if the events come one by one.
--spec add(part(), build()) -> build().
+%% Gives every term of a part the number that it gets if the events come one by one.
 add(#part{packed = Records} = Part, #build{packed = Packed} = Build) ->
     Parties = {numbers(Part#part.actors, Build#build.actors),
                numbers(Part#part.others, Build#build.others)},
@@ -117,34 +160,32 @@ renumbered(Party, {_, Others})
   when Party >= ?OTHER -> ?OTHER bor element(Party - ?OTHER + 1, Others);
 renumbered(Party, {Actors, _}) -> element(Party + 1, Actors).
 
-%% @doc Takes one item of a file in.
--spec item(seqaudit_events:item(), build()) -> build().
-item(collection, #build{collections = Before} = Build) ->
+take_item(collection, #build{collections = Before} = Build) ->
     Build#build{collections = [#{facts => #{}} | Before], home = unknown, own = none,
                 clock = {0, ?NANOSECONDS}};
-item({facts, Facts}, #build{collections = [Now | Before], known = Known} = Build) ->
+take_item({facts, Facts}, #build{collections = [Now | Before], known = Known} = Build) ->
     Kept = maps:merge(maps:get(facts, Now), maps:remove(processes, Facts)),
     Build#build{collections = [Now#{facts => Kept} | Before],
                 known = lists:foldl(fun learn/2, Known, maps:get(processes, Facts, [])),
                 home = maps:get(node, Kept, Build#build.home),
                 own = maps:get(collector, Kept, none),
                 clock = maps:get(clock, Kept, Build#build.clock)};
-item({dropped, Count}, Build) ->
+take_item({dropped, Count}, Build) ->
     more(dropped, Count, Build);
-item({left, Bytes}, Build) ->
+take_item({left, Bytes}, Build) ->
     more(left, Bytes, Build);
-item({left, Bytes, Where}, Build) ->
+take_item({left, Bytes, Where}, Build) ->
     know(left_at, Where, more(left, Bytes, Build));
-item({passed, Lines, First}, Build) ->
+take_item({passed, Lines, First}, Build) ->
     know(passed, {Lines, First}, Build);
-item(stray, #build{counts = Counts} = Build) ->
+take_item(stray, #build{counts = Counts} = Build) ->
     Build#build{counts = more(strays, Counts)};
-item({stray, Where, Term}, #build{counts = Counts, samples = Samples} = Build) ->
+take_item({stray, Where, Term}, #build{counts = Counts, samples = Samples} = Build) ->
     Kind = stray_kind(Term),
     Build#build{counts = more(Kind, Counts),
                 samples = sampled(Kind, [Where, ": ", shown(Term)], Samples)};
-item({event, Bytes}, Build) ->
-    add(part([Bytes], context(Build)), Build).
+take_item({event, Bytes}, Build) ->
+    add(part([Bytes], new_part(Build)), Build).
 
 %% Prefers what was asked last, but keeps a name that a process had.
 learn({Pid, About}, Known) ->
@@ -186,7 +227,7 @@ sampled(Kind, Text, Samples) ->
 first_samples(Samples) -> lists:nthtail(max(0, length(Samples) - ?SAMPLES), Samples).
 
 shown(Term) ->
-    seqaudit_terms:short(seqaudit_terms:encoded(Term), ?SHOWN).
+    seqaudit_terms:short(seqaudit_terms:encoded(Term, #{}), ?SHOWN).
 
 take(Bytes, Part) ->
     case seqaudit_external:event(Bytes) of

@@ -30,32 +30,25 @@
 %% The parts of a bundle, each a function that hands its text on piece by piece.
 -type part() :: fun((fun((iodata()) -> ok)) -> ok).
 
-%% @doc Converts files of events.
 -spec from_files([file:filename()], file:filename()) -> {ok, summary()} | {error, term()}.
 from_files(Files, Name) ->
     %% The tables of a conversion, and what it leaves on the heap, end with a process of its own.
     seqaudit_workers:result(seqaudit_workers:begun(fun() ->
-        case fold_files(Files, seqaudit_batches:new(seqaudit_build:new())) of
-            {ok, Batches} -> write_events(seqaudit_batches:build(Batches), Files, Name);
+        Fold = fun(File, {ok, Batches}) ->
+                       seqaudit_events:fold(File, fun seqaudit_build:item/2, Batches);
+                  (_File, Failed) -> Failed
+               end,
+        case lists:foldl(Fold, {ok, seqaudit_build:new()}, Files) of
+            {ok, Batches} -> write_events(seqaudit_build:build(Batches), Files, Name);
             {error, Reason} -> {error, Reason}
         end
-    end)).
+    end, [])).
 
 %% A file without events makes a trace only if a collector wrote it.
-write_events(#build{packed = <<>>} = Build, Files, Name) ->
-    case lists:any(fun seqaudit_events:is_collected/1, Files) of
+write_events(#build{packed = Packed} = Build, Files, Name) ->
+    case Packed =/= <<>> orelse lists:any(fun seqaudit_events:is_collected/1, Files) of
         true -> write(Build, Name);
         false -> {error, {no_events, Files}}
-    end;
-write_events(Build, _Files, Name) ->
-    write(Build, Name).
-
-fold_files([], Batches) ->
-    {ok, Batches};
-fold_files([File | Files], Batches) ->
-    case seqaudit_events:fold(File, fun seqaudit_batches:item/2, Batches) of
-        {ok, More} -> fold_files(Files, More);
-        {error, Reason} -> {error, Reason}
     end.
 
 write(Build, Name) ->
@@ -82,23 +75,21 @@ write_parts(Parts, Name) ->
                                    {messages, ".messages"}, {times, ".times"},
                                    {notes, ".notes"}, {facts, ".facts"}],
                 is_map_key(Part, Parts)],
-    Begun = [seqaudit_workers:begun(fun() -> write_file(File, Write) end)
-             || {File, Part, Write} <- Files, not is_of_tables(Part)],
-    Here = [write_file(File, Write) || {File, Part, Write} <- Files, is_of_tables(Part)],
-    Others = [seqaudit_workers:result(Worker) || Worker <- Begun],
-    case [Reason || {error, Reason} <- Here ++ Others] of
+    {OfTables, Others} = lists:partition(fun({_, Part, _}) ->
+                                                 Part =:= terms orelse Part =:= messages
+                                         end, Files),
+    Begun = [seqaudit_workers:begun(fun() -> write_file(File, Write) end, [])
+             || {File, _, Write} <- Others],
+    Here = [write_file(File, Write) || {File, _, Write} <- OfTables],
+    Beside = [seqaudit_workers:result(Worker) || Worker <- Begun],
+    case [Reason || {error, Reason} <- Here ++ Beside] of
         [] -> {ok, [File || {File, Part, _} <- Files, Part =/= messages orelse has_messages(File)]};
         [Reason | _] -> {error, Reason}
     end.
 
-is_of_tables(Part) -> Part =:= terms orelse Part =:= messages.
-
 %% Without any whole text the file is removed again.
 has_messages(File) ->
-    case filelib:file_size(File) > byte_size(?MESSAGES) of
-        true -> true;
-        false -> ok =/= file:delete(File)
-    end.
+    filelib:file_size(File) > byte_size(?MESSAGES) orelse ok =/= file:delete(File).
 
 %% The owner alone may read the file, from before anything is in it.
 write_file(File, Part) ->
@@ -138,50 +129,46 @@ parts(#build{actors = Actors, others = Others} = Whole) ->
     LabelNumbers = seqaudit_terms:label_numbers(Labels),
     LabelTexts =
         list_to_tuple([integer_to_binary(maps:get(Label, LabelNumbers)) || Label <- Labels]),
-    Spawns = seqaudit_spawns:read(Build#build.values),
-    Senders = seqaudit_spawns:senders(element(1, Listed)),
-    Births = seqaudit_spawns:births(Untagged, Senders, Spawns),
-    Packed = seqaudit_spawns:with_tags(Untagged, Senders, Spawns, Build#build.values),
-    {Streams, Nameless, Placed} = streams(Packed, Spelled, Births),
-    Wrapped = seqaudit_spawns:has_wrapped(Packed, Spawns),
+    Values = Build#build.values,
+    Spawns = seqaudit_spawns:read(Values, element(1, Listed)),
+    Births = seqaudit_spawns:births(Untagged, Spawns),
+    Packed = seqaudit_spawns:with_tags(Untagged, Spawns, Values),
     Sorted = lists:sort([{Number, Party} || {Party, Number} <- maps:to_list(Numbers)]),
+    {Streams, Nameless} = streams(Sorted, Packed, Spelled, Births),
+    Wrapped = seqaudit_spawns:has_wrapped(Packed, Spawns),
     Counts = maps:merge(Build#build.counts, Resolved#{nameless => Nameless}),
     Collections = lists:reverse(Build#build.collections),
     IsAnswer = fun(Before, Event) ->
-                       Wrapped andalso seqaudit_spawns:is_answer(Before, Event, Senders, Spawns)
+                       Wrapped andalso seqaudit_spawns:is_answer(Before, Event, Spawns)
                end,
     ByLabel = lists:sort([{Number, Label} || {Label, Number} <- maps:to_list(LabelNumbers)]),
     Bundle = fun(Out) ->
                      ok = Out(header(Wrapped, Sorted)),
-                     bundle(Sorted, Streams, Packed, {Spelled, LabelTexts, IsAnswer}, Out)
+                     bundle(Streams, Packed, {Spelled, LabelTexts, IsAnswer}, Out)
              end,
-    Values = Build#build.values,
     Known = seqaudit_spawns:learn(Births, Packed, element(1, Listed), Values,
                                   Build#build.known),
     Dots = atomics:new(seqaudit_numbers:size(Values) + 1, []),
     Terms = fun(Out) -> terms(Sorted, ByLabel, {Known, Values}, {Numbers, Dots}, Out) end,
     Messages = fun(Out) -> messages(Values, {Numbers, Dots}, Out) end,
-    Times = fun(Out) -> seqaudit_times:write(Sorted, Streams, Packed, Out) end,
+    Times = fun(Out) -> seqaudit_times:write(Streams, Packed, Out) end,
     {maps:from_list([{seqtrace, Bundle}, {terms, Terms}, {messages, Messages}]
                     ++ [{times, Times} || is_map_key(timestamps, Counts)]),
      #{collections => Collections, counts => Counts,
        dropped => seqaudit_notes:dropped(Collections, Counts), samples => Build#build.samples,
-       wrapped => Wrapped, processes => length(Sorted), events => Placed}}.
+       wrapped => Wrapped, processes => length(Sorted),
+       events => byte_size(Packed) div ?PACKED_SIZE - Nameless}}.
 
 %% The parties that events name, in the order of their first events.
 used(Packed, {Actors, Others}) ->
     Used = parties(Packed, #{}),
-    select(Actors, 0, Used) ++ select(Others, ?OTHER, Used).
+    [Party || {Number, Party} <- lists:enumerate(0, Actors) ++ lists:enumerate(?OTHER, Others),
+              is_map_key(Number, Used)].
 
 parties(<<?PACKED(_Kind, _Label, _Prev, _This, From, To, _Value, _Time), Rest/binary>>, Used) ->
     parties(Rest, Used#{From => used, To => used});
 parties(<<>>, Used) ->
     Used.
-
-select([], _Number, _Used) -> [];
-select([Party | Parties], Number, Used) when is_map_key(Number, Used) ->
-    [Party | select(Parties, Number + 1, Used)];
-select([_ | Parties], Number, Used) -> select(Parties, Number + 1, Used).
 
 %% Spells each party as the bundle does, in one binary that processes share. A party that no number
 %% was left for has none.
@@ -206,14 +193,15 @@ in_slot(Place, Slots) ->
     <<_:Before/binary, Size, Spelled:Size/binary, _/binary>> = Slots,
     Spelled.
 
-%% The places of each process's events in the records, by its spelling; how many events name a party
-%% without a number, and how many don't.
-streams(Packed, Spelled, Births) ->
+%% The processes by their spelling, each with the places of its events in the records; and how many
+%% events name a party without a number.
+streams(Sorted, Packed, Spelled, Births) ->
     {Streams, Nameless} = streams(Packed, 0, Spelled, #{}, 0),
     Ordered = seqaudit_spawns:births_first(Streams, Births),
-    {maps:from_list([{binary:copy(spell(Party, Spelled)), Places}
-                     || {Party, Places} <- maps:to_list(Ordered)]),
-     Nameless, byte_size(Packed) div ?PACKED_SIZE - Nameless}.
+    ByPid = maps:from_list([{spell(Party, Spelled), Places}
+                            || {Party, Places} <- maps:to_list(Ordered)]),
+    Pids = [list_to_binary(seqaudit_processes:spell(Number)) || {Number, _} <- Sorted],
+    {[{Pid, maps:get(Pid, ByPid, <<>>)} || Pid <- Pids], Nameless}.
 
 streams(<<?PACKED(Kind, _Label, _Prev, _This, From, To, _Value, _Time), Rest/binary>>, Place,
         Spelled, Streams, Nameless) ->
@@ -240,12 +228,11 @@ header(false, Sorted) ->
         false -> <<"seqtrace 1\n">>
     end.
 
-bundle(Sorted, Streams, Packed, Texts, Out) ->
-    lists:foreach(fun({Number, _Party}) ->
-                          Spelled = list_to_binary(seqaudit_processes:spell(Number)),
-                          ok = Out([<<"process ">>, Spelled, $\n]),
-                          lines(maps:get(Spelled, Streams, <<>>), <<>>, Packed, Texts, Out)
-                  end, Sorted).
+bundle(Streams, Packed, Texts, Out) ->
+    lists:foreach(fun({Pid, Places}) ->
+                          ok = Out([<<"process ">>, Pid, $\n]),
+                          lines(Places, <<>>, Packed, Texts, Out)
+                  end, Streams).
 
 %% The record of the event before tells whether an event is the answer of a spawn.
 lines(<<>>, _Last, _Packed, _Texts, _Out) ->
@@ -285,27 +272,24 @@ terms(Sorted, Labels, {Known, Values}, {Numbers, Dots}, Out) ->
                unicode:characters_to_binary(seqaudit_terms:plain(Name)), $\n]
               || {Node, Name} <- seqaudit_processes:further_nodes(Sorted)]),
     ok = Out([entry(<<"label">>, Number, Label, Numbers, <<>>) || {Number, Label} <- Labels]),
-    seqaudit_workers:in_turn([fun() ->
-                                      Entries = entries(First, Values, Numbers),
-                                      ok = note_dots(First, Entries, Dots),
-                                      Entries
-                              end || First <- shares(Values)], Out).
+    seqaudit_workers:fold([fun() ->
+                                   Entries = entries(First, Values, Numbers),
+                                   ok = note_dots(First, Entries, Dots),
+                                   Entries
+                           end || First <- shares(Values)], fun(Text, ok) -> Out(Text) end, ok).
 
 shares(Values) -> lists:seq(0, seqaudit_numbers:size(Values) - 1, ?SHARE).
 
 entries(First, Table, Numbers) ->
-    {Text, _} = lists:foldl(fun(Value, {Before, Number}) ->
-                                    {entry(<<"value">>, Number, Value, Numbers, Before), Number + 1}
-                            end, {<<>>, First}, seqaudit_numbers:part(First, ?SHARE, Table)),
-    Text.
+    lists:foldl(fun({Number, Value}, Before) ->
+                        entry(<<"value">>, Number, Value, Numbers, Before)
+                end, <<>>, lists:enumerate(First, seqaudit_numbers:part(First, ?SHARE, Table))).
 
 note_dots(First, Entries, Dots) ->
-    Lines = case binary:match(Entries, <<"...">>) of
-                nomatch -> [];
-                _ -> binary:split(Entries, <<"\n">>, [global])
-            end,
-    _ = [atomics:put(Dots, Number + 1, 1) || {Number, Line} <- lists:enumerate(First, Lines),
-                                             binary:match(Line, <<"...">>) =/= nomatch],
+    _ = [atomics:put(Dots, Number + 1, 1)
+         || binary:match(Entries, <<"...">>) =/= nomatch,
+            {Number, Line} <- lists:enumerate(First, binary:split(Entries, <<"\n">>, [global])),
+            binary:match(Line, <<"...">>) =/= nomatch],
     ok.
 
 %% The whole texts of the values that are cut in the legend. Each may be large, so they are made one

@@ -53,7 +53,7 @@ over(#{facts := #{by := port, written := Written, came := Came, kept := Kept, ke
 over(_) ->
     {0, 0}.
 
-%% @doc The facts, of which each sentence is a note; nothing if there is nothing to say.
+%% @doc The facts, whose sentences are the notes.
 -spec facts(#{collections := [seqaudit_build:collected()], counts := #{atom() => non_neg_integer()},
               samples := #{atom() => [string()]}, wrapped := boolean(),
               events := non_neg_integer(), atom() => term()}) -> [fact()].
@@ -67,7 +67,6 @@ facts(#{collections := Collections, counts := Counts, samples := Samples, wrappe
 
 of_kind(Kind, Sentences) -> [{Kind, Sentence} || Sentence <- Sentences].
 
-%% @doc The text of `NAME.facts'.
 -spec facts_text([fact()]) -> unicode:chardata().
 facts_text(Facts) ->
     [?HEADER, $\n,
@@ -202,7 +201,7 @@ parts(Why) ->
     end.
 
 reason(Term) ->
-    seqaudit_terms:short(seqaudit_terms:encoded(Term), ?REASON).
+    seqaudit_terms:short(seqaudit_terms:encoded(Term, #{}), ?REASON).
 
 split(Node, #{split := Split}) ->
     case [seqaudit_external:number(Part) || Part <- parts(Split)] of

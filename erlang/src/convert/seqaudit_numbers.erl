@@ -39,7 +39,6 @@ numbers(Terms, #table{numbers = Numbers, listed = Listed} = Table) ->
     true = New =:= [] orelse ets:insert(Listed, {First, lists:reverse(New)}),
     Given.
 
-%% @doc How many terms have a number.
 -spec size(table()) -> non_neg_integer().
 size(#table{numbers = Numbers}) ->
     ets:info(Numbers, size).
@@ -59,12 +58,10 @@ part(Begin, Passed, Count, Listed) ->
         _ -> lists:sublist(Terms, Count)
     end.
 
-%% @doc All terms in the order of their numbers.
 -spec listed(table()) -> [seqaudit_external:encoded()].
 listed(#table{listed = Listed}) ->
     lists:append([Terms || {_, Terms} <- ets:tab2list(Listed)]).
 
-%% @doc No terms yet.
 -spec few() -> few().
 few() ->
     {#{}, []}.
@@ -82,7 +79,6 @@ number_few(Term, {Numbers, LastFirst} = Few) ->
             {Number, {Numbers#{Copy => Number}, [Copy | LastFirst]}}
     end.
 
-%% @doc These terms in the order of their numbers.
 -spec terms(few()) -> [seqaudit_external:encoded()].
 terms({_, LastFirst}) ->
     lists:reverse(LastFirst).

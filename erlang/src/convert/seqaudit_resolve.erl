@@ -31,10 +31,7 @@ resolve(#build{packed = Packed} = Build) ->
             ok = receivers(Packed, Received, Senders),
             {Owners, Begun} = asked(unreceived(Packed, Received), Build),
             ok = replied(Packed, Received, Begun, #{}),
-            rewritten(seqaudit_workers:shares(Packed, fun(Part, _) ->
-                                                              rewrite(Part, Received, Owners, #{},
-                                                                      <<>>)
-                                                      end))
+            rewrite(Packed, Received, Owners)
     after
         ets:delete(Received)
     end.
@@ -145,11 +142,20 @@ got(Key, Child, Received) ->
         _ -> true
     end.
 
-rewritten(Shares) ->
-    {iolist_to_binary([Packed || {Packed, _} <- Shares]),
-     lists:foldl(fun({_, Counts}, Sum) ->
-                         maps:merge_with(fun(_, Before, More) -> Before + More end, Sum, Counts)
-                 end, #{}, Shares)}.
+%% The records are rewritten in shares, one a scheduler.
+rewrite(Packed, Received, Owners) ->
+    Bytes = byte_size(Packed),
+    Size = ?PACKED_SIZE * (Bytes div ?PACKED_SIZE div erlang:system_info(schedulers_online) + 1),
+    Rewrite = fun(First) ->
+                      Share = binary:part(Packed, First, min(Size, Bytes - First)),
+                      rewrite(Share, Received, Owners, #{}, <<>>)
+              end,
+    Add = fun(_, Before, More) -> Before + More end,
+    seqaudit_workers:fold([fun() -> Rewrite(First) end || First <- lists:seq(0, Bytes - 1, Size)],
+                          fun({Rewritten, Counts}, {Done, Sum}) ->
+                                  {<<Done/binary, Rewritten/binary>>,
+                                   maps:merge_with(Add, Sum, Counts)}
+                          end, {<<>>, #{}}).
 
 rewrite(<<?KEYED(?SEND, Key, To0, Time), Rest/binary>>, Received, Owners, Counts, Done)
   when ?IS_OTHER(To0) ->

@@ -12,9 +12,9 @@
 
 -include("seqaudit_packed.hrl").
 
--export([read/1, senders/1, births/3, births_first/2, learn/5, has_wrapped/2, is_answer/4, there/1,
-         with_tags/4]).
--export_type([spawns/0, senders/0, births/0]).
+-export([read/2, births/2, births_first/2, learn/5, has_wrapped/2, is_answer/3, there/1,
+         with_tags/3]).
+-export_type([spawns/0, births/0]).
 
 %% Kinds of values. The rest of the number is a hash of the process that has to be the sender.
 -define(OTHER_MESSAGE, 0).
@@ -30,26 +30,21 @@
 %% serial shows without a minus.
 -define(LEAST_TO_WRAP, (1 bsl 55)).
 
--opaque spawns() :: atomics:atomics_ref().
-%% The kind of each value, by its number.
-
--opaque senders() :: binary().
-%% The hash of each actor, by its number.
+-opaque spawns() :: {Kinds :: atomics:atomics_ref(), Actors :: binary()}.
+%% The kind of each value, and the hash of each actor, by their numbers.
 
 -opaque births() :: #{Process :: non_neg_integer() =>
                           #{request | remote | reply => Place :: non_neg_integer()}}.
 %% The first place of each event that may be of a process's birth.
 
--type known() :: #{seqaudit_external:encoded() => seqaudit_events:about()}.
-
 %% @doc Looks the messages through for those by which OTP spawns.
--spec read(seqaudit_numbers:table()) -> spawns().
-read(Values) ->
+-spec read(seqaudit_numbers:table(), Actors :: [seqaudit_external:encoded()]) -> spawns().
+read(Values, Actors) ->
     Size = seqaudit_numbers:size(Values),
-    Spawns = atomics:new(Size + 1, []),
+    Kinds = atomics:new(Size + 1, []),
     Read = fun(First) ->
                    Terms = seqaudit_numbers:part(First, ?AT_ONCE, Values),
-                   [atomics:put(Spawns, Number + 1, Spawn)
+                   [atomics:put(Kinds, Number + 1, Spawn)
                     || {Number, Term} <- lists:enumerate(First, Terms),
                        Spawn <- [message(Term)], Spawn =/= ?OTHER_MESSAGE],
                    ok
@@ -57,7 +52,7 @@ read(Values) ->
     ok = seqaudit_workers:fold([fun() -> Read(First) end
                                 || First <- lists:seq(0, Size - 1, ?AT_ONCE)],
                                fun(ok, ok) -> ok end, ok),
-    Spawns.
+    {Kinds, << <<(erlang:phash2(Actor)):32>> || Actor <- Actors >>}.
 
 message(<<104, 8, 100, 13:16, "spawn_request", _/binary>> = Term) ->
     [_, _Reference, Parent, _Leader, Call, _Options, _Tag, _Arguments] =
@@ -89,35 +84,28 @@ sent_by(Process, Kind) -> erlang:phash2(Process) * ?KINDS + Kind.
           {request, Reference :: seqaudit_external:encoded()}
         | {reply, Reference :: seqaudit_external:encoded(), Child :: seqaudit_external:encoded()}
         | none.
-there(<<104, 6, 100, 13:16, "spawn_request", _/binary>> = Term) ->
-    [_, Reference | _] = seqaudit_external:tuple(Term),
-    {request, Reference};
-there(<<104, 4, 100, 11:16, "spawn_reply", _/binary>> = Term) ->
+there(Term) ->
     case message(Term) rem ?KINDS of
+        ?REMOTE_REQUEST ->
+            [_, Reference | _] = seqaudit_external:tuple(Term),
+            {request, Reference};
         ?REMOTE_REPLY ->
             [_, Reference, _Result, Child] = seqaudit_external:tuple(Term),
             {reply, Reference, Child};
         _ -> none
-    end;
-there(_) ->
-    none.
-
-%% @doc The hashes of the actors, in the order of their numbers.
--spec senders([seqaudit_external:encoded()]) -> senders().
-senders(Actors) ->
-    << <<(erlang:phash2(Actor)):32>> || Actor <- Actors >>.
+    end.
 
 %% Returns the kind of an event's message. One that another process sends on is no spawn; a node
 %% refuses in its own name.
-kind(From, Value, Senders, Spawns) ->
-    case atomics:get(Spawns, Value + 1) of
+kind(From, Value, {Kinds, Actors}) ->
+    case atomics:get(Kinds, Value + 1) of
         ?OTHER_MESSAGE ->
             ?OTHER_MESSAGE;
         ?REFUSAL when From >= ?OTHER ->
             ?REFUSAL;
         Spawn when From < ?OTHER ->
             Hash = Spawn div ?KINDS,
-            case binary:part(Senders, 4 * From, 4) of
+            case binary:part(Actors, 4 * From, 4) of
                 <<Hash:32>> -> Spawn rem ?KINDS;
                 _ -> ?OTHER_MESSAGE
             end;
@@ -125,10 +113,9 @@ kind(From, Value, Senders, Spawns) ->
             ?OTHER_MESSAGE
     end.
 
-%% @doc Looks for the events of births.
--spec births(seqaudit_build:packed(), senders(), spawns()) -> births().
-births(Packed, Senders, Spawns) ->
-    births(Packed, 0, Senders, Spawns, #{}).
+-spec births(seqaudit_build:packed(), spawns()) -> births().
+births(Packed, Spawns) ->
+    births(Packed, 0, Spawns, #{}).
 
 %% @doc The places of each process's events, with those of its birth first.
 -spec births_first(#{non_neg_integer() => binary()}, births()) -> #{non_neg_integer() => binary()}.
@@ -142,18 +129,18 @@ births_first(Streams, Births) ->
 
 %% Keeps the first places of what may be a process's birth. A request that the other node refuses is
 %% received by that node.
-births(<<?PACKED(Kind, _L, _P, _T, From, To, Value, _Time), Rest/binary>>, Place, Senders, Spawns,
+births(<<?PACKED(Kind, _L, _P, _T, From, To, Value, _Time), Rest/binary>>, Place, Spawns,
        Births) ->
-    case {Kind, Kind =/= ?PRINT andalso kind(From, Value, Senders, Spawns)} of
-        {?SEND, Reply} when Reply =:= ?REPLY; Reply =:= ?REMOTE_REPLY ->
-            births(Rest, Place + 1, Senders, Spawns, birth(From, reply, Place, Births));
-        {?RECEIVE, ?REMOTE_REQUEST} when To < ?OTHER ->
-            births(Rest, Place + 1, Senders, Spawns, birth(To, remote, Place, Births));
-        {?RECEIVE, Request} when Request =:= ?REQUEST; Request =:= ?ASYNCHRONOUS_REQUEST ->
-            births(Rest, Place + 1, Senders, Spawns, birth(To, request, Place, Births));
-        _ -> births(Rest, Place + 1, Senders, Spawns, Births)
-    end;
-births(<<>>, _Place, _Senders, _Spawns, Births) ->
+    More = case {Kind, Kind =/= ?PRINT andalso kind(From, Value, Spawns)} of
+               {?SEND, Reply} when Reply =:= ?REPLY; Reply =:= ?REMOTE_REPLY ->
+                   birth(From, reply, Place, Births);
+               {?RECEIVE, ?REMOTE_REQUEST} when To < ?OTHER -> birth(To, remote, Place, Births);
+               {?RECEIVE, Request} when Request =:= ?REQUEST; Request =:= ?ASYNCHRONOUS_REQUEST ->
+                   birth(To, request, Place, Births);
+               _ -> Births
+           end,
+    births(Rest, Place + 1, Spawns, More);
+births(<<>>, _Place, _Spawns, Births) ->
     Births.
 
 birth(Process, What, Place, Births) ->
@@ -173,11 +160,11 @@ first(Birth, Places) ->
     end.
 
 %% @doc The records with the replies of other nodes as they were received, with their tags.
--spec with_tags(seqaudit_build:packed(), senders(), spawns(), seqaudit_numbers:table()) ->
+-spec with_tags(seqaudit_build:packed(), spawns(), seqaudit_numbers:table()) ->
           seqaudit_build:packed().
-with_tags(Packed, Senders, Spawns, Values) ->
+with_tags(Packed, Spawns, Values) ->
     Sent = maps:groups_from_list(fun({Key, _}) -> Key end, fun({_, Value}) -> Value end,
-                                 sent_there(Packed, Senders, Spawns)),
+                                 sent_there(Packed, Spawns)),
     Tags = maps:from_list([{Reply, Value}
                            || map_size(Sent) > 0,
                               <<?WITH_VALUE(?RECEIVE, Key, Value, _)>> <= Packed,
@@ -191,10 +178,10 @@ with_tags(Packed, Senders, Spawns, Values) ->
 
 %% The replies that another node sent, by what they have in common with their receives. A node may
 %% refuse two processes with the same counts.
-sent_there(Packed, Senders, Spawns) ->
+sent_there(Packed, Spawns) ->
     [{Key, Value} || <<?WITH_VALUE(?SEND, Key, Value, _)>> <= Packed,
                      <<From:32, _/binary>> <- [Key],
-                     lists:member(kind(From, Value, Senders, Spawns), [?REMOTE_REPLY, ?REFUSAL])].
+                     lists:member(kind(From, Value, Spawns), [?REMOTE_REPLY, ?REFUSAL])].
 
 without_tag(Number, Values) ->
     [Term] = seqaudit_numbers:part(Number, 1, Values),
@@ -206,9 +193,8 @@ without_tag(Number, Values) ->
 %% @doc Adds to what is known of processes the calls by which those began that nobody asked in time:
 %% the requests that spawned them say it.
 -spec learn(births(), seqaudit_build:packed(), Actors :: [seqaudit_external:encoded()],
-            seqaudit_numbers:table(), known()) -> known().
-learn(Births, _Packed, _Actors, _Values, Known) when map_size(Births) =:= 0 ->
-    Known;
+            seqaudit_numbers:table(), Known) -> Known
+              when Known :: #{seqaudit_external:encoded() => seqaudit_events:about()}.
 learn(Births, Packed, Listed, Values, Known) ->
     Actors = list_to_tuple(Listed),
     Wanted = [{value(Place, Packed), Process}
@@ -288,27 +274,27 @@ owned(_) ->
 %% counts again, perhaps below the other number of the serial. So do those of a token that was put
 %% back and that its process had made while it had none, but they go on from 1.
 -spec has_wrapped(seqaudit_build:packed(), spawns()) -> boolean().
-has_wrapped(Packed, Spawns) -> has_wrapped(Packed, Spawns, #{}).
+has_wrapped(Packed, {Kinds, _}) -> has_wrapped(Packed, Kinds, #{}).
 
-has_wrapped(<<?PACKED(_K, _L, Prev, This, _F, _O, _V, _Time), _/binary>>, _Spawns, _Made)
+has_wrapped(<<?PACKED(_K, _L, Prev, This, _F, _O, _V, _Time), _/binary>>, _Kinds, _Made)
   when Prev < 0; This < 0 -> true;
-has_wrapped(<<?PACKED(Kind, _L, Prev, This, _F, _O, _V, _Time), Rest/binary>>, Spawns, Made)
+has_wrapped(<<?PACKED(Kind, _L, Prev, This, _F, _O, _V, _Time), Rest/binary>>, Kinds, Made)
   when Prev >= This ->
     (Kind =/= ?RECEIVE andalso This =/= 1 andalso not is_map_key({Prev, This - 1}, Made))
-        orelse has_wrapped(Rest, Spawns, Made#{{Prev, This} => made});
-has_wrapped(<<?PACKED(?RECEIVE, _L, _P, This, _F, _O, Value, _Time), Rest/binary>>, Spawns, Made)
+        orelse has_wrapped(Rest, Kinds, Made#{{Prev, This} => made});
+has_wrapped(<<?PACKED(?RECEIVE, _L, _P, This, _F, _O, Value, _Time), Rest/binary>>, Kinds, Made)
   when This >= ?LEAST_TO_WRAP ->
-    atomics:get(Spawns, Value + 1) rem ?KINDS =:= ?REPLY orelse has_wrapped(Rest, Spawns, Made);
-has_wrapped(<<_:?PACKED_SIZE/binary, Rest/binary>>, Spawns, Made) ->
-    has_wrapped(Rest, Spawns, Made);
-has_wrapped(<<>>, _Spawns, _Made) -> false.
+    atomics:get(Kinds, Value + 1) rem ?KINDS =:= ?REPLY orelse has_wrapped(Rest, Kinds, Made);
+has_wrapped(<<_:?PACKED_SIZE/binary, Rest/binary>>, Kinds, Made) ->
+    has_wrapped(Rest, Kinds, Made);
+has_wrapped(<<>>, _Kinds, _Made) -> false.
 
 %% @doc Whether an event is the answer of a spawn, by the event that comes before it in its
 %% process's stream.
--spec is_answer(binary(), binary(), senders(), spawns()) -> boolean().
+-spec is_answer(binary(), binary(), spawns()) -> boolean().
 is_answer(<<?PACKED(?SEND, _, _, _, Parent, Child, Request, _)>>,
-          <<?PACKED(?RECEIVE, _, _, _, Child, Parent, Reply, _)>>, Senders, Spawns) ->
-    kind(Parent, Request, Senders, Spawns) =:= ?REQUEST
-        andalso kind(Child, Reply, Senders, Spawns) =:= ?REPLY;
-is_answer(_Before, _Event, _Senders, _Spawns) ->
+          <<?PACKED(?RECEIVE, _, _, _, Child, Parent, Reply, _)>>, Spawns) ->
+    kind(Parent, Request, Spawns) =:= ?REQUEST
+        andalso kind(Child, Reply, Spawns) =:= ?REPLY;
+is_answer(_Before, _Event, _Spawns) ->
     false.

@@ -6,8 +6,7 @@
 %% so that a term of a file is printed and never made.
 -module(seqaudit_terms).
 
--export([label_numbers/1, encoded/1, encoded/2, append/3, whole/2, atom/1, plain/1, call/1,
-         short/2]).
+-export([label_numbers/1, encoded/2, append/3, whole/2, atom/1, plain/1, call/1, short/2]).
 
 -define(GREATEST_LABEL, 4_294_967_295).
 %% Labels that aren't numbers from 0 to the greatest are numbered from here.
@@ -42,33 +41,24 @@
 -record(style, {numbers :: numbers(), bytes = ?BYTES :: pos_integer(),
                 unordered = 0 :: non_neg_integer()}).
 
-%% @doc A number for each different label: its own if it is a whole number in range, else one
-%% that no label has.
+%% @doc A number for each label: its own if it is a whole number in range, else one that no label
+%% has.
 -spec label_numbers([seqaudit_external:encoded()]) ->
           #{seqaudit_external:encoded() => 0..?GREATEST_LABEL}.
 label_numbers(Labels) ->
     {Own, Others} = lists:partition(fun is_own/1, Labels),
     Kept = maps:from_list([{Label, seqaudit_external:number(Label)} || Label <- Own]),
-    Taken = maps:from_list([{Number, taken} || Number <- maps:values(Kept)]),
+    Taken = maps:from_keys(maps:values(Kept), taken),
     {Numbers, _, _} = lists:foldl(fun number_label/2, {Kept, ?FIRST_LABEL, Taken}, Others),
     Numbers.
 
 is_own(Label) ->
-    case seqaudit_external:number(Label) of
-        other -> false;
-        Number -> Number >= 0 andalso Number =< ?GREATEST_LABEL
-    end.
+    Number = seqaudit_external:number(Label),
+    is_integer(Number) andalso Number >= 0 andalso Number =< ?GREATEST_LABEL.
 
-number_label(Label, {Numbers, Next, Taken})
-  when is_map_key(Label, Numbers) -> {Numbers, Next, Taken};
 number_label(Label, {Numbers, Next, Taken}) when is_map_key(Next, Taken) ->
     number_label(Label, {Numbers, Next + 1, Taken});
 number_label(Label, {Numbers, Next, Taken}) -> {Numbers#{Label => Next}, Next + 1, Taken}.
-
-%% @equiv encoded(Term, #{})
--spec encoded(seqaudit_external:encoded()) -> string().
-encoded(Term) ->
-    encoded(Term, #{}).
 
 %% @doc The term of these bytes as Erlang prints it, on one line, cut if it is large. A process with
 %% a number in the bundle is spelled by it: how Erlang prints one of another node differs from node
@@ -204,13 +194,11 @@ print_string(String, Parts, #style{bytes = Most}, Before) ->
     case {io_lib:printable_unicode_list(Begin), byte_size(String) =< Parts} of
         {true, _} -> append_quoted(unicode:characters_to_binary(Begin), Most, Before);
         {false, true} -> <<(append_bytes(String, <<Before/binary, $[>>))/binary, $]>>;
+        {false, false} when Parts =:= 0 -> <<Before/binary, "[...]">>;
         {false, false} ->
             Shown = append_bytes(binary:part(String, 0, Parts), <<Before/binary, $[>>),
-            <<Shown/binary, (separator(Parts))/binary, "...]">>
+            <<Shown/binary, ",...]">>
     end.
-
-separator(0) -> <<>>;
-separator(_) -> <<$,>>.
 
 append_bytes(<<Byte>>, Before) -> <<Before/binary, (integer_to_binary(Byte))/binary>>;
 append_bytes(<<Byte, Rest/bitstring>>, Before) ->
@@ -281,7 +269,9 @@ leaf({process, Process}, #style{numbers = Numbers}, Before) ->
         #{} ->
             <<Before/binary, (process(Process, Numbers))/binary>>
     end;
-leaf({reference, Ids}, _, Before) -> <<(numbered(Ids, <<Before/binary, "#Ref<0">>))/binary, $>>>;
+leaf({reference, Ids}, _, Before) ->
+    Dotted = << <<$., (integer_to_binary(Id))/binary>> || Id <- Ids >>,
+    <<Before/binary, "#Ref<0", Dotted/binary, $>>>;
 leaf({bits, Bits}, #style{bytes = Most}, Before)
   when bit_size(Bits) > 8 * ?BYTES, bit_size(Bits) =< 8 * Most ->
     append_bits(Bits, Before);
@@ -335,10 +325,6 @@ append_text(Text, Before) ->
     <<_:Size/binary, Later/binary>> = Text,
     append_text(Later, <<Before/binary, (escaped(Characters))/binary>>).
 
-numbered([], Before) -> Before;
-numbered([Id | Ids], Before) ->
-    numbered(Ids, <<Before/binary, $., (integer_to_binary(Id))/binary>>).
-
 seldom({large_integer, Size}) -> ["{...,{number_of_bytes,", integer_to_binary(Size), "}}"];
 seldom({float, Float}) -> formatted("~0tp", [Float]);
 seldom({bits, Bits}) when bit_size(Bits) > 8 * ?BYTES ->
@@ -365,7 +351,7 @@ call(Call) ->
     case seqaudit_external:call(Call) of
         {Module, Function, Arity} ->
             lists:flatten([atom(Module), $:, atom(Function), $/, integer_to_list(Arity)]);
-        other -> encoded(Call)
+        other -> encoded(Call, #{})
     end.
 
 %% @doc An atom's text, in quotes if Erlang needs them. The atom isn't made.
@@ -390,7 +376,6 @@ needs_quotes_alone(<<C, Rest/binary>>)
   when C >= $\s, C < 127, C =/= $', C =/= $\\ -> needs_quotes_alone(Rest);
 needs_quotes_alone(Rest) -> Rest =:= <<>>.
 
-%% Words of which Erlang makes no atoms without quotes.
 is_reserved(Name) ->
     lists:member(Name, [<<"after">>, <<"and">>, <<"andalso">>, <<"band">>, <<"begin">>, <<"bnot">>,
                         <<"bor">>, <<"bsl">>, <<"bsr">>, <<"bxor">>, <<"case">>, <<"catch">>,

@@ -8,27 +8,20 @@
 
 -include("seqaudit_packed.hrl").
 
--export([write/4]).
+-export([write/3]).
 
 -define(HEADER, <<"seqaudit times 1">>).
 
 %% @doc Hands the text of the file on, piece by piece.
--spec write([{seqaudit_processes:pid_number(), term()}], #{binary() => binary()},
-            seqaudit_build:packed(), fun((iodata()) -> ok)) -> ok.
-write(Sorted, Streams, Packed, Out) ->
-    First = seqaudit_build:fold(fun({_, _, _, _, _, _, _, ?NO_TIME}, First) -> First;
-                                   ({_, _, _, _, _, _, _, Time}, First) -> min(Time, First)
-                                end, infinity, Packed),
+-spec write([{Pid :: binary(), Places :: binary()}], seqaudit_build:packed(),
+            fun((iodata()) -> ok)) -> ok.
+write(Streams, Packed, Out) ->
+    First = first(Packed, infinity),
     ok = Out([?HEADER, <<"\nbegin ">>, integer_to_binary(First), $\n]),
     Sends = ets:new(sends, [set, private]),
     try
-        Listed = [{Spelled, maps:get(Spelled, Streams, <<>>)}
-                  || {Number, _} <- Sorted,
-                     Spelled <- [list_to_binary(seqaudit_processes:spell(Number))]],
         Each = fun(Do) ->
-                       lists:foreach(fun({Spelled, Places}) -> each(Places, Spelled, Packed, Do,
-                                                                    Out) end,
-                                     Listed)
+                       lists:foreach(fun(Stream) -> each(Stream, Packed, Do, Out) end, Streams)
                end,
         Each(fun(Event, Record) -> event(Event, Record, First, Sends) end),
         Each(fun(_Event, Record) -> count(Record, Sends) end),
@@ -37,12 +30,15 @@ write(Sorted, Streams, Packed, Out) ->
         ets:delete(Sends)
     end.
 
+first(<<?PACKED(_K, _L, _P, _T, _F, _O, _V, Time), Rest/binary>>, First) when Time =/= ?NO_TIME ->
+    first(Rest, min(Time, First));
+first(<<_:?PACKED_SIZE/binary, Rest/binary>>, First) -> first(Rest, First);
+first(<<>>, First) -> First.
+
 %% The lines of a process are handed on together.
-each(Places, Spelled, Packed, Do, Out) ->
-    Numbered = lists:zip(lists:seq(0, byte_size(Places) div 4 - 1),
-                         [Place || <<Place:32>> <= Places]),
-    ok = Out([Do({Spelled, I}, binary:part(Packed, Place * ?PACKED_SIZE, ?PACKED_SIZE))
-              || {I, Place} <- Numbered]).
+each({Pid, Places}, Packed, Do, Out) ->
+    ok = Out([Do({Pid, I}, binary:part(Packed, Place * ?PACKED_SIZE, ?PACKED_SIZE))
+              || {I, Place} <- lists:enumerate(0, [Place || <<Place:32>> <= Places])]).
 
 event(_Event, <<?PACKED(_K, _L, _P, _T, _F, _O, _V, ?NO_TIME)>>, _First, _Sends) ->
     [];
