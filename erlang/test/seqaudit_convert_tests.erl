@@ -114,6 +114,10 @@ ambiguous_aliases_test() ->
     ["<0.65535.0>"] = receivers(send, Two),
     true = noted("1 send to an alias or a name that two receives or requests fit", Two),
     ["<0.31.0>"] = receivers(send, convert([Send, Received(A), Received(A)])),
+    %% One message went to two aliases, and one of their processes has received it yet.
+    Again = {seq_trace, 1, {send, {1, 2}, S, make_ref(), {R, ok}}},
+    ["<0.65534.0>", "<0.65535.0>"] =
+        lists:sort(receivers(send, convert([Send, Again, Received(A)]))),
     Asks = fun(Owner) ->
                    {seq_trace, 1,
                     {'receive', {0, 1}, Owner, S, {'$gen_call', {Owner, [alias | R]}, x}}}

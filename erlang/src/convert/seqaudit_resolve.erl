@@ -5,8 +5,9 @@
 %% an alias or a name is resolved by the receive with the same from, serial, label and message;
 %% else, for an alias, by the request that handed the alias out. The request to spawn on another
 %% node names the node, as do the arguments, which come right behind it: both go to the process
-%% whose reply has the request's reference. If two processes fit, as after a reset, it isn't known
-%% who received it; then, and if nothing fits, the alias or the name stays a party of its own.
+%% whose reply has the request's reference. If two processes fit, as after a reset, or alike sends
+%% went to two aliases or names, it isn't known who received which; then, and if nothing fits, the
+%% alias or the name stays a party of its own.
 -module(seqaudit_resolve).
 
 -include("seqaudit_packed.hrl").
@@ -38,7 +39,9 @@ resolve(#build{packed = Packed} = Build) ->
 
 %% Puts the sends to aliases and names into the table, and finds out who sends them.
 want(<<?KEYED(?SEND, Key, To, _Time), Rest/binary>>, Received, Senders) when ?IS_OTHER(To) ->
-    true = ets:insert(Received, {Key, none}),
+    true = ets:insert_new(Received, {Key, none, To})
+        orelse ets:lookup_element(Received, Key, 3) =:= To
+        orelse ets:update_element(Received, Key, {2, several}),
     <<From:32, _/binary>> = Key,
     want(Rest, Received, Senders#{From => []});
 want(<<_:?PACKED_SIZE/binary, Rest/binary>>, Received, Senders) ->
@@ -51,8 +54,8 @@ receivers(<<?PACKED(?RECEIVE, _, _, _, From, To, _, _), _/binary>> = Packed, Rec
   when To < ?OTHER, is_map_key(From, Senders) ->
     <<?KEYED(?RECEIVE, Key, _To, _Time), Rest/binary>> = Packed,
     case ets:lookup(Received, Key) of
-        [{_, none}] -> true = ets:insert(Received, {Key, To});
-        [{_, Other}] when Other =/= To -> true = ets:insert(Received, {Key, several});
+        [{_, none, _}] -> true = ets:update_element(Received, Key, {2, To});
+        [{_, Other, _}] when Other =/= To -> true = ets:update_element(Received, Key, {2, several});
         _ -> true
     end,
     receivers(Rest, Received, Senders);
@@ -63,7 +66,7 @@ receivers(<<>>, _Received, _Senders) ->
 
 %% The aliases and names of sends that no receive resolves.
 unreceived(Packed, Received) ->
-    case ets:match(Received, {'_', none}, 1) of
+    case ets:match(Received, {'_', none, '_'}, 1) of
         '$end_of_table' -> #{};
         _ -> unreceived(Packed, Received, #{})
     end.
@@ -137,8 +140,8 @@ replied(_Packed, _Received, _Begun, _Behind) ->
 %% A receive says it best. Of alike arguments it isn't known whose they were.
 got(Key, Child, Received) ->
     case ets:lookup_element(Received, Key, 2) of
-        none -> ets:insert(Received, {Key, {reply, Child}});
-        {reply, Other} when Other =/= Child -> ets:insert(Received, {Key, several});
+        none -> ets:update_element(Received, Key, {2, {reply, Child}});
+        {reply, Other} when Other =/= Child -> ets:update_element(Received, Key, {2, several});
         _ -> true
     end.
 
