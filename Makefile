@@ -5,6 +5,10 @@ PROGRAMS = seqaudit seqtool
 
 PREFIX ?= /usr/local
 
+# End a target with one line if its tool isn't there.
+HAS_RT = command -v rt >/dev/null || { echo "There is no rt, the command of Rattle's toolchain: 'make rust' builds the same programs as plain Rust, not proved." >&2; exit 1; }
+HAS_CARGO = [ -z "$$(rust/packages rust)" ] || { rust/packages --tell rust crates >&2; exit 1; }
+
 # What a program is made of, and what of it runs.
 SOURCES := crates.txt $(shell find crates -path '*/out' -prune -o -type f -print)
 CODE := crates.txt .ci/quick .ci/quick-clang $(filter %.rt,$(SOURCES))
@@ -21,7 +25,8 @@ help:
 # A build takes one processor, and up to 2 GB.
 QUICK_AT_ONCE = $(shell awk '/^MemAvailable/ { print ($$2 < 5000000 ? 1 : 2) }' /proc/meminfo)
 
-quick: ## builds both programs without their proofs, in bin/quick/ (3 to 4 minutes)
+quick: ## builds both programs without their proofs, in bin/quick/ (3 to 4 minutes; needs rt)
+	@$(HAS_RT)
 	@$(MAKE) --no-print-directory -j$(QUICK_AT_ONCE) $(PROGRAMS:%=bin/quick/%)
 
 bin/quick/%: $(CODE)
@@ -35,10 +40,12 @@ try: ## builds what this machine builds quickest, and audits, explains and draws
 # it are proved from nothing.
 PROVE = .ci/prove $(if $(KEEP),--keep)
 
-program: ## proves both programs and all below them, and builds them in bin/ (18 to 23 minutes; KEEP=1 takes more disk and makes it short after an edit)
+program: ## proves both programs and all below them, and builds them in bin/ (18 to 23 minutes; needs rt; KEEP=1 takes more disk and makes it short after an edit)
+	@$(HAS_RT)
 	@$(PROVE) $(PROGRAMS)
 
 bin/%: $(SOURCES)
+	@$(HAS_RT)
 	@$(PROVE) $*
 
 demo: bin/seqaudit bin/seqtool ## runs the proved programs on examples/ and compares what they write (seconds, after program)
@@ -53,7 +60,8 @@ rust: ## writes the programs as plain Rust, not proved, and builds them in bin/r
 try-page: ## writes docs/try.html, a page in which gemshowal runs in a browser (2 to 4 minutes; needs cargo, and Rust's library for wasm32-wasip1)
 	@rust/browser/build docs/try.html
 
-dist: ## packs the same with docs, man pages and erlang/ as bin/gemshowal-VERSION.tar.gz (at once; needs cargo)
+dist: ## packs the sources of make rust with docs, man pages and erlang/ as bin/gemshowal-VERSION.tar.gz (seconds; needs cargo)
+	@$(HAS_CARGO)
 	@rust/dist
 
 install: ## copies the programs that were built, the proved ones first, man pages and completions to PREFIX (at once)
@@ -87,11 +95,11 @@ layout: ## names the sources that rt fmt would lay out otherwise (20 seconds)
 
 # A crate cites of another crate's proofs its lemmas for callers alone, and none of its definitions for the parts alone.
 # No definition and no public type has the name of another crate's, and no file of code a bare participle for its name.
-layers: ## looks what each crate cites of the others, and for names that two have (1 second)
+layers: ## checks what each crate cites of the others, and that no name is in two (1 second)
 	@.ci/layers
 	@.ci/names
 
-clauses: ## looks for functions without a clause (1 second)
+clauses: ## names the functions without a clause (1 second)
 	@.ci/clauses
 
 planned: ## compares the public calls with those that were planned (1 second)
@@ -100,14 +108,14 @@ planned: ## compares the public calls with those that were planned (1 second)
 plan: ## plans builds of made-up crates, as make program plans the real one (1 second)
 	@tests/build_plan
 
-docs: ## writes into the pages what the sources decide: limits, crates, counts, the functions of CALLING.md (1 second)
+docs: ## writes into the pages what the sources decide: limits, counts, the functions of CALLING.md (1 second)
 	@.ci/tables
 
 tables:
 	@.ci/tables --check
 
 # Proves a small crate by a copy of the toolchain's command in which the private names are others.
-test-kit: ## make program on another kit, whose inside is another (1 minute; needs rt)
+test-kit: ## make program on a kit whose private names are others (1 minute; needs rt)
 	@if command -v rt >/dev/null; then tests/other-kit; else echo "There is no rt here: the test of another kit is skipped."; fi
 
 # The program that the gate, or else `make program`, built last. The paths are relative, since a blank in that of the
