@@ -1,4 +1,5 @@
--- An accepting pairing clears each event: a rule without a first fault has none anywhere.
+-- If pairing accepts streams, no rule gives a fault at any event: a rule without a first fault has
+-- none anywhere.
 use Rattle.std.proofs.Common.{◌≡◌, ℕ, zero, suc, ◌+◌, ◌<◌, ◌==◌, ◌&&◌, ◌||◌, nat_lt, Bool, true}
 use Rattle.std.proofs.Common.{false, cond, List, [], ◌∷◌, Option, Some, None, slice_get}
 use Rattle.std.proofs.Common.{option_and_then, refl, sym, ◌∙◌, ap, arith, if◌then◌else◌}
@@ -38,7 +39,7 @@ from_none {X} rule p k (d ∷ es) h (suc j) e at =
     let number : k + suc j ≡ k + 1 + j = omega arith in
     ap (λ n. rule p n e) number ∙ from_none rule p (k + 1) es parts.1 j e at
 
--- at each event of a process
+-- a rule without a first fault gives none at any event
 pub event_none : {X : Type 0} (rule : Rule X) (streams : List Stream) → first rule streams ≡ None
     → (p : Pid) (i : ℕ) (e : Event) → event_at streams p i ≡ Some e → rule p i e ≡ None
 event_none {X} rule [] h p i e at = absurd (none-some e at)
@@ -112,7 +113,7 @@ receive_there streams p i e at receive none =
     None)) receive
     ∙ ap (λ b. cond b (Some place) None) test)
 
--- a receive is the first one of its from and count
+-- a receive is the first one with its sender and count
 pub once_place : (streams : List Stream) → IsPaired streams → (p : Pid) (i : ℕ) (e : Event)
     → event_at streams p i ≡ Some e → is_stamp e ≡ false
     → receive_of streams e.from e.serial.this ≡ Some (p, i)

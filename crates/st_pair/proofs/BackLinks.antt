@@ -1,4 +1,5 @@
--- The links of events before the receives of sends are known, and once they are.
+-- Filling in a receiver exchanges one link, so the links before it are those with receivers and
+-- the links from it on those without.
 use Rattle.std.proofs.Common.{◌≡◌, ℕ, ◌+◌, ◌++◌, zero, suc, true, List, [], ◌∷◌, map, take, drop}
 use Rattle.std.proofs.Common.{set, None, Some, slice_get, option_map, refl, sym, ◌∙◌, ap, arith}
 use Rattle.std.proofs.lemmas.Option.{none-some, same_Some}
@@ -34,7 +35,7 @@ module _ {A B : Type 0} (f g : A → B) where
       ap (λ bs. set bs k y) far ∙ exchange xs k x y at is
       ∙ ap (λ n. map f (take n xs) ++ map g (drop n xs)) next
 
-  -- what is there before it is
+  -- the next link is still the one without a receiver
   pub still : (xs : List A) (k : ℕ) (x : A) (before : List B) → slice_get xs k ≡ Some x
       → before ≡ map f (take k xs) ++ map g (drop k xs) → slice_get before k ≡ Some (g x)
   still xs k x before at far = ap (λ bs. slice_get bs k) far ∙ here xs k at where
@@ -46,7 +47,7 @@ module _ {A B : Type 0} (f g : A → B) where
 
 -- WHAT A LINK SAYS
 
--- the link of a receive says the index of its send or print
+-- the link of a receive has the index of its send or print
 pub sent_back : (streams : List Stream) (e : Event) → e.kind ≡ kind.Receive
     → sent_in (link_back streams e) ≡ stamp_index streams (key_in e)
 sent_back streams e is = ap (λ (k : Kind). (let l : Link = elim k [
@@ -60,7 +61,7 @@ sent_back streams e is = ap (λ (k : Kind). (let l : Link = elim k [
       | Some f ↦ refl
     ]
 
--- a send's or print's own key is found at its index
+-- the key of a send or print leads to its own index
 pub own_index : (streams : List Stream) (p : Pid) (i : ℕ) (e : Event)
     → first (not_rising streams) streams ≡ None
     → event_at streams p i ≡ Some e → is_stamp e ≡ true

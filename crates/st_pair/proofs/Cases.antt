@@ -1,5 +1,5 @@
--- Worked cases: the definitions computed. Nothing cites this file; it shows that the definitions
--- say what is meant.
+-- The definitions computed on worked cases, which show that they say what is meant. Nothing cites
+-- this file.
 use Rattle.std.specs.Prelude.{◌≡◌, true, List, [], ◌∷◌, ◌++◌, Some, None, refl}
 use Rattle.std.specs.List.{AllByRecursion}
 use Rattle.std.proofs.lemmas.List.Elements.{All-from_recursion}
@@ -83,7 +83,7 @@ printed_count : refusal (of a (printed 17 0 1 a 5 ∷ []) ∷ of b (got 17 0 1 a
     ≡ Some (fault.Mismatch b 0 a 0)
 printed_count = refl
 
--- nor is a send of another label, prev, receiver or value
+-- nor is a send with another label, prev, receiver or value
 abbrev pub beside : Event → List Stream
 beside f = of a (f ∷ []) ∷ of b (got 17 0 1 a b 5 ∷ []) ∷ of c [] ∷ []
 
@@ -103,7 +103,7 @@ other_value = refl
 no_other : refusal (beside (sent 17 0 1 a b 5)) ≡ None
 no_other = refl
 
--- one stamp received by two processes: the second is named, with the first
+-- two processes receive one stamp: the second is named, with the first
 repeated_elsewhere : refusal
     (of a [] ∷ of b (got 17 0 1 a b 5 ∷ []) ∷ of c (got 17 0 1 a c 5 ∷ []) ∷ [])
     ≡ Some (fault.Repeated c 0 b 0)

@@ -1,6 +1,6 @@
 -- A receive's source is a send exactly if the send's receiver is that receive: the counts of a
--- process's sends and prints rise, so one at most has the receive's, and no other receive has its
--- sender and count.
+-- process's sends and prints rise, so at most one has the receive's count, and no other receive
+-- has its sender and count.
 use Rattle.std.proofs.Common.{◌≡◌, ℕ, ◌+◌, ◌<◌, ◌≤◌, ◌==◌, ◌&&◌, ◌||◌, zero, suc, nat_lt, Bool}
 use Rattle.std.proofs.Common.{true, false, not, cond, List, [], ◌∷◌, Option, Some, None, slice_get}
 use Rattle.std.proofs.Common.{option_and_then, inl, inr, refl, sym, ◌∙◌, ap, subst, arith}
@@ -28,7 +28,7 @@ use Rattle.st_pair.proofs.Stamps.{stamp_at, before_more}
 
 -- WHERE A RULE GAVE SOMETHING
 
--- an event to which the rule gives this
+-- an event at which the rule gives x
 pub record IsGiven {X : Type 0} (rule : Rule X) (streams : List Stream) (x : X) : Type 0 where
   pub pid : Pid
   pub index : ℕ
@@ -57,7 +57,7 @@ numbered [] k s at = absurd (none-some s at)
 numbered (x ∷ streams) zero s at = ap (λ (y : Stream). Some y.pid) (same_Some x s at)
 numbered (x ∷ streams) (suc k) s at = numbered streams k s at
 
--- the stream in which a rule gave it first, by its number
+-- the number of the stream in which a rule gives x first
 pub first_in : {X : Type 0} (rule : Rule X) (streams : List Stream) (x : X)
     → first rule streams ≡ Some x
     → (k : ℕ) × (s : Stream) × (slice_get streams k ≡ Some s)
@@ -219,7 +219,7 @@ module _ (streams : List Stream) (rising : first (not_rising streams) streams �
           }
     ]
 
-    -- an earlier send or print counts less
+    -- an earlier send or print has a lower count
     pub counts_rise : (j i : ℕ) (d e : Event) → j < i → event_at streams p j ≡ Some d
         → event_at streams p i ≡ Some e
         → is_stamp d ≡ true → is_stamp e ≡ true → d.serial.this < e.serial.this
@@ -272,7 +272,7 @@ module _ (streams : List Stream) (rising : first (not_rising streams) streams �
         ] refl
 
 module _ (streams : List Stream) (ok : IsPaired streams) (p : Pid) where
-  -- the same if no reason holds
+  -- an earlier send or print has a lower count if no reason holds
   pub stamp_counts_rise : (j i : ℕ) (d e : Event) → j < i → event_at streams p j ≡ Some d
       → event_at streams p i ≡ Some e
       → is_stamp d ≡ true → is_stamp e ≡ true → d.serial.this < e.serial.this

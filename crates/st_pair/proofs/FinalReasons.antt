@@ -1,6 +1,5 @@
 -- No run shows what a reason says of two events: a report's serial rises, and without a reset a
--- process stamps no count twice, since each stamp lifts its clock to a count above all that the
--- clock was before.
+-- process stamps no count twice, since each stamp lifts its clock above every earlier value.
 use Rattle.std.proofs.Common.{◌≡◌, ◌≢◌, ℕ, ◌+◌, ◌<◌, ◌==◌, Bool, true, false, cond, List, [], ◌∷◌}
 use Rattle.std.proofs.Common.{length, take, get_or, Some, option_and_then, All, AllPairs, inl, inr}
 use Rattle.std.proofs.Common.{refl, sym, ◌∙◌, ap, Result, Ok, Err, IfErr, subst, arith}
@@ -52,7 +51,7 @@ receive_kind e receives = elim e.kind as (λ k.
       | kind.Print ↦ λ h. absurd (false≢true (sym h))
     ] receives
 
--- a send agrees with a receive that is its event but for the kind
+-- a send agrees with a receive that differs from it in kind alone
 send_agrees : (e : Event) → (let f : Event = record e { kind = kind.Send } in agrees f e) ≡ true
 send_agrees e =
     agrees_if (record e { kind = kind.Send }) e
@@ -80,7 +79,7 @@ shown_at (x ∷ streams) acts os p i e shown at =
       | false ↦ λ other at. shown_at streams acts os p i e (All-tail whole x streams shown) at
     ] refl at
 
--- what a rule gives first it gives at an event of the run
+-- the rule gives x at an event that an act of the run reports
 record IsTold {X : Type 0} (rule : Rule X) (acts : List Act) (os : List Outcome) (x : X) : Type 0
   where
     pid : Pid
@@ -111,7 +110,7 @@ told_first {X} rule streams acts os x shown h =
       reports = act.1;
     }
 
--- an act reports one event
+-- an act reports one event at most
 reported_once : (acts : List Act) (os : List Outcome) (p q : Pid) (i j n : ℕ) (d e : Event)
     → ReportsEvent acts os p i d n → ReportsEvent acts os q j e n → (p ≡ q) × (i ≡ j)
 reported_once acts os p q i j n d e a b =
@@ -119,7 +118,7 @@ reported_once acts os p q i j n d e a b =
     let who : p ≡ q = sym a.reports.own ∙ ap actor same ∙ b.reports.own in
     (who, sym a.before ∙ ap (λ x. length (stream (take n acts) (take n os) x)) who ∙ b.before)
 
--- two pairs with one send are one
+-- an element that a list contains is at the index that `Contains` gives
 contained : {A : Type 0} (xs : List A) (x : A) (c : Contains xs x) → slice_get xs c.0 ≡ Some x
 contained xs x c = slice_get-get_or xs c.0 x c.1 ∙ ap (λ y. Some y) c.2
 
@@ -300,7 +299,7 @@ module _ (top : ℕ) (streams : List Stream) (acts : List Act) (os : List Outcom
 
 -- THE TWO STATEMENTS
 
--- if any reason holds
+-- if any reason holds, no acts without a reset show the streams
 pub refused_never_shown : (streams : List Stream) (f : PairFault) → refusal streams ≡ Some f
     → NeverShownInOneTrace streams
 refused_never_shown streams f h top acts none shows =
@@ -312,12 +311,12 @@ refused_never_shown streams f h top acts none shows =
       | reasons.ByMismatch found ↦ no_mismatch top streams acts os shows.1 shows.2 none f found
     ]
 
--- the reason is a serial that doesn't rise
+-- the reason is `PrevNotBefore`
 abbrev pub IsPrevNotBefore : PairFault → Type 0
 IsPrevNotBefore (fault.PrevNotBefore p i) = Unit {0}
 IsPrevNotBefore f = ⊥
 
--- if it is PrevNotBefore, which its own rule alone gives
+-- if the reason is `PrevNotBefore`, which its own rule alone gives, no acts show the streams
 pub prev_never_shown : (streams : List Stream) (f : PairFault) → refusal streams ≡ Some f
     → IsPrevNotBefore f
     → NeverShown streams
@@ -342,7 +341,7 @@ prev_never_shown streams f h prev top acts shows =
 
 -- WHAT PAIRING RETURNS
 
--- what a reason rules out
+-- a refusal rules out the acts that its reason says
 pub refusal_rules_out : (streams : List Stream) (f : PairFault) → refusal streams ≡ Some f
     → RulesOut streams f
 refusal_rules_out streams fault.Memory h = tt

@@ -28,7 +28,7 @@ use Rattle.st_pair.proofs.Converse.{stamp_once, source_by, source_from}
 use Rattle.st_pair.proofs.Firsts.{events_in}
 use Rattle.st_pair.proofs.FinalReasons.{AreShown, shown_at, taken, refused_never_shown}
 
--- streams that acts without a reset show aren't refused
+-- pairing accepts streams that acts without a reset show
 pub shown_accepted : (top : ℕ) (streams : List Stream) (acts : List Act) → Shows top streams acts
     → NoReset acts
     → refusal streams ≡ None
@@ -64,7 +64,7 @@ shown_events (x ∷ streams) acts os p shown h =
       | false ↦ λ _ h. shown_events streams acts os p (All-tail whole x streams shown) h
     ] refl h
 
--- whom a reported event is from is listed
+-- the sender that a reported event names is listed
 pub from_listed : (top : ℕ) (streams : List Stream) (acts : List Act)
     (shows : Shows top streams acts) (p : Pid) (n : ℕ)
     (e : Event) → Reports acts shows.0 p n e → is_among (pids_of streams) e.from ≡ true

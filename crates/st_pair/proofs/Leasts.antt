@@ -65,7 +65,7 @@ least_from {X} rule p k (e ∷ es) x h = elim (rule p k e) as (λ given. rule p 
 
 -- IN ALL
 
--- a process with an event is above one that is below all listed
+-- a process with an event is above each pid that is below all pids of the streams
 listed_above : (streams : List Stream) (p q : Pid) (j : ℕ) (f : Event)
     → AllByRecursion (IsBelow p) (pids_of streams)
     → event_at streams q j ≡ Some f → IsBelow p q

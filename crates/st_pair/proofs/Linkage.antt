@@ -1,4 +1,5 @@
--- The links of a pairing tell its streams.
+-- The links of a pairing say which source and receiver each event has, since each process has one
+-- row and its links are in the order of its events.
 use Rattle.std.proofs.Common.{◌≡◌, ℕ, ◌<◌, zero, suc, true, false, cond, if◌then◌else◌, List}
 use Rattle.std.proofs.Common.{[], ◌∷◌, ◌++◌, length, map, take, find, get_or, Option, None, Some}
 use Rattle.std.proofs.Common.{slice_get, option_map, option_and_then, refl, sym, ◌∙◌, ap, arith}

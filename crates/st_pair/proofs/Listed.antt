@@ -1,5 +1,5 @@
--- Why the rows that are found are those of the definition: the rows of a process come after those
--- of the processes before it, and what is left has the rest.
+-- The rows that are found are those of the definition: the rows of a process come after those of
+-- the processes before it.
 use Rattle.std.proofs.Common.{◌≡◌, ℕ, ◌+◌, suc, ◌<◌, List, [], ◌++◌, length, drop}
 use Rattle.std.proofs.Common.{get_or, sym, ◌∙◌, ap, arith}
 use Rattle.std.proofs.lemmas.List.{append_assoc}
@@ -13,7 +13,7 @@ use Rattle.st_pair.specs.declared.filter.Filter.{Filter}
 use Rattle.st_pair.specs.declared.rows.Row.{Row}
 use Rattle.st_pair.specs.Rows.{listed_at, listed_from}
 
--- one process more, whose line is n, and whose first event is on the line after it
+-- the rows of the next process, whose line is n, and whose first event is on line n + 1
 pub process_listed : (f : Filter) (all now more : List Row) (streams : List Stream)
     (pids : List Pid)
     (k n first next : ℕ) (d : Pid) (es : List Event) → IsRising (pids_of streams)

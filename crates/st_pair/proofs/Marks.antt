@@ -55,7 +55,7 @@ marks_read (s ∷ streams) (l ∷ lists) (suc n) i p rising at =
     rw (above_apart (pids_of streams) s.pid p n rising.0 at)
     (marks_read streams lists n i p rising.1 at)
 
--- what is noted of a key
+-- the mark of a key is the one at its send's or print's place and index
 pub mark_read : (streams : List Stream) (lists : List (List Mark)) (key : Key) (n i : ℕ)
     → IsRising (pids_of streams)
     → slice_get (pids_of streams) n ≡ Some key.from → stamp_index streams key ≡ Some i
@@ -64,7 +64,7 @@ mark_read streams lists key n i rising at is =
     ap (option_and_then (λ (j : ℕ). slice_get (marks_in streams lists key.from) j)) is
     ∙ sym (marks_read streams lists n i key.from rising at)
 
--- of a process that isn't listed nothing is noted
+-- a process that isn't listed has no marks
 unlisted_marks : (streams : List Stream) (lists : List (List Mark)) (p : Pid)
     → AllByRecursion (λ q. pid_eq q p ≡ false) (pids_of streams) → marks_in streams lists p ≡ []
 unlisted_marks [] lists p missing = refl
@@ -82,7 +82,7 @@ unlisted_mark streams lists key missing = elim (stamp_index streams key)
           (unlisted_marks streams lists key.from missing)
     ]
 
--- one process's marks are all that changes
+-- if one process's marks are replaced, those of other processes stay
 marks_put : (streams : List Stream) (lists : List (List Mark)) (n : ℕ) (p q : Pid) (l : List Mark)
     → IsRising (pids_of streams) → slice_get (pids_of streams) n ≡ Some p → n < length lists
     → marks_in streams (set lists n l) q ≡ cond (pid_eq p q) l (marks_in streams lists q)
@@ -107,7 +107,7 @@ marks_put (s ∷ streams) (m ∷ lists) (suc n) p q l rising at within =
 
 -- ONE KEY
 
--- the send or print with an index has the count
+-- the event at a key's index has the key's count
 index_counts : (streams : List Stream) (k : Key) (i : ℕ) → stamp_index streams k ≡ Some i
     → (e : Event) × (slice_get (events_of streams k.from) i ≡ Some e) × (e.serial.this ≡ k.this)
 index_counts streams k i h =
@@ -197,7 +197,7 @@ module _ (key : Key) (place : Pid × ℕ) (k : Key) where
         | false ↦ λ other. refl
       ] refl
 
--- one key, or another
+-- two keys are equal or different
 key_or : (key k : Key) → (key ≡ k) ⊎ (key ≡ k → ⊥)
 key_or key k = elim (key_eq key k) as (λ b. key_eq key k ≡ b → (key ≡ k) ⊎ (key ≡ k → ⊥)) [
   | true ↦ λ same. inl (key_eq-true key k same)
@@ -215,7 +215,7 @@ noted_again table key place has k = elim (key_or key k) [
   | inr apart ↦ sym (ap (or_else (table k)) (here_apart key place k apart) ∙ or_none (table k))
 ]
 
--- a receive of a reported send or print
+-- noting a receive of a reported send or print adds its place for its key alone
 pub noted_shown : (streams : List Stream) (lists : List (List Mark)) (hidden : Table) (key : Key)
     (n i : ℕ)
     (place : Pid × ℕ) → IsRising (pids_of streams) → slice_get (pids_of streams) n ≡ Some key.from
@@ -245,7 +245,7 @@ noted_shown streams lists hidden key n i place rising at is marks there free k =
           ∙ or_none (given (mark_of streams lists k) (hidden k)))
     ]
 
--- what is noted of an event has a place
+-- an event that has a mark is at a place within the lists
 pub mark_within : (lists : List (List Mark)) (n i : ℕ) (m : Mark) → mark_at lists n i ≡ Some m
     → (n < length lists) × (i < length (get_or lists n []))
 mark_within lists n i m h = elim (slice_get lists n) as (λ o. slice_get lists n ≡ o
@@ -270,7 +270,7 @@ noted_at streams lists hidden key n i place rising at is free =
     noted_shown streams lists hidden key n i place rising at is (get_or lists n []) there
     (ap (option_and_then (λ (l : List Mark). slice_get l i)) (sym there) ∙ free)
 
--- a receive of a hidden send
+-- noting a receive of a hidden send adds its place for its key alone
 pub noted_hidden : (streams : List Stream) (lists : List (List Mark)) (before after : Table)
     (key : Key)
     (place : Pid × ℕ) → mark_of streams lists key ≡ None

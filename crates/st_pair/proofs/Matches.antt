@@ -1,5 +1,5 @@
--- A receive's link says which send or print has its count, so that only this one can differ from
--- it.
+-- A receive's link names the send or print that has its sender and count, so no other event can
+-- make it differ from its send.
 use Rattle.std.proofs.Common.{◌≡◌, ℕ, ◌||◌, Bool, false, cond, if◌then◌else◌, List, Option, None}
 use Rattle.std.proofs.Common.{Some, option_and_then, slice_get, refl, sym, ◌∙◌, ap, subst}
 use Rattle.std.proofs.lemmas.Option.{same_Some, none-some}
@@ -57,7 +57,7 @@ module _ (streams : List Stream) (p : Pid) (e : Event) (q : Pid) (j : ℕ) where
     there = subst (λ (x : Pid). slice_get (events_of streams x) j ≡ Some is.event) is.from
         (stamp_at streams e.from e.serial.this (j, is.event) is.sent)
 
-    -- an event is there
+    -- the index of the link has an event
     pub not_absent : None ≡ slice_get (events_of streams q) j → ⊥
     not_absent none = none-some is.event (none ∙ there)
 
@@ -74,7 +74,7 @@ module _ (streams : List Stream) (p : Pid) (e : Event) (q : Pid) (j : ℕ) where
         ∙ ap (λ (c : Bool). cond c None (Some (fault.Mismatch p i e.from j))) (sym same)
         ∙ ap (λ (x : Pid). cond b None (Some (fault.Mismatch p i x j))) is.from
 
--- a send's link is the first receive that has its process and count
+-- a send's link names the first receive that has its process and count
 pub linked_send : (streams : List Stream) (p : Pid) (e : Event) (o : Option (Pid × ℕ))
     → e.kind ≡ kind.Send
     → o ≡ receive_of streams p e.serial.this → sent_link o ≡ link_of streams p e

@@ -139,7 +139,7 @@ place_of (fault.NotRising p i j) = Some (p, i)
 place_of (fault.Repeated p i q j) = Some (p, i)
 place_of (fault.Mismatch p i q j) = Some (p, i)
 
--- a reason is against an event that is there
+-- the place that a reason names has an event
 pub reason_at : (streams : List Stream) (f : PairFault) → IsRising (pids_of streams)
     → refusal streams ≡ Some f → (x : Pid × ℕ) × (e : Event)
     × (event_at streams x.0 x.1 ≡ Some e) × (Some x ≡ place_of f)

@@ -45,7 +45,7 @@ put_under true place old was = elim (was refl) [
   | inr same ↦ sym (ap (λ (o : Option (Pid × ℕ)). or_else o (Some place)) same)
 ]
 
--- under a key that wasn't there, or had this very place
+-- writing a key that wasn't there, or that had this very place, adds the place for this key alone
 pub noted : (before after : Table) (key : Key) (place : Pid × ℕ)
     → ((k : Key) → after k ≡ cond (key_eq key k) (Some place) (before k))
     → (before key ≡ None) ⊎ (before key ≡ Some place) → (k : Key)
@@ -68,12 +68,12 @@ key_eq-same k = and_from (pid_eq k.from k.from) (k.this == k.this) (pid_eq-same 
 pub here_same : (k : Key) (place : Pid × ℕ) → here k place k ≡ Some place
 here_same k place = ap (λ (b : Bool). cond b (Some place) None) (key_eq-same k)
 
--- of one key: what a table gave before these events and gives now, at the next one
+-- one key at the next event, by what the table gave before these events and what it gives now
 module _ (k : Key) (before now : Option (Pid × ℕ)) (p : Pid) (i : ℕ) (es : List Event) (e : Event)
     (at : slice_get es i ≡ Some e) (receives : is_stamp e ≡ false)
     (so_far : or_else now (first_from (receive_rule k) p i (drop i es))
     ≡ or_else before (first_from (receive_rule k) p 0 es)) where
-  -- once it is noted
+  -- the key after the receive is noted
   pub key_noted : (after : Option (Pid × ℕ)) → after ≡ or_else now (here (key_in e) (p, i) k)
       → or_else after (first_from (receive_rule k) p (i + 1) (drop (i + 1) es))
       ≡ or_else before (first_from (receive_rule k) p 0 es)
@@ -153,7 +153,7 @@ stamp_unrepeated streams p i e stamps = elim (receive_of streams e.from e.serial
           (Some (fault.Repeated p i at.0 at.1))) stamps
     ]
 
--- a process's receives between those before it and those after it
+-- a process's receives come between those of the processes before and after it
 pub key_with : (streams : List Stream) → IsRising (pids_of streams)
     → (pids : List Pid) (k : ℕ) (d : Pid)
     (es : List Event) (key : Key) (before : Option (Pid × ℕ)) → pids ≡ pids_of streams
@@ -178,7 +178,7 @@ pub all_with : (streams : List Stream) → IsRising (pids_of streams)
 all_with streams rising pids k d es table are within events so_far key =
     key_with streams rising pids k d es key (table key) are within events (so_far key)
 
--- what is given first is the first fault
+-- the fault that a rule gives first meets `IsFirstFault`
 pub first_fault : (o : Option PairFault) (f : PairFault) → o ≡ Some f → IsFirstFault o f
 first_fault o fault.Memory h = tt
 first_fault o (fault.PrevNotBefore p i) h = h

@@ -64,7 +64,7 @@ place_rows streams rows place p are at =
     ∙ ap (option_map rows_in) s.at ∙ ap (λ (es : List Event). Some (stamp_rows 0 es))
     (sym (ap events_in s.found))
 
--- a process that isn't listed has none
+-- a process that isn't listed has no send or print
 pub no_stamp : (streams : List Stream) (p : Pid) (this : ℕ)
     → AllByRecursion (λ q. pid_eq q p ≡ false) (pids_of streams)
     → None ≡ option_map (λ f. f.0) (stamp_of streams p this)
@@ -180,7 +180,7 @@ unequal this x h = elim (x.count == this) as (λ b. None ≡ cond b (Some x) Non
   | false ↦ λ given. refl
 ] h
 
--- if none is where the lesser counts end, there is none
+-- if the row where the lesser counts end hasn't the count, no row has it
 pub none_at : (rows : List StampRow) (this n : ℕ) → AreRising rows
     → IsPartitionPoint (λ r. ltb r.count this ≡ true) (λ r. ltb r.count this ≡ false) rows n
     → None ≡ option_and_then (row_under this) (slice_get rows n) → None ≡ row_of this rows

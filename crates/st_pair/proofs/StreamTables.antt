@@ -1,5 +1,5 @@
--- A list of what is kept of each process, in the order of the streams: one process more, and what
--- is read at a process's place.
+-- A list with one entry for each process, in the order of the streams: one entry more, and the
+-- entry at a process's place.
 use Rattle.std.proofs.Common.{◌≡◌, ℕ, ◌+◌, ◌<◌, zero, suc, List, [], ◌∷◌, ◌++◌, length, map, take}
 use Rattle.std.proofs.Common.{drop, get_or, Bool, false, cond, Some, slice_get, option_map, refl}
 use Rattle.std.proofs.Common.{sym, ◌∙◌, ap, subst, arith}
@@ -70,7 +70,7 @@ process_read {A} f streams p k kept read rising are at is =
     is ∙ read_made (λ (t : Stream). f t.events) streams k s.stream read kept are s.at
     ∙ ap f (sym (ap events_in s.found))
 
--- what is left before an element is it and what is left after it
+-- the rest before an element is taken is the element and the rest after it
 pub drop_next : {A : Type 0} (xs : List A) (k : ℕ) (x : A) → slice_get xs k ≡ Some x
     → drop k xs ≡ x ∷ drop (suc k) xs
 drop_next [] k x at = absurd (cc)
@@ -85,7 +85,7 @@ missing_events (x ∷ streams) p all =
     ap (λ (b : Bool). events_in (cond b (Some x) (stream_of streams p))) all.0
     ∙ missing_events streams p all.1
 
--- a pid is at one place
+-- a pid is at one place alone
 pub one_place : (ps : List Pid) (i j : ℕ) (p : Pid) → IsRising ps → slice_get ps i ≡ Some p
     → slice_get ps j ≡ Some p → i ≡ j
 one_place [] i j p rising at_i at_j = absurd (none-some p at_i)

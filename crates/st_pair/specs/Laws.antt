@@ -10,7 +10,7 @@ use Rattle.st_pair.specs.Places.{event_at}
 abbrev pub IsEarlier : Pid → ℕ → Pid → ℕ → Type 0
 IsEarlier q j p i = IsBelow q p ⊎ ((q ≡ p) × (j < i))
 
--- the rule gives this at a place, and nothing at any earlier one
+-- the rule gives x at a place, and nothing at any earlier place
 pub record IsLeast {X : Type 0} (rule : Pid → ℕ → Event → Option X) (streams : List Stream)
     (x : X) : Type 0 where
   pub pid : Pid

@@ -7,6 +7,6 @@ pub mod Links
 pub mod Laws
 -- Which events are listed, where they are and what they pair with.
 pub mod Rows
--- For the parts alone: of `src/tables.rt` and `src/rules.rt`.
+-- Only the crate's own parts cite these.
 pub mod Tables
 pub mod Rules

@@ -46,49 +46,48 @@ agrees f e = is_send f &&
     (f.label.0 == e.label.0 &&
     (f.serial.prev == e.serial.prev && (to_eq f.to e.to && f.value == e.value)))
 
--- A rule is a test on one event and its place, and gives the fault if it refuses the streams there.
--- They are tried in the order in which they are here, each over all places.
+-- A rule tests one event at its place, and gives a fault if it refuses the streams there. The
+-- rules are tried in the order of this file, each over all places.
 
--- prev isn't less than this
+-- an event's prev isn't less than its this
 abbrev pub prev_not_before : Pid → ℕ → Event → Option PairFault
 prev_not_before p i e =
     if nat_lt e.serial.prev e.serial.this then None else Some (fault.PrevNotBefore p i)
 
--- a send or print, and the last one of its process before it has a count that isn't less. At the
--- least such place the counts before it rise, so that no earlier one is greater than that of the
--- last
+-- the count of a send or print isn't above that of the last one before it in its process. At the
+-- least such place the counts before it rise, so the last of them is the greatest
 abbrev pub not_rising : List Stream → Pid → ℕ → Event → Option PairFault
 not_rising streams p i e = option_and_then (λ f.
     if not (is_stamp e) || nat_lt f.1.serial.this e.serial.this then None
     else Some (fault.NotRising p i f.0))
     (stamp_before (events_of streams p) i)
 
--- a receive, and the first one with its from and this is another, which is then the earlier
+-- a receive isn't the first one with its sender and count; the fault names both
 abbrev pub repeated : List Stream → Pid → ℕ → Event → Option PairFault
 repeated streams p i e = option_and_then (λ at.
     if is_stamp e || (pid_eq at.0 p && at.1 == i) then None
     else Some (fault.Repeated p i at.0 at.1))
     (receive_of streams e.from e.serial.this)
 
--- a receive whose sender has a send or print with its this that isn't its send
+-- the sender of a receive has a send or print with its count that isn't its send
 abbrev pub mismatch : List Stream → Pid → ℕ → Event → Option PairFault
 mismatch streams p i e = option_and_then (λ f.
     if is_stamp e || agrees f.1 e then None else Some (fault.Mismatch p i e.from f.0))
     (stamp_of streams e.from e.serial.this)
 
--- the first rule that gives something somewhere decides, at its least place
+-- the fault of the first rule that gives one anywhere, at the least place at which it does
 abbrev pub first_rule : List Stream → List (Pid → ℕ → Event → Option PairFault) → Option PairFault
 first_rule streams [] = None
 first_rule streams (rule ∷ rules) =
     elim (first rule streams) [ None ↦ first_rule streams rules | Some f ↦ Some f ]
 
--- why streams are refused, if they are
+-- the reason for which pairing refuses the streams, if it does
 abbrev pub refusal : List Stream → Option PairFault
 refusal streams = first_rule streams
     (prev_not_before ∷ not_rising streams ∷ repeated streams ∷ mismatch streams ∷ [])
 
--- where the message of a receive came from: from the sender's send with its count, or from a hidden
--- one
+-- where the message of a receive came from: the sender's event with its count, or a hidden send if
+-- no event has it
 abbrev pub source_of : List Stream → Event → Source
 source_of streams e = elim (stamp_of streams e.from e.serial.this) [
   | None ↦ source.Hidden
@@ -101,14 +100,14 @@ source_at streams p i =
     option_and_then (λ e. if is_stamp e then None else Some (source_of streams e))
     (event_at streams p i)
 
--- the place of the receive that is paired with the send at (q, j); none if there is no send or none
--- is paired
+-- the place of the receive that is paired with the send at (q, j); none if there is no send, or no
+-- receive is paired with it
 abbrev pub receiver_at : List Stream → Pid → ℕ → Option (Pid × ℕ)
 receiver_at streams q j =
     option_and_then (λ f. if is_send f then receive_of streams q f.serial.this else None)
     (event_at streams q j)
 
--- when streams aren't paired: because memory ran out, or for the reason
+-- the fault says why the streams aren't paired: memory ran out, or pairing refuses them for it
 abbrev pub IsPairFault : List Stream → PairFault → Type 0
 IsPairFault streams fault.Memory = Unit {0}
 IsPairFault streams f = refusal streams ≡ Some f

@@ -12,15 +12,16 @@ use Rattle.st_core.specs.Streams.{events_of}
 abbrev pub event_at : List Stream → Pid → ℕ → Option Event
 event_at streams p i = slice_get (events_of streams p) i
 
--- a send or a print: its process stamped its serial
+-- the event is a send or a print, whose serial its process stamped
 abbrev pub is_stamp : Event → Bool
 is_stamp e = elim e.kind [ kind.Send ↦ true | kind.Receive ↦ false | kind.Print ↦ true ]
 
--- the first if it is there, else the second
+-- the first option if it has a value, else the second
 abbrev pub or_else : {X : Type 0} → Option X → Option X → Option X
 or_else o rest = elim o [ None ↦ rest | Some x ↦ Some x ]
 
--- what the rule gives first for these events of p, which are from index i on
+-- what the rule gives at the first of these events of p that it gives something at; the events are
+-- those from index i on
 abbrev pub first_from : {X : Type 0} → (Pid → ℕ → Event → Option X) → Pid → ℕ → List Event
     → Option X
 first_from rule p i [] = None

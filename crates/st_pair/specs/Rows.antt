@@ -1,5 +1,5 @@
--- The rows of a list: each event that is asked for, in the order of the text, with its place and
--- its line; and what an event pairs with.
+-- The rows of a list, which has each event that a filter chooses, in the order of the text, with
+-- its place and its line; and what an event pairs with.
 use Rattle.std.specs.Prelude.{ℕ, ◌+◌, ◌&&◌, ◌==◌, nat_le, Bool, true, List, [], ◌∷◌, ◌++◌}
 use Rattle.std.specs.Prelude.{length, Option, Some, None, if◌then◌else◌}
 use Rattle.st_core.specs.declared.types.Pid.{Pid}
@@ -20,7 +20,7 @@ use Rattle.st_pair.specs.declared.rows.Row.{Row}
 
 -- ---- which events
 
--- a number is within a span, both ends among it; no span has all
+-- the number is within the span, ends included; without a span each number is
 abbrev pub is_within : Option Span → ℕ → Bool
 is_within None n = true
 is_within (Some s) n = nat_le s.first n && nat_le n s.last
@@ -33,13 +33,13 @@ abbrev pub is_process : Option Pid → Pid → Bool
 is_process None p = true
 is_process (Some q) p = pid_eq q p
 
--- an event of p on line n is asked for: it meets each condition that there is
+-- the filter chooses the event of p on line n: it meets each condition of the filter
 abbrev pub is_chosen : Filter → Pid → ℕ → Event → Bool
 is_chosen f p n e =
     is_label f.label e.label && is_process f.process p && is_within f.lines n
     && is_within f.counts e.serial.this
 
--- ---- what it pairs with
+-- ---- what an event pairs with
 
 abbrev pub partner_of_send : Option (Pid × ℕ) → Partner
 partner_of_send None = partner.NoReceive
@@ -56,7 +56,7 @@ partner_of streams p i kind.Print = partner.Nobody
 partner_of streams p i kind.Send = partner_of_send (receiver_at streams p i)
 partner_of streams p i kind.Receive = partner_of_receive (source_at streams p i)
 
--- its place, if it is an event
+-- the place of the partner, if it is an event
 abbrev pub place_of_partner : Partner → Option (Pid × ℕ)
 place_of_partner (partner.Receive p i) = Some (p, i)
 place_of_partner (partner.Send p i) = Some (p, i)
@@ -73,17 +73,18 @@ module _ (f : Filter) where
   abbrev pub row_if_chosen : Pid → ℕ → ℕ → Event → List Row
   row_if_chosen p i n e = if is_chosen f p n e then row_of p i n e ∷ [] else []
 
-  -- the rows of these events of p, of which the first is event i and is on line n
+  -- the rows of the events of p that the filter chooses; the first event has index i and is on
+  -- line n
   abbrev pub listed_at : Pid → ℕ → ℕ → List Event → List Row
   listed_at p i n [] = []
   listed_at p i n (e ∷ es) = row_if_chosen p i n e ++ listed_at p (i + 1) (n + 1) es
 
-  -- the rows of these processes, of which the first has its process line on line n
+  -- the rows of these streams; the first stream's process line is line n
   abbrev pub listed_from : ℕ → List Stream → List Row
   listed_from n [] = []
   listed_from n (x ∷ xs) =
       listed_at x.pid 0 (n + 1) x.events ++ listed_from (n + 1 + length x.events) xs
 
-  -- the rows of streams, whose first process line is below the header
+  -- the rows of the streams of a text; the header is line 1, so the first process line is line 2
   abbrev pub listed : List Stream → List Row
   listed streams = listed_from 2 streams

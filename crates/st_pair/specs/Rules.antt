@@ -1,4 +1,4 @@
--- Rules as the parts look for them.
+-- The rules of pairing as the code applies them.
 use Rattle.std.specs.Prelude.{◌≡◌, ℕ, ◌==◌, ◌&&◌, List, Option, Some, None, option_map}
 use Rattle.std.specs.Prelude.{if◌then◌else◌}
 use Rattle.st_core.specs.declared.types.Pid.{Pid}
@@ -16,12 +16,13 @@ abbrev pub fault_at : Rule → List Stream → Pid → ℕ → Event → Option 
 fault_at rule.PrevNotBefore streams = prev_not_before
 fault_at rule.NotRising streams = not_rising streams
 
--- what `repeated` gives at a receive, if this is the first one with its sender and count
+-- what `repeated` gives at the receive at (p, i), if the first receive with its sender and count
+-- is at `at`
 abbrev pub repeated_by : Pid × ℕ → Pid → ℕ → Option PairFault
 repeated_by at p i = if pid_eq at.0 p && at.1 == i then None else Some
     (fault.Repeated p i at.0 at.1)
 
--- a rule gives this first, or memory ran out
+-- the fault is the first one that a rule gives, or memory ran out
 abbrev pub IsFirstFault : Option PairFault → PairFault → Type 0
 IsFirstFault first fault.Memory = Unit {0}
 IsFirstFault first f = first ≡ Some f

@@ -1,27 +1,27 @@
-//! Which events are asked for.
+//! The conditions that choose the events of a list.
 
 ghost use Rattle.std.specs.Prelude.{◌≡◌};
 ghost use Rattle.st_pair.specs.Rows.{is_chosen, is_label, is_process, is_within};
 
 use st_core::{Event, Label, Pid};
 
-/// Numbers from the first to the last, both among them.
+/// The numbers from `first` to `last`, both included.
 #[derive(Clone, Copy)]
 pub struct Span {
     pub first: u64,
     pub last: u64,
 }
 
-/// The conditions that an event has to meet. One that is left out is met by each.
+/// The conditions that an event has to meet. `None` is no condition.
 #[derive(Clone, Copy)]
 pub struct Filter {
-    /// Its label is this one.
+    /// The label of the event.
     pub label: Option<Label>,
-    /// Its process, which reports it, is this one.
+    /// The process that reports the event.
     pub process: Option<Pid>,
-    /// Its line is one of these.
+    /// The lines of the text on which the event may be.
     pub lines: Option<Span>,
-    /// Its count, the second number of its serial, is one of these.
+    /// The counts that the event may have; the count is the second number of its serial.
     pub counts: Option<Span>,
 }
 
@@ -53,7 +53,7 @@ fn is_process(wanted: Option<Pid>, pid: Pid) -> bool
 }
 
 impl Filter {
-    /// Whether an event of this process on this line is asked for.
+    /// Returns whether the event, which `pid` reports on line `line`, meets every condition.
     pub fn chooses(&self, pid: Pid, line: u64, event: &Event) -> bool
         ensures { result ≡ is_chosen self.now pid line event.now }
     {

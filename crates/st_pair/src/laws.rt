@@ -17,14 +17,15 @@ ghost use Rattle.st_pair.specs.Laws.{IsLeast};
 ghost use Rattle.st_pair.specs.Pairing.{receiver_at, refusal, source_at};
 ghost use Rattle.st_pair.specs.Places.{event_at, first, is_stamp};
 
-/// A rule's first fault is at the least place, by pid and then index.
+/// The first fault that a rule gives is at the least place with a fault, by pid and then index.
 pub fn first_is_least()
     ensures { (rule : Pid → ℕ → Event → Option PairFault) (streams : List Stream)
         (fault : PairFault) →
         IsStreams streams → first rule streams ≡ Some fault → IsLeast rule streams fault }
 {}
 
-/// If pairing accepts, a receive is that of a send exactly if the send is that of the receive.
+/// If pairing accepts the streams, the receiver of a send is a receive exactly if the source of
+/// that receive is the send.
 pub fn sources_and_receivers_agree()
     ensures { (streams : List Stream) → IsStreams streams → refusal streams ≡ None →
         (p : Pid) (i : ℕ) (q : Pid) (j : ℕ) →
@@ -32,7 +33,8 @@ pub fn sources_and_receivers_agree()
         ↔ (source_at streams p i ≡ Some (source.Event q j)) }
 {}
 
-/// If pairing accepts, the counts of a process's sends and prints rise, so that each has its own.
+/// If pairing accepts the streams, the counts of a process's sends and prints rise, so no two have
+/// one count.
 pub fn stamp_counts_rise()
     ensures { (streams : List Stream) → refusal streams ≡ None →
         (p : Pid) (j i : ℕ) (d e : Event) → j < i → event_at streams p j ≡ Some d
@@ -47,8 +49,8 @@ pub fn prev_not_before_is_final()
         refusal streams ≡ Some (fault.PrevNotBefore p i) → NeverShown streams }
 {}
 
-/// If any of the four reasons holds of streams, no acts without a reset show them: without one a
-/// process stamps no count twice, and ever greater ones.
+/// If any of the four reasons holds of streams, no acts without a reset show them: without a reset
+/// each stamp of a process has a greater count than the stamp before it.
 pub fn refusals_are_final_without_reset()
     ensures { (streams : List Stream) (reason : PairFault) →
         refusal streams ≡ Some reason → NeverShownInOneTrace streams }

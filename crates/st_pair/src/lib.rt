@@ -1,8 +1,8 @@
 //! Which send each reported receive took, or the first reason why streams cannot hang together.
 //!
-//! A send stamps a serial, and a receive reports the serial that it took: so a receive's message is
-//! from the send of its sender that has its count. `pair` says so of all receives at once, and
-//! refuses streams that no acts explain without a reset. It looks at the streams of `st_core`
+//! A send stamps a serial, and a receive reports the serial that it took, so the receive's message
+//! is from the send of its sender that has its count. `pair` finds the sends of all receives, and
+//! refuses streams only if no acts without a reset show them. It looks at the streams of `st_core`
 //! alone; that its refusals are final is proved over the machine's laws.
 #![tactic(auto)]
 

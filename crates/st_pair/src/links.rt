@@ -1,7 +1,7 @@
-//! The links of events, as far as they are known before the receives of each send are.
+//! The links of events before the receive of each send is known.
 //!
-//! A receive's link is its send, for which its sender's sends are searched here, once. A send's
-//! link follows when it is known which receive took it first.
+//! The send of each receive is searched for here, once, among the sends of its sender. The link of
+//! a send is filled in later, from the first receive that took it.
 
 ghost use Rattle.std.specs.Prelude.{◌≡◌, ◌<◌, map, length, slice_set, IfOk};
 ghost use Rattle.st_pair.specs.Tables.{link_back, links_back, AreStamps};
@@ -29,14 +29,14 @@ impl Model for Links {
 }
 
 impl Links {
-    /// The links, in the order of the events.
+    /// Returns the links, in the order of the events.
     pub fn as_slice(&self) -> &[Link]
         ensures { result.now ≡ self.now }
     {
         self.links.as_slice()
     }
 
-    /// Replaces the link at this index.
+    /// Replaces the link at `index`.
     pub fn put(&mut self, index: usize, link: Link)
         requires { index < length self.old }
         ensures { self.new ≡ slice_set self.old index link }
@@ -44,8 +44,8 @@ impl Links {
         self.links[index] = link;
     }
 
-    /// Makes the links of these events, and gives `hidden_keys` the keys of their receives of
-    /// hidden sends.
+    /// Makes the links of `events`, and adds the key of each receive of a hidden send to
+    /// `hidden_keys`.
     fn of_events(
         alloc: Global,
         streams: &Streams,
@@ -65,8 +65,8 @@ impl Links {
     }
 }
 
-/// Returns what an event is paired with, and gives `hidden_keys` its key if it is a receive of a
-/// hidden send.
+/// Returns the link of an event, and adds its key to `hidden_keys` if it is a receive of a hidden
+/// send. A send is unpaired at first.
 fn link_back(streams: &Streams, sent: &mut Stamps, hidden_keys: &mut Sha256, event: &Event) -> Link
     requires { AreStamps streams.now sent.old }
     ensures link { result ≡ link_back streams.now event.now }
@@ -87,17 +87,17 @@ fn link_back(streams: &Streams, sent: &mut Stamps, hidden_keys: &mut Sha256, eve
     }
 }
 
-/// The links of all processes, before the receives of sends are known.
+/// The links of all processes, in which each send is still unpaired.
 #[derive(Drop)]
 pub struct Sources {
-    /// The links of each process.
+    /// The links of each process, in the order of the streams.
     pub links: Vec<Links>,
     /// A digest of the keys of the receives of hidden sends.
     pub hidden_keys: Sha256,
 }
 
 impl Sources {
-    /// Those of streams.
+    /// Makes the links of the streams. Fails only if memory runs out.
     pub fn of(alloc: Global, streams: &Streams, sent: &mut Stamps) -> Result<Sources, AllocError>
         requires { AreStamps streams.now sent.old }
         ensures links { IfOk result (λ sources.

@@ -1,4 +1,4 @@
-//! The send that each receive follows.
+//! The pairing of each reported receive with its send.
 
 ghost use Rattle.std.specs.Prelude.{◌≡◌, false, List, [], ◌∷◌, map, None, Some};
 ghost use Rattle.std.specs.Prelude.{slice_get, IfOk, IfErr, IfSome, IfNone, OnOk};
@@ -27,13 +27,13 @@ use std::marker::Model;
 /// The link of an event to its partner.
 #[derive(Clone, Copy, Debug, PartialEq, Eq)]
 pub enum Link {
-    /// A print.
+    /// A print, which has no partner.
     Printed,
-    /// A send without a receive.
+    /// A send that no reported receive took.
     Unpaired,
-    /// A send, with its receive.
+    /// A send, with the place of its receive.
     To(Pid, u64),
-    /// A receive, with its send.
+    /// A receive, with the place of the send or print that has its sender and count.
     From(Pid, u64),
     /// A receive of a hidden send.
     Hidden,
@@ -51,7 +51,7 @@ impl Link {
         }
     }
 
-    /// The index of the send or print, if this is a receive of one.
+    /// Returns the index of the send or print, if the event is a receive of a reported one.
     pub fn sent(self) -> Option<u64>
         ensures { result ≡ sent_in self }
     {
@@ -61,7 +61,7 @@ impl Link {
         }
     }
 
-    /// The place of the receive, if this is a send that has one.
+    /// Returns the place of the receive, if the event is a send that has one.
     fn receiver(self) -> Option<(Pid, u64)>
         ensures { result ≡ receiver_in self }
     {
@@ -72,8 +72,8 @@ impl Link {
     }
 }
 
-/// The sources of the receives of streams without a reason against them, and the receivers of their
-/// sends: 16 bytes an event.
+/// The source of each receive and the receiver of each send, in streams that pairing accepts: 16
+/// bytes an event.
 #[derive(Debug, Drop)]
 pub struct Pairing {
     pids: Vec<Pid>,
@@ -114,7 +114,8 @@ impl Pairing {
         }
     }
 
-    /// The receive that is paired with the send at this place; none if there is no such send.
+    /// Returns the place of the receive that is paired with the send at this place; none if there
+    /// is no send, or no receive is paired with it.
     pub fn receiver(&self, pid: Pid, index: u64) -> Option<(Pid, u64)>
         ensures { (streams : List Stream) → IsPairing streams self.now
             → result ≡ receiver_at streams pid index }
@@ -132,17 +133,17 @@ fn nth_link(links: &[Link], index: u64) -> Option<Link>
     links.get(index as usize).copied()
 }
 
-/// The tables by which streams are paired, if none of the first three reasons is against them.
+/// The tables by which streams are paired, if none of the first three reasons holds.
 #[derive(Drop)]
 struct Tables {
-    /// The first receive from each send and print.
+    /// For each sender and count the first receive that has them.
     got: Receives,
-    /// The link of each event; none for a send.
+    /// The link of each event, in which a send is still unpaired.
     links: Vec<Links>,
 }
 
 impl Tables {
-    /// Those of streams, or the first of the three reasons.
+    /// Makes the tables of the streams, or returns the first of the three reasons that holds.
     fn of(alloc: Global, streams: &Streams) -> Result<Tables, PairFault>
         ensures accepted { OnOk result
             (refusal streams.now ≡ first_rule streams.now (mismatch streams.now ∷ [])) }
@@ -167,8 +168,8 @@ impl Tables {
     }
 }
 
-/// Returns the link of the event at this index of the process at this place. If it is no send, it
-/// has the given link.
+/// Returns the link of the event at `index` of the process at `place`. If the event isn't a send,
+/// that is `link`.
 fn link_of(
     got: &Receives,
     streams: &Streams,
@@ -200,7 +201,7 @@ fn link_of(
 }
 
 /// Fills in the receivers of one process's sends, up to the first receive that differs from its
-/// send.
+/// send, and returns the fault of that receive.
 fn fill_in(
     got: &Receives,
     streams: &Streams,
@@ -234,7 +235,7 @@ fn fill_in(
     None
 }
 
-/// The links of all processes, up to the first receive that differs from its send.
+/// Fills in the receivers of all sends. Fails at the first receive that differs from its send.
 fn links_of(streams: &Streams, tables: Tables) -> Result<Vec<Links>, PairFault>
     requires { AreTables streams.now tables }
     ensures ok { IfOk result (λ lists. lists.items ≡ map (links_in streams.now) streams.now) }
@@ -252,7 +253,7 @@ fn links_of(streams: &Streams, tables: Tables) -> Result<Vec<Links>, PairFault>
     Ok(links)
 }
 
-/// Guesses at the places of these pids.
+/// Makes guesses from which the place of each pid is found.
 fn guesses_at(alloc: Global, pids: &[Pid]) -> Result<Guesses, AllocError> {
     let mut guesses = Guesses::for_pids(alloc, pids.len())?;
     for (place, pid) in pids.iter().enumerate() {
@@ -269,7 +270,7 @@ fn pids_of(alloc: Global, streams: &Streams) -> Result<Vec<Pid>, AllocError>
     Ok(pids)
 }
 
-/// The pairing of links, which are those of the streams.
+/// Makes the pairing from the links of the streams.
 fn pairing_of(alloc: Global, streams: &Streams, links: Vec<Links>) -> Result<Pairing, AllocError>
     requires { links.items ≡ map (links_in streams.now) streams.now }
     ensures { IfOk result (λ pairing. pairing ≡ pairing_of streams.now streams.now) }
@@ -283,13 +284,14 @@ fn pairing_of(alloc: Global, streams: &Streams, links: Vec<Links>) -> Result<Pai
     })
 }
 
-/// Pairs the receives of streams with their sends, or tells the first reason against them.
+/// Pairs the receives of streams with their sends, or returns the first reason that holds. Fails
+/// too if memory runs out.
 pub fn pair(alloc: Global, streams: &Streams) -> Result<Pairing, PairFault>
     ensures ok { IfOk result (IsPairing streams.now) }
     ensures err { IfErr result (IsPairFault streams.now) }
 
-    // Reasons are final: no acts show streams with the first, and none without a reset streams
-    // with any.
+    // No acts show streams that have the first reason, and no acts without a reset show streams
+    // that have any of them.
     ensures rules_out { IfErr result (RulesOut streams.now) }
 {
     let tables = Tables::of(alloc, streams)?;

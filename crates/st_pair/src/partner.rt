@@ -13,20 +13,20 @@ use st_core::{Kind, Pid};
 /// The partner of an event. A place is a process and an index among its events, from 0.
 #[derive(Clone, Copy)]
 pub enum Partner {
-    /// A print: nothing.
+    /// No event: a print has no partner.
     Nobody,
-    /// A send: the receive at this place.
+    /// The receive at this place took the send.
     Receive(Pid, u64),
-    /// A send whose receive nobody reported.
+    /// Nobody reported the receive of the send.
     NoReceive,
-    /// A receive: the send at this place.
+    /// The send at this place is the receive's.
     Send(Pid, u64),
-    /// A receive whose send nobody reported.
+    /// Nobody reported the send of the receive.
     NoSend,
 }
 
 impl Partner {
-    /// Its place, if it is an event.
+    /// Returns the place of the partner, if it is a reported event.
     pub fn place(self) -> Option<(Pid, u64)>
         ensures { result ≡ place_of_partner self }
     {
@@ -37,7 +37,6 @@ impl Partner {
     }
 }
 
-/// The partner of a send, by the place of its receive.
 fn partner_of_send(receive: Option<(Pid, u64)>) -> Partner
     ensures { result ≡ partner_of_send receive }
 {
@@ -47,7 +46,6 @@ fn partner_of_send(receive: Option<(Pid, u64)>) -> Partner
     }
 }
 
-/// The partner of a receive, by what its message came from.
 fn partner_of_receive(source: Option<Source>) -> Partner
     ensures { result ≡ partner_of_receive source }
 {
@@ -57,7 +55,7 @@ fn partner_of_receive(source: Option<Source>) -> Partner
     }
 }
 
-/// The partner of the event of this kind at this place.
+/// Returns the partner of the event at this place, which is of kind `kind`.
 pub fn partner_at(pairing: &Pairing, pid: Pid, index: u64, kind: Kind) -> Partner
     ensures { (streams : List Stream) → IsPairing streams pairing.now
         → result ≡ partner_of streams pid index kind }

@@ -1,8 +1,8 @@
 //! The reported receives, by the sender and the count of their message.
 //!
-//! A receive of a reported send or print is noted at the place that its link says. The receives of
-//! hidden sends are in a map, by the sender and the count. Whoever writes the streams chooses both,
-//! so the map's hashes begin with a digest of all its keys.
+//! A receive of a reported send or print is noted at that event, which its link names. The
+//! receives of hidden sends are in a map, by sender and count. Whoever writes the streams chooses
+//! both, so the map's hashes begin with a digest of all its keys.
 
 ghost use Rattle.std.specs.Prelude.{◌≡◌, ℕ, ◌<◌, Option, None, Some, IfOk, IfErr, IfNone, IfSome};
 ghost use Rattle.std.specs.Prelude.{OnOk, length, map, slice_get, slice_index_or, slice_set};
@@ -38,7 +38,7 @@ pub struct Key {
 }
 
 impl Key {
-    /// Those of the message that an event received.
+    /// Returns the sender and the count of the message that an event received.
     pub fn of(event: &Event) -> Key
         ensures { result ≡ record { from = event.now.from; this = event.now.serial.this } }
     {
@@ -49,8 +49,7 @@ impl Key {
     }
 }
 
-/// For each event of a process the place of the first receive from it, if it is a send or print
-/// that has one.
+/// For each event of a process the place of the first receive from it, if there is one.
 #[derive(Debug, Drop)]
 pub struct Marks {
     places: Vec<Option<(Pid, u64)>>,
@@ -66,7 +65,7 @@ impl Model for Marks {
 }
 
 impl Marks {
-    /// No receives yet of these events.
+    /// Makes marks for `events` that note no receive.
     fn none(alloc: Global, events: &[Event]) -> Result<Marks, AllocError>
         ensures len { IfOk result (λ marks. length marks ≡ length events.now) }
         ensures none { IfOk result (λ marks.
@@ -76,14 +75,14 @@ impl Marks {
         Ok(Marks { places })
     }
 
-    /// Returns the mark of the event at this index, if there is one.
+    /// Returns what is noted at the event at `index`; none if there is no event.
     fn at(&self, index: u64) -> Option<Option<(Pid, u64)>>
         ensures { result ≡ slice_get self.now index }
     {
         self.places.get(index as usize).copied()
     }
 
-    /// Notes the place of the first receive from the event at this index.
+    /// Notes at the event at `index` the place of the first receive from it.
     fn put(&mut self, index: u64, place: (Pid, u64))
         requires { index < length self.old }
         ensures { self.new ≡ slice_set self.old index (Some place) }
@@ -92,28 +91,30 @@ impl Marks {
     }
 }
 
-/// Where the receives from an event are noted, and what is noted there.
+/// An event at which receives are noted, and what is noted there.
 #[derive(Clone, Copy, Debug)]
 pub struct Mark {
-    /// The place of its process.
+    /// The place of the event's process in the streams.
     pub process: usize,
-    /// Its index.
+    /// The index of the event.
     pub index: u64,
-    /// The place of the first receive from it.
+    /// The place of the first receive from the event, if one is noted.
     pub first: Option<(Pid, u64)>,
 }
 
 /// For each sender and count the place of the first receive that has them.
 #[derive(Drop)]
 pub struct Receives {
-    /// The receives of reported sends and prints, by the process's place.
+    /// The receives of reported sends and prints, by the place of the process that sent or
+    /// printed.
     shown: Vec<Marks>,
     /// The receives of hidden sends.
     hidden: IndexMap<Key, (Pid, u64), DigestState>,
 }
 
 impl Receives {
-    /// Makes tables without receives. `hidden_keys` has taken the keys of those of hidden sends.
+    /// Makes tables without receives. `hidden_keys` is a digest of the keys of all receives of
+    /// hidden sends.
     fn new(alloc: Global, streams: &Streams, hidden_keys: Sha256) -> Result<Receives, AllocError>
         ensures { IfOk result (λ receives.
             (k : KeyValue) → place_for streams.now receives k ≡ None) }
@@ -125,8 +126,8 @@ impl Receives {
         })
     }
 
-    /// Collects the receives of streams whose events have these links, if no message was received
-    /// twice.
+    /// Collects the receives of streams, whose events have the links `links`. Fails at the first
+    /// receive whose message was received before, or if memory runs out.
     pub fn of(
         alloc: Global,
         streams: &Streams,
@@ -150,8 +151,8 @@ impl Receives {
         Ok(receives)
     }
 
-    /// The place of the first receive of the send or print with this key, which is at this index of
-    /// the process at this place.
+    /// Returns the place of the first receive with this key, whose send or print is at `index` of
+    /// the process at place `process`.
     pub fn first_of(
         &self,
         streams: &Streams,
@@ -170,8 +171,8 @@ impl Receives {
         }
     }
 
-    /// Returns where the receives with this key are noted, if its send or print was reported: then
-    /// `sent` is the index of that.
+    /// Returns where the receives with this key are noted, if its send or print was reported,
+    /// which then has the index `sent`.
     fn mark(&self, streams: &Streams, key: Key, sent: Option<u64>) -> Option<Mark>
         requires rising { IsRising (pids_of streams.now) }
         requires sent { stamp_index streams.now key ≡ sent }
@@ -194,8 +195,9 @@ impl Receives {
         })
     }
 
-    /// Notes a receive, and returns the place of the first one with its key: this one's if there is
-    /// none before it. If its send or print was reported, `sent` is the index of that.
+    /// Notes the receive at `place`, and returns the place of the first receive with its key,
+    /// which is `place` if none came before. If its send or print was reported, `sent` is its
+    /// index.
     fn note(
         &mut self,
         streams: &Streams,
@@ -262,7 +264,8 @@ impl Receives {
     }
 }
 
-/// Returns the mark at this place and index, if there is an event.
+/// Returns what is noted at event `index` of the process at place `process`; none if there is no
+/// event.
 fn mark_at(shown: &[Marks], process: usize, index: u64) -> Option<Option<(Pid, u64)>>
     ensures { result ≡ mark_at shown.now process index }
 {
@@ -272,7 +275,7 @@ fn mark_at(shown: &[Marks], process: usize, index: u64) -> Option<Option<(Pid, u
     }
 }
 
-/// No receives yet of the events of all processes.
+/// Makes marks for the events of all processes that note no receive.
 fn all_marks(alloc: Global, streams: &Streams) -> Result<Vec<Marks>, AllocError>
     ensures { IfOk result (λ shown. shown.items ≡ map no_marks streams.now) }
 {
@@ -283,8 +286,8 @@ fn all_marks(alloc: Global, streams: &Streams) -> Result<Vec<Marks>, AllocError>
     Ok(shown)
 }
 
-/// Notes the receives of one process, whose links these are, up to the first whose message was
-/// received before.
+/// Notes the receives of one process, whose links are `links`. Fails at the first receive whose
+/// message was received before, or if memory runs out.
 fn note_receives(
     receives: &mut Receives,
     streams: &Streams,

@@ -1,4 +1,4 @@
-//! The events that are asked for, each with its place and its line.
+//! The events that a filter chooses, each with its place and its line.
 
 ghost use Rattle.std.specs.Prelude.{◌≡◌, ◌+◌, ◌++◌, length, IfOk, OnOk};
 ghost use Rattle.st_pair.specs.Rows.{listed, row_of, listed_at};
@@ -10,27 +10,27 @@ use std::alloc::{AllocError, Global};
 /// The line of the first process; above it is the header.
 const FIRST_LINE: u64 = 2;
 
-/// An event of a list.
+/// An event of a list, with its place and its line.
 #[derive(Clone, Copy)]
 pub struct Row {
-    /// The process that reports it.
+    /// The process that reports the event.
     pub pid: Pid,
-    /// Its number among the events of that process, from 0.
+    /// The index of the event in the stream of its process, from 0.
     pub index: u64,
-    /// The line of the text that it is on; the header is line 1.
+    /// The line of the text that has the event; the header is line 1.
     pub line: u64,
     /// The event.
     pub event: Event,
 }
 
-/// Returns the number this much further on. There is one, since memory holds the events.
+/// Returns `number + by`. The sum always fits, since memory holds the events that it counts.
 fn further(number: u64, by: u64) -> Result<u64, AllocError>
     ensures { IfOk result (λ n. n ≡ number + by) }
 {
     number.checked_add(by).ok_or(AllocError)
 }
 
-/// Adds the rows of these events of a process that are asked for; the first is on this line.
+/// Adds a row for each of the events that the filter chooses. The first event is on line `first`.
 fn add_rows(
     rows: &mut Vec<Row>,
     filter: &Filter,
@@ -58,8 +58,8 @@ fn add_rows(
     Ok(())
 }
 
-/// The events of streams that are asked for, in the order of the text. Fails only if memory runs
-/// out.
+/// Returns a row for each event that the filter chooses, in the order of the text. Fails only if
+/// memory runs out.
 pub fn list(alloc: Global, streams: &Streams, filter: &Filter) -> Result<Vec<Row>, AllocError>
     ensures { IfOk result (λ rows. rows.items ≡ listed filter.now streams.now) }
 {

@@ -1,4 +1,4 @@
-//! The four rules, each at one event, and what any of them gives first.
+//! The four rules, each at one event, and the first fault of those that look at one process.
 
 ghost use Rattle.std.specs.Prelude.{◌≡◌, ◌==◌, ◌&&◌};
 ghost use Rattle.st_core.specs.Pid.{pid_eq};
@@ -13,7 +13,7 @@ use crate::answer::PairFault;
 use crate::pairing::Link;
 use st_core::{Event, Kind, Pid, Streams};
 
-/// A rule that may refuse streams and looks at one process at a time.
+/// A rule that looks at the events of one process alone.
 #[derive(Clone, Copy)]
 pub enum Rule {
     /// Each event's prev is less than its this.
@@ -23,8 +23,8 @@ pub enum Rule {
 }
 
 impl Rule {
-    /// Returns the rule's fault at one event, given the last send or print before it with its
-    /// count.
+    /// Returns the rule's fault at one event. `last` is the index and the count of the last send
+    /// or print before it.
     fn fault_at(
         &self,
         streams: &Streams,
@@ -74,7 +74,7 @@ impl Rule {
     }
 }
 
-/// Whether one event has a prev that isn't less than its this.
+/// Returns a fault if the event's prev isn't less than its this.
 fn prev_not_before_at(pid: Pid, index: u64, event: &Event) -> Option<PairFault>
     ensures { result ≡ prev_not_before pid index event.now }
 {
@@ -84,7 +84,8 @@ fn prev_not_before_at(pid: Pid, index: u64, event: &Event) -> Option<PairFault>
     None
 }
 
-/// Whether one event is a send or print that has no greater count than the last one before it.
+/// Returns a fault if the event is a send or print whose count isn't above that of the last one
+/// before it, which is `last`.
 fn not_rising_at(
     streams: &Streams,
     pid: Pid,
@@ -116,7 +117,8 @@ fn is_place(first: Pid, place: u64, pid: Pid, index: u64) -> bool
     first == pid && place == index
 }
 
-/// Whether a receive isn't the first one with its sender and count, which is at the first place.
+/// Returns a fault if the receive isn't at `first`, the place of the first receive with its sender
+/// and count.
 pub fn repetition_at(first: (Pid, u64), pid: Pid, index: u64) -> Option<PairFault>
     ensures { result ≡ repeated_by first pid index }
 {
@@ -127,7 +129,7 @@ pub fn repetition_at(first: (Pid, u64), pid: Pid, index: u64) -> Option<PairFaul
     }
 }
 
-/// Whether these are one process, or neither is there.
+/// Returns whether both name one process, or neither names any.
 fn is_same_to(left: Option<Pid>, right: Option<Pid>) -> bool
     ensures { result ≡ to_eq left right }
 {
@@ -140,7 +142,7 @@ fn is_same_to(left: Option<Pid>, right: Option<Pid>) -> bool
     }
 }
 
-/// Whether a send or print is the send of a receive.
+/// Returns whether the event `sent` is the send of the receive `event`.
 fn is_send_of(sent: &Event, event: &Event) -> bool
     ensures { result ≡ agrees sent.now event.now }
 {
@@ -154,8 +156,7 @@ fn is_send_of(sent: &Event, event: &Event) -> bool
     }
 }
 
-/// Whether one event is a receive whose sender has its count on an event that isn't its send. The
-/// link says where such an event is.
+/// Returns a fault if the event is a receive, and the event that its link names isn't its send.
 pub fn mismatch_at(
     streams: &Streams,
     pid: Pid,

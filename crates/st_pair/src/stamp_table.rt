@@ -10,9 +10,9 @@ use st_core::{Event, Kind, Pid, Sequence, Streams};
 use std::alloc::{AllocError, Global};
 use std::marker::Model;
 
-/// How many rows after the one that was found last are searched first. One process's messages
-/// reach a receiver in order mostly, with those to others between them: the rows between are few,
-/// and lie side by side in memory, which those of a binary search of all don't.
+/// The number of rows, from the one after the row found last, that are searched first. A receiver
+/// mostly takes a process's messages in order, with a few sends to others between them, so the row
+/// is near. Near rows lie side by side in memory; those that a binary search of all reads don't.
 const NEAR: usize = 128;
 
 /// A send or print of a process.
@@ -29,8 +29,8 @@ pub struct StampRow {
 pub struct Stamps {
     rows: Vec<Sequence<StampRow>>,
 
-    // For each process the number of the row after the one that was found last: messages mostly are
-    // received as they were sent. Only time depends on it.
+    // For each process the number of the row after the one that was found last: messages are
+    // mostly received in the order in which they were sent. Only time depends on it.
     next: Vec<usize>,
 }
 
@@ -44,7 +44,7 @@ impl Model for Stamps {
 }
 
 impl Stamps {
-    /// Those of streams in which the counts of each process rise.
+    /// Collects the sends and prints of streams in which the counts of each process rise.
     pub fn of(alloc: Global, streams: &Streams) -> Result<Stamps, AllocError>
         requires { first (not_rising streams.now) streams.now ≡ None }
         ensures { IfOk result (AreStamps streams.now) }
@@ -54,7 +54,7 @@ impl Stamps {
         Ok(Stamps { rows, next })
     }
 
-    /// Returns the index of the send or print of this process with this count.
+    /// Returns the index of the send or print of `from` with the count `this`.
     pub fn find(&mut self, streams: &Streams, from: Pid, this: u64) -> Option<u64>
         requires { AreStamps streams.now self.old }
         ensures found { result ≡ option_map (λ f. f.0) (stamp_of streams.now from this) }
@@ -74,7 +74,7 @@ impl Stamps {
     }
 }
 
-/// The row of this number, if it has the count.
+/// Returns row `number`, if it has the count.
 fn row_at(rows: &[StampRow], number: usize, count: u64) -> Option<StampRow>
     ensures { result ≡ option_and_then (row_under count) (slice_get rows.now number) }
 {
@@ -84,8 +84,8 @@ fn row_at(rows: &[StampRow], number: usize, count: u64) -> Option<StampRow>
     }
 }
 
-/// The row with this count and its number, if it is one of the `width` rows from `start` on and
-/// their counts rise.
+/// Returns the row with the count and its number, if it is among the `width` rows from `start` on,
+/// a row comes after these, and their counts rise.
 fn row_near(rows: &[StampRow], start: usize, width: usize, count: u64) -> Option<(usize, StampRow)>
     ensures { IfSome result (λ found.
         Some found.1 ≡ option_and_then (row_under count) (slice_get rows.now found.0)) }
@@ -101,8 +101,8 @@ fn row_near(rows: &[StampRow], start: usize, width: usize, count: u64) -> Option
     Some((number, row))
 }
 
-/// The row with this count, and its number: `next`, one soon after it, or what a binary search
-/// of all finds.
+/// Returns the row with the count and its number. It tries row `next`, then the rows soon after
+/// it, then a binary search of all.
 fn find_row(rows: &[StampRow], next: usize, count: u64) -> Option<(usize, StampRow)>
     requires { AreRising rows.now }
     ensures { option_map (λ found. found.1) result ≡ find (λ r. r.count == count) rows.now }
@@ -120,7 +120,7 @@ fn find_row(rows: &[StampRow], next: usize, count: u64) -> Option<(usize, StampR
     }
 }
 
-/// The sends and prints among these events.
+/// Returns the sends and prints among `events`.
 fn rows_of(alloc: Global, events: &[Event]) -> Result<Vec<StampRow>, AllocError>
     ensures { IfOk result (λ rows. rows.items ≡ stamp_rows 0 events.now) }
 {
@@ -137,7 +137,7 @@ fn rows_of(alloc: Global, events: &[Event]) -> Result<Vec<StampRow>, AllocError>
     Ok(rows)
 }
 
-/// The sends and prints of all processes.
+/// Returns the sends and prints of all processes.
 fn all_rows(alloc: Global, streams: &Streams) -> Result<Vec<Sequence<StampRow>>, AllocError>
     ensures { IfOk result (λ rows. rows.items ≡ map rows_in streams.now) }
 {

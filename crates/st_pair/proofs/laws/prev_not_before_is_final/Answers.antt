@@ -1,4 +1,4 @@
--- The serial of every report rises, so such an event is no run's.
+-- The serial of every report rises, so no run reports an event whose serial doesn't.
 use Rattle.st_pair.specs.declared.answer.PairFault.TheVariants as fault
 use Rattle.st_pair.proofs.FinalReasons.{prev_never_shown}
 use Rattle.st_pair.proofs.laws.prev_not_before_is_final.Goals as goal

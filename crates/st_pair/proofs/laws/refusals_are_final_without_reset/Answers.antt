@@ -1,4 +1,4 @@
--- Acts without a reset show no streams of which a reason holds: see Final.
+-- `FinalReasons` shows of each reason that no acts without a reset show the streams.
 use Rattle.st_pair.proofs.FinalReasons.{refused_never_shown}
 use Rattle.st_pair.proofs.laws.refusals_are_final_without_reset.Goals as goal
 

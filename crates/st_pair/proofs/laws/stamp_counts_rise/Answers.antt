@@ -1,4 +1,4 @@
--- Accepted streams have no stamp whose count isn't above the one before it.
+-- In accepted streams each stamp has a greater count than the stamp before it.
 use Rattle.st_pair.proofs.AcceptedEvents.{paired}
 use Rattle.st_pair.proofs.Converse.{stamp_counts_rise}
 use Rattle.st_pair.proofs.laws.stamp_counts_rise.Goals as goal

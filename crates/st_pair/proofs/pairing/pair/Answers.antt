@@ -1,5 +1,5 @@
--- By what refuses the streams: a reason that `Tables` looks for before or while it makes the links.
--- The links of all streams are the pairing.
+-- The streams are refused for a reason of `Tables`, or for one found while the links are filled
+-- in. If neither is there, the links of all streams are the pairing.
 use Rattle.std.proofs.Common.{◌∙◌, ap, rules, IfErr, None, Option}
 use Rattle.st_pair.specs.declared.answer.PairFault.{PairFault}
 use Rattle.st_pair.specs.Pairing.{IsPairFault}

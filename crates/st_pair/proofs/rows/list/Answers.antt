@@ -1,4 +1,4 @@
--- One process more: its events are below its line.
+-- The next process's events are on the lines below its own.
 use Rattle.st_pair.proofs.Listed.{process_listed}
 use Rattle.st_pair.proofs.rows.list.Goals as goal
 

@@ -1,4 +1,4 @@
--- Nothing is noted of any event, nor kept of a hidden send.
+-- No event has a mark yet, and the map of hidden sends is empty.
 use Rattle.std.proofs.Common.{◌≡◌, ◌∙◌, ap, rules, None}
 use Rattle.indexmap.specs.IndexMap.{get}
 use Rattle.st_pair.specs.Tables.{key_eq, mark_of}

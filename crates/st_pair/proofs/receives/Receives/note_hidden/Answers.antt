@@ -1,4 +1,4 @@
--- A new key joins the map, and a key that was there with another place is told.
+-- A new key joins the map, and for a key that is there the place of its first receive is returned.
 use Rattle.std.proofs.Common.{inl, inr, sym, ◌∙◌, ap, Some}
 use Rattle.indexmap.specs.IndexMap.{get}
 use Rattle.st_pair.specs.Places.{or_else}

@@ -1,4 +1,5 @@
--- The table so far with what is left comes to all receives, and no receive so far was a second one.
+-- The table so far with the streams left gives all receives, and no receive so far was a second
+-- one.
 use Rattle.std.proofs.Common.{◌≡◌, drop}
 use Rattle.st_pair.specs.declared.receives.Key.{Key}
 use Rattle.st_pair.specs.Places.{first, or_else}

@@ -1,4 +1,4 @@
--- A stream's first such place is the first of all if no stream before it has one.
+-- A stream's first fault is the first of all if no stream before it has a fault.
 use Rattle.st_pair.specs.Rules.{fault_at}
 use Rattle.st_pair.proofs.Firsts.{first-given, first-passed}
 use Rattle.st_pair.proofs.rules.Rule.first_fault.Goals as goal

@@ -1,4 +1,4 @@
--- A send or print is the last one from then on.
+-- After a send or print, that event is the last one.
 use Rattle.std.proofs.Common.{arith}
 use Rattle.std.proofs.lemmas.Grind.{common_steps}
 use Rattle.std.proofs.lemmas.Option.{slice_get-get_or}
