@@ -1,6 +1,5 @@
--- Acts are tried up to the first that has no step: after acts that ran it is the first of the later
--- ones, and what comes after it isn't tried. So calls in a row had the outcome of their acts in a
--- row.
+-- Acts are tried up to the first that has no step. After acts that ran that is the first of the
+-- later acts, so calls in a row have the outcome of their acts in a row.
 use Rattle.std.proofs.Common.{◌≡◌, ℕ, Bool, false, List, [], ◌∷◌, ◌++◌, Option, Some, None}
 use Rattle.std.proofs.Common.{option_map, option_and_then, Result, Ok, Err, append_assoc, refl, sym}
 use Rattle.std.proofs.Common.{◌∙◌, ap, subst}
@@ -59,7 +58,7 @@ none_after top s (x ∷ xs) ys os runs none =
     ap (option_and_then (run_on top (xs ++ ys))) t.is_first ∙ ap (option_map (λ os. t.first ∷ os))
     rest
 
--- what comes after the first that has no step isn't tried
+-- acts after the first that has no step aren't tried
 record StuckBefore (top : ℕ) (s : State) (xs ys : List Act) : Type 0 where
   pub none : run_from top s (xs ++ ys) ≡ None
   pub same : tried_acts top s (xs ++ ys) ≡ tried_acts top s xs
@@ -118,13 +117,13 @@ stopped_none top s acts xs is =
     sym (turn_outcomes top s acts (run_from top s acts)) ∙ ap outcomes_in is in
     (none, ap acts_in (sym (ap (turn_by top s acts) none) ∙ is))
 
--- no reason of the auditor's is against acts alone
+-- acts alone are never refused
 pub never_refused : (top : ℕ) (s : State) (acts : List Act) (o : Option (List Outcome)) (r : Reason)
     → turn_by top s acts o ≡ Refused r → ⊥
 never_refused top s acts None r is = absurd (cc)
 never_refused top s acts (Some os) r is = absurd (cc)
 
--- acts that try one
+-- if there is an act, one is tried
 tries_by : (top : ℕ) (s : State) (a : Act) (rest : List Act) (o : Option (List Outcome))
     → TriesAct (turn_by top s (a ∷ rest) o)
 tries_by top s a rest None = tt
@@ -145,7 +144,7 @@ tries_more top s (x ∷ xs) ys o p tries = tries_by top s x (xs ++ ys) p
 
 -- ACTS THAT WERE PERFORMED
 
--- the acts ran, and are at the end
+-- the acts ran, and were added at the end
 pub record Performed {top : ℕ} (acts : List Act) (old new : Construction top) : Type 0 where
   pub outcomes : List Outcome
   pub runs : run_from top old.world acts ≡ Some outcomes
@@ -161,7 +160,7 @@ none_performed c = record {
 }
 
 module _ {top : ℕ} {T : Type 0} (says : T → List Outcome → Type 0) where
-  -- what went through was performed
+  -- acts that went through were performed
   pub record Done (acts : List Act) (old : Construction top) (x : T) (new : Construction top) : Type
       0 where
     pub made : Performed acts old new
@@ -193,7 +192,7 @@ module _ {top : ℕ} {T : Type 0} (says : T → List Outcome → Type 0) where
     put = made.put;
   }
 
--- one act, by its step
+-- one act that was performed had a step
 pub one_step : {top : ℕ} (a : Act) (old new : Construction top) → Performed (a ∷ []) old new
     → (o : Outcome) × (step top old.world a ≡ Some o) × (new.world ≡ o.after)
 one_step {top} a old new made =
@@ -204,7 +203,7 @@ one_step {top} a old new made =
           ∙ ap (state_after t.first.after) (sym (same_Some [] t.others t.is_rest)),
     )
 
--- acts in a row
+-- acts that were performed after others were performed together with them
 pub then_performed : {top : ℕ} (xs ys : List Act) (old mid new : Construction top)
     → Performed xs old mid
     → Performed ys mid new → Performed (xs ++ ys) old new
@@ -219,7 +218,7 @@ then_performed {top} xs ys old mid new one two = record {
 
 -- ONE CALL AFTER THE OTHER
 
--- acts that halt have the same outcome with others after them
+-- acts that halt have the same outcome if others come after them
 pub halts_before : {top : ℕ} {T U : Type 0} (one : T → List Outcome → Type 0)
     (two : U → List Outcome → Type 0)
     (xs ys : List Act) (old : Construction top) (h : Halt) (new : Construction top)
@@ -239,7 +238,7 @@ halts_before {top} one two xs ys old halt.Stopped new meets =
 halts_before {top} one two xs ys old h new meets =
     absurd (never_refused top old.world xs (run_from top old.world xs) _ meets)
 
--- the outcome of acts after others that were performed
+-- acts that halt after performed acts give the outcome of all of them
 pub halts_after : {top : ℕ} {T U : Type 0} (one : T → List Outcome → Type 0)
     (two : U → List Outcome → Type 0)
     (xs : List Act) (a : Act) (ys : List Act) (old mid : Construction top) (h : Halt)
@@ -269,7 +268,7 @@ pub last_report-push : (r : Option _) (os : List Outcome) (o : Outcome)
 last_report-push r [] o = refl
 last_report-push r (p ∷ os) o = last_report-push p.report os o
 
--- so one act more is made
+-- an act after performed acts is performed together with them
 pub one_more : {top : ℕ} (xs : List Act) (a : Act) (old mid : Construction top)
     (r : Result Told Halt)
     (new : Construction top) → Performed xs old mid
@@ -291,7 +290,7 @@ one_more {top} xs a old mid (Err h) new made meets =
 
 -- THE ATTEMPT
 
--- the acts of an item of which no reason holds
+-- an attempt of which no reason holds is the outcome of its acts
 pub attempt_acts : (top : ℕ) (s : State) (one two : Bool) (plan : Option (List Act))
     (acts : List Act)
     → one ≡ false → two ≡ false → plan ≡ Some acts
@@ -333,7 +332,7 @@ only_memory says t acts os old halt.Stopped new through meets = let stopped = me
     absurd (cc)
 only_memory says t acts os old h new through meets = absurd (cc)
 
--- what a call did from one construction it did from another with the same world and the same acts
+-- a call does the same from another construction with the same world and acts
 pub from_same : {top : ℕ} {T : Type 0} (says : T → List Outcome → Type 0) (t : Turn)
     (mid old : Construction top)
     (r : Result T Halt) (new : Construction top) → mid.world ≡ old.world → mid.acts ≡ old.acts

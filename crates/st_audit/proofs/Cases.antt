@@ -1,5 +1,5 @@
--- Worked cases: the construction computed. Nothing cites this file; it shows that the definitions
--- say what is meant.
+-- The construction computed on worked cases, which show that the definitions say what is meant.
+-- Nothing cites this file.
 use Rattle.std.specs.Prelude.{◌≡◌, true, false, List, [], ◌∷◌, Some, None, refl}
 use Rattle.st_core.specs.declared.types.Pid.{Pid}
 use Rattle.st_core.specs.declared.types.Flags.{Flags}
@@ -19,11 +19,11 @@ dressed p f = act.Restore p (unstamped_token p (record { 0 = 1 }) f)
 abbrev ends : List Stream → End
 ends streams = end_of top streams (order streams)
 
--- no items: no acts
+-- without items there are no acts
 of_nothing : ends (of a [] ∷ of b [] ∷ []) ≡ Judged [] None
 of_nothing = refl
 
--- one hidden send, which goes through
+-- a hidden send goes through
 one_hidden : ends (of a [] ∷ of b (got 1 0 1 a b 7 ∷ []) ∷ []) ≡ Judged (
     act.Tracer a true ∷ dressed a (record { send = false; receive = true; print = false })
     ∷ act.Send a b 7
@@ -36,12 +36,12 @@ uncaused_first : ends (of a [] ∷ of b (got 1 0 5 a b 7 ∷ printed 1 2 2006 b 
     ≡ Unfounded (b, 1) reason.Uncaused
 uncaused_first = refl
 
--- a hidden send before which too many counts are missing; it is where its receive is
+-- too many counts are missing before a hidden send; the finding names its receive
 hidden_too_wide : ends (of a [] ∷ of b (got 1 0 1002 a b 7 ∷ []) ∷ [])
     ≡ Unfounded (b, 0) reason.TooWide
 hidden_too_wide = refl
 
--- a receive that is in the order before its send, since its sender received a greater count first:
+-- a receive comes before its send in the order, since its sender received a greater count first:
 -- its message isn't there, and no act is tried for it
 not_there : ends (of a (got 1 0 9 c a 4 ∷ sent 1 1 3 a b 5 ∷ []) ∷ of b (got 1 1 3 a b 5 ∷ [])
     ∷ of c [] ∷ [])

@@ -62,7 +62,7 @@ module _ (top : ℕ) (streams : List Stream) (sound : IsStreams streams) (plain 
               ∙ goes_marked top streams all_told sound plain xs order n x at s acts track,
         ) refl
 
-    -- of the event that the course has there
+    -- the turn of the item's event goes through
     through_at : (e : Event) → event_of streams x ≡ Some e
         → turn top streams all_told s past (move_by x e) ≡ Through to.goes.acts to.goes.outcomes
     through_at e there =
@@ -116,7 +116,7 @@ module _ (top : ℕ) (streams : List Stream) (sound : IsStreams streams) (plain 
 
 -- THE FINDING
 
--- acts that are judged are a certificate if no verdict but sure is theirs
+-- if no verdict on the acts but yes is possible, their finding is a certificate
 judged_fits : (top : ℕ) (streams : List Stream) (acts : List Act) (place : Option (Pid × ℕ))
     (found : Finding)
     → ((v : verdicts.Verdict) → verdicts.IsVerdict top streams acts v → IsNo v → ⊥)

@@ -1,5 +1,5 @@
--- Acts move clocks and last counts so: an act other than a reset moves those of its actor alone,
--- and none that comes before a stamp lets the clock fall.
+-- An act other than a reset moves the clock and the last count of its actor alone, and no act that
+-- makes a process ready for a stamp lets its clock fall.
 use Rattle.std.proofs.Common.{◌≡◌, ℕ, ◌+◌, ◌≤◌, ◌&&◌, nat_lt, Bool, true}
 use Rattle.std.proofs.Common.{false, cond, List, [], ◌∷◌, ◌++◌, Option, Some, None, refl, sym, ◌∙◌}
 use Rattle.std.proofs.Common.{ap, subst, arith, if◌then◌else◌}
@@ -27,12 +27,12 @@ use Rattle.st_plan.proofs.ForCallers.{is_alone}
 
 -- ONE ACT
 
--- the act is no reset
+-- the act isn't a reset
 abbrev pub IsNoReset : Act → Type 0
 IsNoReset (act.Reset p) = ⊥
 IsNoReset a = Unit {0}
 
--- one has the clock and the last count of the other
+-- both have one clock and one last count
 pub record HaveSame (l m : LocalState) : Type 0 where
   pub clocked : l.clock ≡ m.clock
   pub lasted : l.last ≡ m.last
@@ -63,7 +63,7 @@ both_same : (l m n : LocalState) → HaveSame l m → HaveSame m n → HaveSame 
 both_same l m n one two =
     record { clocked = one.clocked ∙ two.clocked; lasted = one.lasted ∙ two.lasted }
 
--- the process was there, with the same counts
+-- the process was there before, with the clock and the last count of l
 pub record WasSame (s : State) (x : Pid) (l : LocalState) : Type 0 where
   pub before : Process
   pub is_before : process s x ≡ Some before
@@ -133,13 +133,13 @@ stamp_some top p l m t is h =
     let e : stamp_any top p l ≡ cond (nat_lt l.clock top) (Some made) None = rw is refl in
     sym (cond_some (nat_lt l.clock top) made m (sym e ∙ h)).1
 
--- and of one without
+-- what a stamp of a process without a token makes of it
 stamp_none : (top : ℕ) (p : Pid) (l m : LocalState) → l.token ≡ None → stamp_any top p l ≡ Some m
     → m ≡ l
 stamp_none top p l m is h =
     sym (same_Some l m (sym (let e : stamp_any top p l ≡ Some l = rw is refl in e) ∙ h))
 
--- a stamp that is reported is that of the event's serial
+-- the serial of a reported stamp is that of its event
 pub record IsTold (l m : LocalState) (e : Event) : Type 0 where
   pub clocked : m.clock ≡ e.serial.this
   pub lasted : m.last ≡ e.serial.prev
@@ -217,13 +217,13 @@ alone_is p (act.Clear q) h = (sym h, tt)
 alone_is p (act.Restore q t) h = (sym h, tt)
 alone_is p a h = absurd h
 
--- p was there, with a clock that isn't above
+-- p was there, with a clock no greater
 pub record WasBelow (s : State) (p : Pid) (l : LocalState) : Type 0 where
   pub before : Process
   pub is_before : process s p ≡ Some before
   pub below : before.local.clock ≤ l.clock
 
--- between these states p alone moved, and its clock didn't fall
+-- p alone moved between these states, and its clock didn't fall
 pub record HasRisen (p : Pid) (s after : State) : Type 0 where
   pub others : (x : Pid) (r : Process) → pid_eq x p ≡ false → process after x ≡ Some r
       → WasSame s x r.local

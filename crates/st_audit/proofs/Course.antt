@@ -1,5 +1,5 @@
--- The course of the items, from one item to the next: the construction is where the items so far
--- led, so the outcome of the next one decides how the course goes on, or where it ends.
+-- The construction is in the state to which the items so far led, so the outcome of the next item
+-- decides how the course goes on, or where it ends.
 use Rattle.std.proofs.Common.{◌≡◌, ℕ, ◌+◌, ◌-◌, ◌<◌, ◌≤◌, ◌==◌, zero, suc, false, List, [], ◌∷◌}
 use Rattle.std.proofs.Common.{◌++◌, take, drop, length, get_or, Option, Some, None, option_map}
 use Rattle.std.proofs.Common.{slice_get, unwrap_or, refl, sym, ◌∙◌, ap, arith}
@@ -47,7 +47,7 @@ tracers_first : (streams : List Stream) (xs : List Item) → 0 < length xs
 tracers_first streams [] some = absurd (omega arith)
 tracers_first streams (x ∷ xs) some = refl
 
--- the course from where the construction is, with n items done
+-- the course of all items is that of the items from n on, from this state and these acts
 abbrev pub IsOnCourse : ℕ → List Stream → List Item → ℕ → State → List Act → Type 0
 IsOnCourse top streams xs n s acts = end_of top streams xs
     ≡ course top streams (last_place xs) s (earlier_of streams (take n xs)) acts
@@ -81,7 +81,7 @@ module _ (top : ℕ) (streams : List Stream) (rising : IsRising (pids_of streams
   at : slice_get xs n ≡ Some here
   at = slice_get-get_or xs n d within
 
-  -- its event, and how the course goes on
+  -- the next item's event, and how the course goes on after its turn
   pub record IsNext : Type 0 where
     pub event : Event
     pub there : event_of streams here ≡ Some event
@@ -131,7 +131,7 @@ module _ (top : ℕ) (streams : List Stream) (rising : IsRising (pids_of streams
       (sym (earlier_more streams xs n here course_item.event at course_item.there))
 
   module _ (place : Pid × ℕ) (is : place ≡ item_place (get_or xs n d)) where
-    -- where it stops
+    -- where the course stops
     pub course_stops : (now more : List Act) → here_turn ≡ Stopped more → now ≡ acts ++ more
         → Judged now (Some place) ≡ end_of top streams xs
     course_stops now more stopped put =
@@ -140,7 +140,7 @@ module _ (top : ℕ) (streams : List Stream) (rising : IsRising (pids_of streams
         ∙ ap (λ (y : Item). Judged now (Some (item_place y))) (item_is here course_item.event)
         ∙ ap (λ (p : Pid × ℕ). Judged now (Some p)) (sym is))
 
-    -- and where a reason of the auditor's holds
+    -- where a reason of the auditor's refuses the item
     pub course_refused : (r : Reason) → here_turn ≡ Refused r
         → Unfounded place r ≡ end_of top streams xs
     course_refused r refused =

@@ -17,18 +17,18 @@ use Rattle.st_audit.specs.Construction.{end_of, IsAudit, IsFoundAt, IsFoundBy}
 use Rattle.st_audit.specs.Findings.{unfit_by, HandsOn}
 
 module _ (top : ℕ) (streams : List Stream) where
-  -- streams that pairing refuses
+  -- streams that pairing refuses have its reason as their finding
   pub refused_audit : (f : PairFault) (found : Finding) → IsPairFault streams f
       → unfit_by f ≡ Some found
       → IsAudit top streams found
   refused_audit fault.Memory found why is = absurd (none-some found is)
   refused_audit f found why is = subst (λ o. IsFoundBy top streams o found) (sym why) is
 
-  -- and so it is pairing's reason that is found of them
+  -- the finding of streams that pairing refuses has its reason
   pub hands_on : (found : Finding) → IsAudit top streams found → HandsOn streams found
   hands_on found is f why = subst (λ o. IsFoundBy top streams o found) why is
 
-  -- and those that it accepts
+  -- streams that pairing accepts have the finding at the end of their items
   pub accepted_audit : (xs : List Item) (r : Result Finding AuditFault) → IsRising (pids_of streams)
       → refusal streams ≡ None → IsOrder streams xs
       → IfOk r (IsFoundAt top streams (end_of top streams xs))

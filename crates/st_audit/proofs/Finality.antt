@@ -11,7 +11,7 @@ use Rattle.st_audit.specs.declared.finding.Finding.TheVariants as finding
 use Rattle.st_audit.specs.declared.finding.Reason.TheVariants as reason
 use Rattle.st_audit.specs.Findings.{fault_of, IsFinding}
 
--- what is found by pairing's reason is why it refuses the streams
+-- a finding with a reason of pairing says why pairing refuses the streams
 refused_by : (top : ℕ) (streams : List Stream) (found : Finding) → IsFinding top streams found
     → ForSome (fault_of found) (λ f. refusal streams ≡ Some f)
 refused_by top streams (finding.Unfit p i reason.Uncaused) is f e = absurd (none-some f e)
@@ -21,7 +21,7 @@ refused_by top streams (finding.Unfit p i (reason.NotReplayed acts v)) is f e =
 refused_by top streams (finding.Fits acts pairs) is f e = absurd (none-some f e)
 refused_by top streams found is f e = is.1 ∙ e
 
--- so what the reason rules out is ruled out
+-- a finding with a reason of pairing rules out the acts that the reason rules out
 pub finding_rules_out : (top : ℕ) (streams : List Stream) (found : Finding)
     → IsFinding top streams found
     → ForSome (fault_of found) (RulesOut streams)

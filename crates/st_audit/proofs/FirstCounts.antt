@@ -1,4 +1,4 @@
--- A world begins with all counts at zero, and a tracer moves none.
+-- A world begins with all counts at zero, and a tracer changes no count.
 use Rattle.std.proofs.Common.{◌≡◌, ℕ, Bool, true, false, cond, List, [], ◌∷◌, Some, refl, sym, ◌∙◌}
 use Rattle.std.proofs.Common.{ap, subst}
 use Rattle.std.proofs.lemmas.Option.{same_Some, none-some}

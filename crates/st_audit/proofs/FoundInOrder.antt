@@ -61,7 +61,7 @@ module _ {top : ℕ} {streams : List Stream} {pairing : List ProcessLinks} {xs :
       new.acts
       done.acts done.outcomes done.through done.after done.put
 
-  -- it ends at the item, which is here
+  -- the construction ends at the item, which is at this place
   module _ (place : Pid × ℕ) (is : place ≡ item_place (get_or xs n none)) (h : Halt)
       (new : Construction top)
       (met : IsMetHere (Err h) new) where

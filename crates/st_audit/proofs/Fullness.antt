@@ -1,4 +1,4 @@
--- A run that reports all of itself has plain streams, so what is found of these fits.
+-- A run that reports everything has plain streams, so their finding is a certificate.
 use Rattle.std.proofs.Common.{◌⊎◌, inl, inr, ℕ, List}
 use Rattle.st_core.specs.Pid.{IsRising}
 use Rattle.st_core.specs.Run.{Stream, pids_of}
@@ -6,7 +6,7 @@ use Rattle.st_plan.specs.Plain.{IsPlain}
 use Rattle.st_plan.specs.Full.{IsFullyShown}
 use Rattle.st_plan.proofs.ForCallers.{full_plain}
 
--- what certainly fits is plain, since the streams of a run that reports all of itself are
+-- streams are plain too if a run shows them that reports everything
 pub certain_plain : (top : ℕ) (streams : List Stream) → IsRising (pids_of streams)
     → IsPlain top streams ⊎ IsFullyShown top streams → IsPlain top streams
 certain_plain top streams rising (inl plain) = plain

@@ -1,5 +1,5 @@
--- An item of the order has an event at its place, and its move is between those of the items before
--- and after it.
+-- An item of the order has an event at its place, and its move is between the moves of the items
+-- before it and after it.
 use Rattle.std.proofs.Common.{◌≡◌, ℕ, zero, suc, ◌<◌, List, [], ◌∷◌, ◌++◌, reverse, take, drop}
 use Rattle.std.proofs.Common.{Some, IsSome}
 use Rattle.std.proofs.Common.{slice_get, length, get_or, refl, sym, ◌∙◌, ap, subst}
@@ -18,7 +18,7 @@ use Rattle.st_order.specs.Order.{IsOrder}
 use Rattle.st_plan.specs.Moves.{move_by, moves, earlier_of}
 use Rattle.st_plan.proofs.ForCallers.{moves_append, one_move, order_there, IsAt, IsThere}
 
--- an item's event
+-- an item has an event
 pub event_there : (streams : List Stream) (x : Item) → IsThere streams x
     → (e : Event) × (event_of streams x ≡ Some e)
 event_there streams (item.Reported p i) there = there
@@ -47,7 +47,7 @@ cut [] n x at = absurd (none-some x at)
 cut (y ∷ xs) zero x at = ap (λ z. z ∷ xs) (same_Some y x at)
 cut (y ∷ xs) (suc n) x at = ap (λ zs. y ∷ zs) (cut xs n x at)
 
--- the moves of an order round that of an item
+-- the moves of an order are those before an item's, the item's, and those after it
 pub split_at : (streams : List Stream) (xs : List Item) (n : ℕ) (x : Item) (e : Event)
     → slice_get xs n ≡ Some x
     → event_of streams x ≡ Some e

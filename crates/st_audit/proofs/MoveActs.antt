@@ -1,4 +1,4 @@
--- The acts of a move, by the kind of its event; they end with its own.
+-- The acts of a move end with the act of its event, by the event's kind.
 use Rattle.std.proofs.Common.{◌≡◌, ℕ, Bool, true, false, cond, List, [], ◌∷◌, ◌++◌, Option, Some}
 use Rattle.std.proofs.Common.{None, option_map, option_to_list, position, refl, sym, ◌∙◌, ap}
 use Rattle.std.proofs.lemmas.Option.{same_Some, none-some}
@@ -20,7 +20,7 @@ use Rattle.st_plan.specs.Moves.{move_by}
 use Rattle.st_plan.specs.Build.{acts_of, flags_of, ready, start_of, state_after}
 use Rattle.st_audit.specs.Progress.{if_told}
 
--- the acts of a receive from this place, if there is one
+-- the acts of a receive that takes the message at this place, if there is one
 abbrev taking : Pid → Option ℕ → Option (List Act)
 taking p place = option_map (λ (a : Act). a ∷ [])
     (option_map (λ k. act.Receive p (want.Place k)) place)
@@ -30,7 +30,7 @@ taken_at : (p : Pid) (place : Option ℕ) (acts : List Act) → taking p place �
 taken_at p None acts h = absurd (none-some acts h)
 taken_at p (Some k) acts h = (k, refl, same_Some (act.Receive p (want.Place k) ∷ []) acts h)
 
--- what brings p to the stamp of its event, and this act
+-- the acts that make p ready for the event's stamp, and then the act a
 abbrev pub ended : List Stream → Marks → Pid → ℕ → Event → Process → Act → List Act
 ended streams marks p i e r a =
     ready p (start_of r.local) e.label e.serial
@@ -54,7 +54,7 @@ module _ (streams : List Stream) (marks : Marks) (p : Pid) (i : ℕ) (e : Event)
       rw (is, is_to) refl in
       same_Some plan acts (sym made ∙ are)
 
-  -- a send goes somewhere
+  -- a send with acts has a receiver
   pub send_goes : e.kind ≡ kind.Send → e.to ≡ None → ⊥
   send_goes is is_to =
       let made : acts_of streams marks r (move_by (item.Reported p i) e) ≡ None =
@@ -77,7 +77,7 @@ module _ (streams : List Stream) (marks : Marks) (p : Pid) (i : ℕ) (e : Event)
       let found : place_in s p e.from e.serial.this ≡ Some taken.0 = lies ∙ taken.1 in
       record { place = taken.0; found = found; same = taken.2 }
 
--- a hidden send is its sender's
+-- the acts of a hidden send are its sender's
 pub hidden_acts : (streams : List Stream) (marks : Marks) (p : Pid) (i : ℕ) (e : Event)
     (r : Process) (acts : List Act)
     (to : Pid)
@@ -106,7 +106,7 @@ only None false e h = refl
 only (Some x) true e h = ap (λ (x : Event). Some x) (cc)
 only (Some x) false e h = absurd (cc)
 
--- acts that ran with one more after them
+-- acts that ran and end with act a
 pub record LastStep (top : ℕ) (s : State) (xs : List Act) (a : Act) (os : List Outcome) : Type 0
   where
     pub front : List Outcome

@@ -42,7 +42,7 @@ use Rattle.st_audit.specs.Progress.{item_turn, marked_turn, missing_count, move_
 use Rattle.st_audit.specs.Progress.{stamp_skip, stamp_turn, test_at, IsSoFar, Meets, SaysNothing}
 use Rattle.st_audit.specs.Progress.{TellsLast, TriesAct, WentThrough}
 
--- at the exit of a `?`
+-- what holds of the error holds of the result at the exit of a `?`
 pub on_err : {T E : Type 0} (r : Result T E) (h : E) (P : Result T E → Type 0)
     → IsErrAnd r (λ y. y ≡ h) → P (Err h)
     → P r
@@ -67,7 +67,7 @@ stamp_turn_of : {top : ℕ} (c : Construction top) (p : Pid) (e : Event) (f : Fl
     (Some (ready p (start_of r.local) e.label e.serial f ++ a ∷ []))
 stamp_turn_of c p e f a r is = rw is refl
 
--- by what the code found the process to have
+-- the turn of a stamp, by the token, clock and last count that the code found
 pub stamp_turn_is : {top : ℕ} (c : Construction top) (p : Pid) (e : Event) (f : Flags) (a : Act)
     (start : Start)
     → option_map (λ (r : Process). start_of r.local) (process c.world p) ≡ Some start
@@ -82,7 +82,7 @@ stamp_turn_is {top} c p e f a start is =
     (is_too_wide c.skipped (missing_count x e.serial))
     (Some (ready p x e.label e.serial f ++ a ∷ []))) parts.2
 
--- its skip is the start's
+-- the skip of a stamp, by the clock that the code found
 pub stamp_skip_is : (s : State) (p : Pid) (e : Event) (start : Start)
     → option_map (λ (r : Process). start_of r.local) (process s p) ≡ Some start
     → stamp_skip s p e ≡ missing_count start e.serial
@@ -119,7 +119,7 @@ tries_marked marks m (Through (a ∷ acts) os) h = elim (is_marked marks m os) a
 tries_marked marks m (Stopped (a ∷ acts)) h = tt
 tries_marked marks m t h = absurd h
 
--- a turn that goes no way on, marked
+-- marking a turn that doesn't go through changes nothing
 marked_err : {top : ℕ} {T U : Type 0} (one : T → List Outcome → Type 0)
     (two : U → List Outcome → Type 0)
     (marks : Marks) (m : Move) (t : Turn) (old : Construction top) (h : Halt)
@@ -159,7 +159,7 @@ module _ {top : ℕ} (streams : List Stream) (marks : Marks) (old : Construction
         ap (λ b. cond (not b) (Stopped []) (cond (is_high marks old.world move) (Stopped []) tried))
         (eq-eqb n i same)
 
-    -- its stamp isn't told, and the clock is too high
+    -- the event's stamp isn't told, and the clock is too high
     pub high_meets : is_high marks old.world move ≡ true → new.acts ≡ old.acts
         → Meets {T = Unit {0}} SaysNothing whole old (Err halt.Stopped) new
     high_meets high kept = record {
@@ -213,7 +213,7 @@ module _ {top : ℕ} (streams : List Stream) (marks : Marks) (old : Construction
 
 -- AN ITEM
 
--- no more is told than there were moves
+-- a process has at most as many events as there are moves
 told_most : (p : Pid) (ms : List Move) → event_count p ms ≤ length ms
 told_most p [] = omega arith
 told_most p (m ∷ ms) =
@@ -306,7 +306,7 @@ marked_hidden : (marks : Marks) (p : Pid) (i : ℕ) (e : Event) (t : Turn)
 marked_hidden marks p i e (Through acts os) = refl
 marked_hidden marks p i e t = refl
 
--- and so it is for a hidden send
+-- the outcome of a hidden send is that of its item
 pub hidden_turn_is : {top : ℕ} (streams : List Stream) (marks : Marks) (earlier : List Move)
     (c : Construction top)
     → IsSoFar streams earlier c → (p : Pid) (i : ℕ) (e : Event)
@@ -321,7 +321,7 @@ shown_as : (r : Option Event) (e : Event)
 shown_as None e = refl
 shown_as (Some d) e = refl
 
--- if every event is told, it is shown
+-- if every event is told, reporting as the marks say is showing
 pub marked_shown : (m : Move) (os : List Outcome) → is_marked all_told m os ≡ is_shown m os
 marked_shown m os = elim m.item as (λ x. elim x [
   | item.Reported p i ↦ option_eq event_eq (last_report None os) (Some m.event)
@@ -331,7 +331,7 @@ marked_shown m os = elim m.item as (λ x. elim x [
   | item.Hidden p i ↦ true
 ]) [ item.Reported p i ↦ shown_as (last_report None os) m.event | item.Hidden p i ↦ refl ]
 
--- and the item's turn is that of the construction
+-- if every event is told, the item's turn is that of the construction
 pub all_told_turn : {top : ℕ} (streams : List Stream) (c : Construction top) (earlier : List Move)
     (m : Move)
     → item_turn streams all_told c earlier m ≡ turn top streams all_told c.world earlier m

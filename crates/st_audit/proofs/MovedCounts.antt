@@ -1,6 +1,6 @@
--- An item's acts change counts so: those of its own process become what its move makes of them, and
--- no others move. For a stamp that is told its report says so, for another the clock before it, for
--- a receive its message.
+-- An item's acts change the counts of its own process alone, to those that its move gives. For a
+-- told stamp its report shows it, for another stamp the clock before it, and for a receive its
+-- message.
 use Rattle.std.proofs.Common.{◌≡◌, ℕ, ◌+◌, ◌<◌, ◌≤◌, ◌⊎◌, max, true, false, ◌==◌, List, Option}
 use Rattle.std.proofs.Common.{Some, None, refl, sym, ◌∙◌, ap, subst, arith, get_or, option_and_then}
 use Rattle.std.proofs.Common.{position}
@@ -36,7 +36,7 @@ use Rattle.st_audit.proofs.Counts.{others_same, stamp_some, stamp_told, was_same
 use Rattle.st_plan.proofs.ForCallers.{caused_if, is_alone, is_ready, lifted, pick_at, ready_all}
 use Rattle.st_audit.proofs.GreaterClocks.{run_wider}
 
--- between these states q's counts became those of this serial, and no others moved
+-- between these states q's counts became those of this serial, and no other counts moved
 pub record HasMoved (q : Pid) (s : Serial) (count : ℕ) (old new : State) : Type 0 where
   pub others : (x : Pid) (r : Process) → pid_eq x q ≡ false → process new x ≡ Some r
       → WasSame old x r.local
@@ -54,7 +54,7 @@ IsStampOf p (act.Send q to v) = p ≡ q
 IsStampOf p (act.Print q v) = p ≡ q
 IsStampOf p a = ⊥
 
--- p was brought to be ready for the event's serial, and then stamped it with this outcome
+-- the acts that make p ready for the event's serial ran, and then the stamp had this outcome
 pub record Stamps (top : ℕ) (old : State) (p : Pid) (e : Event) (end : Outcome) : Type 0 where
   pub before : Process
   pub is_before : process old p ≡ Some before
@@ -72,7 +72,7 @@ stamp_is p (act.Send q x v) h = (sym h, tt)
 stamp_is p (act.Print q v) h = (sym h, tt)
 stamp_is p a h = absurd h
 
--- what the stamp of its process's made of it and told
+-- what the stamp made of its process, and what it reported
 record WasStamped (top : ℕ) (r : Process) (done : Acted) : Type 0 where
   kind : Kind
   to : Option Pid
@@ -102,7 +102,7 @@ was_stamped top p (act.Print q v) r done h is =
     })
 was_stamped top p a r done h is = absurd h
 
--- it was reported
+-- a reported stamp has the serial of its event
 acted_told : (top : ℕ) (p : Pid) (a : Act) (r : Process) (done : Acted) (e : Event) → IsStampOf p a
     → acted top r a ≡ Some done → done.report ≡ Some e → IsTold r.local done.local e
 acted_told top p a r done e h is told =
@@ -110,7 +110,7 @@ acted_told top p a r done e h is told =
     stamp_told top r.pid r.local done.local r.local.traced w.kind w.to w.value e w.local
     (sym w.report ∙ told)
 
--- the process had a token
+-- the clock went up by one, and the last count stayed
 record HasStamped (l m : LocalState) : Type 0 where
   pub clocked : m.clock ≡ l.clock + 1
   pub lasted : m.last ≡ l.last
@@ -219,7 +219,7 @@ hidden_moves top old p e end x rises below =
 
 -- A RECEIVE
 
--- a token that bears a stamp is there, with its count
+-- a token that bears a stamp has the stamp's count
 bears_count : (from : Pid) (this : ℕ) (token : Option Token) → bears_stamp from this token ≡ true
     → (t : Token) × (token ≡ Some t) × (t.serial.this ≡ this)
 bears_count from this None h = absurd (false≢true h)

@@ -1,5 +1,5 @@
--- An item's acts lead from the counts of the moves before it to those with its own: its process's
--- become the move's, and its skip is added.
+-- An item's acts lead from the counts after the moves before it to the counts after its own move:
+-- its process gets the move's counts, and its skip is added.
 use Rattle.std.proofs.Common.{◌≡◌, ℕ, ◌+◌, ◌-◌, ◌<◌, ◌==◌, ◌&&◌, max, nat_lt, Bool, true, false}
 use Rattle.std.proofs.Common.{not, cond, List, [], ◌∷◌, ◌++◌, length, take, Option, Some, None}
 use Rattle.std.proofs.Common.{option_and_then, slice_get, Result, Ok, Err, OnOk, refl, sym, ◌∙◌, ap}
@@ -75,7 +75,7 @@ counted_next earlier m old new counted moved x r h =
           }
     ] refl
 
--- the counts of its process are those that its moves say
+-- a stamp that isn't uncaused by the moves before it isn't uncaused by its process's counts
 pub caused_as : (earlier : List Move) (m : Move) (l : LocalState) → IsCounted earlier m.who l
     → is_taking m ≡ false
     → uncaused earlier m ≡ false → is_uncaused (start_of l) m.event.serial ≡ false
@@ -113,7 +113,7 @@ marked_runs marks m (Through xs ps) acts os is =
     ] refl is
 marked_runs marks m t acts os is = absurd (cc)
 
--- no reason held of it, and its acts ran and reported what they had to
+-- the item went through: no reason held of it, and its acts ran and reported what the marks say
 record ItemRuns {top : ℕ} (streams : List Stream) (marks : Marks) (c : Construction top)
     (earlier : List Move)
     (m : Move) (acts : List Act) (os : List Outcome) : Type 0 where
@@ -339,7 +339,7 @@ module _ {top : ℕ} (streams : List Stream) (marks : Marks) (xs : List Item) (n
         told = subst (λ ms. AreTold streams ms new.told.items) (sym more) told;
       }
 
-  -- unless the item halts
+  -- unless the item halts, the construction is in the state to which the next move leads
   pub next_so_far : (x : Item) (e : Event) → slice_get xs n ≡ Some x → event_of streams x ≡ Some e
       → (r : Result (Unit {0}) Halt)
       → Meets {T = Unit {0}} SaysNothing (item_turn streams marks old past (move_by x e)) old r new

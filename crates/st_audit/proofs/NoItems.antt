@@ -1,5 +1,5 @@
--- Without items there are no events, so the checker accepts no acts: nothing is left, and no act
--- can stop.
+-- Without items there are no events, so the checker accepts an empty list of acts: no event is
+-- left, and no act can stop.
 use Rattle.std.proofs.Common.{◌≡◌, ℕ, ◌+◌, ◌<◌, nat_lt, true, false, cond, List, [], ◌∷◌, ◌++◌}
 use Rattle.std.proofs.Common.{length, find, None, refl, sym, ◌∙◌, arith}
 use Rattle.std.specs.List.{AllByRecursion}

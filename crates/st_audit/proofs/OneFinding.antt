@@ -1,5 +1,5 @@
--- There is one finding: acts have one verdict, and a finding is the acts, the place and the
--- verdict.
+-- Streams have one finding, since acts have one verdict, and a finding consists of acts, a place
+-- and a verdict.
 use Rattle.std.proofs.Common.{◌≡◌, ℕ, List, [], Option, Some, None, sym, ◌∙◌, ap, subst, refl}
 use Rattle.std.proofs.lemmas.Option.{same_Some}
 use Rattle.st_core.specs.declared.types.Pid.{Pid}
@@ -34,7 +34,7 @@ abbrev pairs_in : verdicts.Verdict → List (ℕ × ℕ)
 pairs_in (verdicts.Yes ps) = ps
 pairs_in v = []
 
--- a finding by its parts
+-- the finding of acts, a place and a verdict that isn't yes
 abbrev unfit : Pid × ℕ → List Act → Verdict → Finding
 unfit at acts v = finding.Unfit at.0 at.1 (reason.NotReplayed acts v)
 

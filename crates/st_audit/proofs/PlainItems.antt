@@ -53,7 +53,7 @@ use Rattle.st_audit.proofs.Track.{goes_next, none, track_next, GoesNext, IsOnTra
 
 module _ (top : ℕ) (streams : List Stream) (marks : Marks) (s : State) (p : Pid) (i : ℕ) (e : Event)
     (g : GoesOn top streams marks s (move_by (item.Reported p i) e)) where
-  -- acts that report nothing, and one that does
+  -- if all acts but the last report nothing, the last report is that of the last act
   last_shows : (acts : List Act) (a : Act) → acts ++ a ∷ [] ≡ g.acts → actor a ≡ p
       → ((os : List Outcome) → run_from top s acts ≡ Some os → stream acts os p ≡ [])
       → last_report None g.outcomes ≡ if_told (marks p i) e
@@ -101,7 +101,7 @@ module _ (top : ℕ) (streams : List Stream) (marks : Marks) (s : State) (p : Pi
 
 module _ (top : ℕ) (streams : List Stream) (marks : Marks) (s : State) (past : List Move)
     (kept : IsKept streams marks past s) where
-  -- an item's acts report its event exactly if it is told; a hidden send has none to report
+  -- an item's acts report its event exactly if it is told; a hidden send has nothing to report
   item_marked : (x : Item) (e : Event) (g : GoesOn top streams marks s (move_by x e))
       → refusal streams ≡ None
       → event_of streams x ≡ Some e → uncaused past (move_by x e) ≡ false

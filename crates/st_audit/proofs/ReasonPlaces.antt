@@ -14,7 +14,7 @@ use Rattle.st_audit.specs.declared.finding.Finding.{Finding}
 use Rattle.st_audit.specs.Findings.{unfit_by, IsFinding}
 
 module _ (streams : List Stream) (rising : IsRising (pids_of streams)) where
-  -- there is an event at the place of the fault
+  -- the place of a fault has an event
   placed : (f : PairFault) (p : Pid) (i : ℕ) → refusal streams ≡ Some f → place_of f ≡ Some (p, i)
       → IsSome (event_at streams p i)
   placed f p i h is =
@@ -31,7 +31,7 @@ module _ (streams : List Stream) (rising : IsRising (pids_of streams)) where
   holds_by top (fault.Repeated p i q j) is = (placed (fault.Repeated p i q j) p i is refl, is)
   holds_by top (fault.Mismatch p i q j) is = (placed (fault.Mismatch p i q j) p i is refl, is)
 
-  -- a reason of pairing, handed on, holds there
+  -- a reason of pairing holds at the place of the finding
   pub fault_holds : (top : ℕ) (f : PairFault) (found : Finding) → IsPairFault streams f
       → unfit_by f ≡ Some found → IsFinding top streams found
   fault_holds top f found is by =

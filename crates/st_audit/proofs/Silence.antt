@@ -1,5 +1,5 @@
--- The acts that bring a process to a stamp report nothing: below the count they lead up to it in
--- quiet, and above it they put on a token at most.
+-- The acts that make a process ready for a stamp report nothing: below the count they raise the
+-- clock without flags, and above it they set a token at most.
 use Rattle.std.proofs.Common.{◌≡◌, ℕ, ◌+◌, ◌-◌, ◌<◌, ◌≤◌, ◌==◌, inl, inr, max, nat_lt, true, false}
 use Rattle.std.proofs.Common.{List, [], Some, refl, sym, ◌∙◌, ap, subst, arith}
 use Rattle.std.proofs.lemmas.Bool.{cases_lt, eq-eqb}
@@ -19,7 +19,7 @@ use Rattle.st_audit.specs.Progress.{is_uncaused}
 use Rattle.st_audit.proofs.MovedCounts.{caused_by}
 use Rattle.st_audit.proofs.GreaterClocks.{run_wider}
 
--- if the count is not above the clock, and prev is the last count, the acts are those for the next
+-- if the count isn't above the clock, and prev is the last count, the acts are those for the next
 -- count
 ready_low : (p : Pid) (x : Start) (n : Label) (s : Serial) (f : Flags) → s.prev ≡ x.last
     → s.this ≤ x.clock

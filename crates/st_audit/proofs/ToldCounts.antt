@@ -1,5 +1,4 @@
--- The counts of what each process told: a reported item adds one to its process's, at the place of
--- its pid alone.
+-- A reported item adds one to the count of its process, which is at the place of its pid alone.
 use Rattle.std.proofs.Common.{◌≡◌, ◌≢◌, ℕ, ◌+◌, ◌^◌, ◌<◌, min, true, false, cond, List, [], ◌∷◌}
 use Rattle.std.proofs.Common.{length, replicate, Some, slice_get, get_or, refl, sym, ◌∙◌, ap, subst}
 use Rattle.std.proofs.Common.{arith}
@@ -36,7 +35,7 @@ place_below streams place p at =
     let all = length-map streams (λ (x : Stream). x.pid) in
     omega arith
 
--- the count at the process's place is put one up
+-- the count at the process's place goes up by one
 pub tells_one : (streams : List Stream) (p : Pid) (i place count : ℕ) (old : List ℕ)
     → slice_get (pids_of streams) place ≡ Some p → slice_get old place ≡ Some i
     → count ≡ min (i + 1) 18446744073709551615
@@ -53,7 +52,7 @@ tells_one streams p i place count old is_place was put =
       others = λ k apart. set_apart old place k count (λ same. apart (sym same));
     }
 
--- a reported item more
+-- the counts after a reported item are those of one move more
 pub told_next : (streams : List Stream) (earlier : List Move) (old new : List ℕ) (p : Pid) (i : ℕ)
     (e : Event)
     → IsRising (pids_of streams) → AreTold streams earlier old → TellsOne streams p i old new
@@ -78,7 +77,7 @@ told_next streams earlier old new p i e rising are one k q at =
           one.others k other ∙ are k q at (omega arith) ∙ ap (λ (n : ℕ). Some n) still
     ] refl
 
--- and a hidden one
+-- the counts after a hidden send are those of one move more
 pub told_hidden : (streams : List Stream) (earlier : List Move) (counts : List ℕ) (p : Pid) (i : ℕ)
     (e : Event)
     → AreTold streams earlier counts
@@ -87,7 +86,7 @@ told_hidden streams earlier counts p i e are k q at fits =
     let still : event_count q earlier ≡ event_count q earlier + 0 = omega arith in
     are k q at (omega arith) ∙ ap (λ (n : ℕ). Some n) still
 
--- nothing is told before the first item
+-- all counts are zero before the first item
 pub none_told : (streams : List Stream) (pids : List Pid) (counts : List ℕ)
     → counts ≡ replicate (length pids) 0
     → pids ≡ pids_of streams → AreTold streams [] counts

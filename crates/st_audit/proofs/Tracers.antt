@@ -1,4 +1,5 @@
--- A tracer is put on a node at its first pid: those so far are the front of all of them.
+-- A tracer is put on a node at its first pid, so the tracers put so far are the front of all of
+-- them.
 use Rattle.std.proofs.Common.{◌≡◌, ℕ, ◌==◌, Bool, true, false, not, cond, List, [], ◌∷◌, ◌++◌}
 use Rattle.std.proofs.Common.{Option, Some, None, Err, ◌+◌, ◌<◌, ◌≤◌, suc, append_assoc, arith}
 use Rattle.std.proofs.Common.{drop, get_or, length, refl, sym, ◌∙◌, ap, subst}
@@ -19,7 +20,8 @@ use Rattle.st_audit.proofs.Attempts.{halts_after, halts_before, none_performed, 
 use Rattle.st_audit.proofs.Attempts.{then_performed, Performed}
 use Rattle.st_audit.proofs.FirstCounts.{tracer_counted}
 
--- the tracers of the pids but these that are left were put, the last on the node that was seen
+-- the tracers put so far come before those of the pids left, if the last was put on the node
+-- `seen`
 pub record Opens {top : ℕ} (pids : List Pid) (seen : Option ℕ) (left : List Pid)
     (old now : Construction top)
     : Type 0 where
@@ -27,7 +29,7 @@ pub record Opens {top : ℕ} (pids : List Pid) (seen : Option ℕ) (left : List 
   pub made : Performed tracers old now
   pub rest : tracers_after None pids ≡ tracers ++ tracers_after seen left
 
--- the node of p is the one that was seen
+-- the node of p is the one seen last
 abbrev pub is_seen : Option ℕ → Pid → Bool
 is_seen seen p = option_map_or (λ n. n == p.node) seen false
 
@@ -42,7 +44,7 @@ seen_eq : (seen : Option ℕ) (p : Pid)
 seen_eq None p = refl
 seen_eq (Some n) p = refl
 
--- the code's test
+-- the code's test is whether p's node wasn't the one seen last
 pub was_seen : (seen : Option ℕ) (p : Pid) (b : Bool)
     → b ≡ not (option_eq (λ m n. m == n) seen (Some p.node))
     → is_seen seen p ≡ not b
@@ -90,7 +92,7 @@ module _ {top : ℕ} (pids : List Pid) (old : Construction top) where
             (tracers_after (Some p.node) left));
       }
 
-      -- the next tracer halts all of them
+      -- if the next tracer halts, all of them have that outcome
       pub opening_halts : (h : Halt)
           → Meets TellsLast (acts_turn top now.world (act.Tracer p true ∷ [])) now (Err h) new
           → Meets {T = Unit {0}} SaysNothing (acts_turn top old.world (tracers_after None pids)) old
@@ -106,7 +108,7 @@ module _ {top : ℕ} (pids : List Pid) (old : Construction top) where
           old now h new
           opens.made next)
 
--- a tracer leaves all counts of the construction
+-- a tracer changes no count of the construction
 pub tracer_so_far : {top : ℕ} (p : Pid) (old new : Construction top)
     → Performed (act.Tracer p true ∷ []) old new
     → new.skipped ≡ old.skipped → new.told ≡ old.told

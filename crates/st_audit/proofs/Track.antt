@@ -1,5 +1,5 @@
--- In settled streams the construction goes on from item to item: its acts run, its world is as the
--- moves say, and its acts tell what the moves tell. So at the end they show the told events.
+-- In settled streams each item's acts run, and lead to the world that the moves say and report the
+-- events that the moves tell. So at the end they show the told events.
 use Rattle.std.proofs.Common.{add-one, ◌≡◌, ℕ, ◌+◌, ◌<◌, ◌≤◌, suc, false, not, List, [], ◌∷◌, ◌++◌}
 use Rattle.std.proofs.Common.{take, drop, length, get_or, Some, None, Err, append_assoc, slice_get}
 use Rattle.std.proofs.Common.{refl, sym, ◌∙◌, ap, subst}
@@ -41,7 +41,7 @@ use Rattle.st_audit.proofs.ItemPlaces.{event_there, split_at}
 
 -- THE VERDICT
 
--- acts that show the streams have no other verdict than yes
+-- acts that show the streams have the verdict yes alone
 pub shown_is_yes : (top : ℕ) (streams : List Stream) (acts : List Act) (v : verdicts.Verdict)
     → Shows top streams acts → verdicts.IsVerdict top streams acts v → IsNo v → ⊥
 shown_is_yes top streams acts v shows is refused =
@@ -50,7 +50,7 @@ shown_is_yes top streams acts v shows is refused =
 
 -- ON THE WAY
 
--- the acts for these items, and where they led
+-- the acts of these items, and the state to which they led
 pub record IsOnTrack (top : ℕ) (streams : List Stream) (marks : Marks) (xs : List Item) (s : State)
     (acts : List Act)
     : Type 0 where
@@ -61,7 +61,7 @@ pub record IsOnTrack (top : ℕ) (streams : List Stream) (marks : Marks) (xs : L
   pub tells : (p : Pid) → stream acts outcomes p ≡ told_of_moves marks p (moves streams xs)
   pub one_trace : NoReset acts
 
--- the tracers lead to where no item was
+-- the tracers lead to the state before the first item
 pub on_track : (top : ℕ) (streams : List Stream) (marks : Marks) (s : State) (os : List Outcome)
     → run_from top (zero_state (pids_of streams)) (tracers_after None (pids_of streams)) ≡ Some os
     → s ≡ state_after (zero_state (pids_of streams)) os
@@ -114,7 +114,7 @@ module _ {top : ℕ} (streams : List Stream) (pids : List Pid) (are : pids ≡ p
         put = made.put ∙ ap (λ xs. xs ++ plan) empty ∙ ap (tracers_after None) are;
       }
 
-  -- they run, so they halt only because memory ran out
+  -- the tracers run, so they halt only because memory ran out
   pub opening_memory : (h : Halt)
       → Meets {T = Unit {0}} SaysNothing (acts_turn top old.world plan) old (Err h) new
       → h ≡ halt.Memory
@@ -146,8 +146,8 @@ in_turn_by earlier (item.Hidden p i) e turn = refl
 abbrev pub none : Item
 none = item.Reported (record { node = 0; number = 0 }) 0
 
--- the item's move is in its turn, its clock below its stamp, and goes on, and what is kept is what
--- the moves say
+-- the item's move is in its turn, its stamp is above the clock, its acts run, and the state after
+-- them is what the moves say
 pub record GoesNext (top : ℕ) (streams : List Stream) (marks : Marks) (earlier : List Move)
     (x : Item) (s : State)
     : Type 0 where
@@ -185,7 +185,7 @@ module _ (top : ℕ) (streams : List Stream) (marks : Marks) (sound : IsStreams 
           kept = on.1;
         }
 
-    -- with its acts
+    -- after an item's acts the construction is still on track
     pub track_next : (m : GoesNext top streams marks (earlier_of streams (take n xs)) x s)
         (new : State) (now : List Act)
         → now ≡ acts ++ m.goes.acts → new ≡ state_after s m.goes.outcomes
@@ -228,7 +228,7 @@ module _ (top : ℕ) (streams : List Stream) (marks : Marks) (sound : IsStreams 
               (acts_none streams marks g.before move g.acts g.are));
         }
 
-  -- and at the end all that is told is shown
+  -- at the end all told events are shown
   pub track_shows : (n : ℕ) (s : State) (acts : List Act) → length xs ≤ n
       → IsOnTrack top streams marks (take n xs) s acts → Shows top (told_parts marks streams) acts
   track_shows n s acts past track =

@@ -1,5 +1,5 @@
--- The finding that the streams determine holds of them: it names the place of an item, at which an
--- event is, and the construction stops for a reason of its own only if this holds of the item's
+-- The finding that the streams determine holds of them: it names the place of an item, which has
+-- an event, and the construction gives a reason of its own only if the reason holds of the item's
 -- move.
 use Rattle.std.proofs.Common.{◌≡◌, ℕ, ◌++◌, Bool, true, false, cond, List, [], ◌∷◌, length, reverse}
 use Rattle.std.proofs.Common.{get_or, Option, Some, None, IsSome, option_map, refl}
@@ -51,7 +51,7 @@ use Rattle.st_audit.proofs.Track.{none}
 abbrev IsThereAt : List Stream → Pid × ℕ → Type 0
 IsThereAt streams at = IsSome (event_at streams at.0 at.1)
 
--- and at that of each of these moves
+-- each of these moves has an event at its place
 abbrev AreThere : List Stream → List Move → Type 0
 AreThere streams [] = Unit {0}
 AreThere streams (m ∷ ms) = IsThereAt streams (item_place m.item) × AreThere streams ms
@@ -71,7 +71,7 @@ moves_there streams (x ∷ xs) =
       | Some e ↦ λ at. (place_of streams x e at, rest)
     ] refl
 
--- the last item's place is an item's
+-- the last item's place has an event
 last_there : (streams : List Stream) (xs : List Item) → IsRising (pids_of streams)
     → IsOrder streams xs
     → (at : Pid × ℕ) → last_place xs ≡ Some at → IsThereAt streams at
@@ -85,7 +85,7 @@ last_there streams (x ∷ xs) rising order at is =
 
 -- THE REASONS
 
--- if a move is refused, the reason holds of it
+-- if a move is refused for a reason, the reason holds of it
 abbrev Against : List Move → Move → Turn → Type 0
 Against earlier m (Through acts os) = Unit {0}
 Against earlier m (Stopped acts) = Unit {0}
@@ -133,13 +133,14 @@ against top streams marks s earlier m =
 
 -- THE END
 
--- the reason is one of the auditor's own, and holds at this place
+-- the reason is one of the auditor's own, and it holds at this place
 abbrev HoldsFor : List Stream → Pid × ℕ → Reason → Type 0
 HoldsFor streams at reason.Uncaused = HoldsOfMoveAt uncaused streams at.0 at.1
 HoldsFor streams at reason.TooWide = HoldsOfMoveAt too_wide streams at.0 at.1
 HoldsFor streams at r = ⊥
 
--- the construction ends at the place of an event, and if it is for a reason, this holds there
+-- the construction ends at the place of an event, and if it ends for a reason, the reason holds
+-- there
 abbrev EndsWell : List Stream → End → Type 0
 EndsWell streams (Judged acts end) = (at : Pid × ℕ) → end ≡ Some at → IsThereAt streams at
 EndsWell streams (Unfounded at r) = IsThereAt streams at × HoldsFor streams at r

@@ -1,6 +1,6 @@
 -- The definitions of public contracts: findings, over the reasons of `st_plan`, and the
--- construction by which it is found.
+-- construction that leads to them.
 pub mod Findings
 pub mod Construction
--- For the parts alone: the state of `src/construction.rt`.
+-- Only the crate's own parts cite this: the state of `src/construction.rt`.
 pub mod Progress

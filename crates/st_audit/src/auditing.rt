@@ -1,4 +1,4 @@
-//! The auditor.
+//! The auditor: finds a certificate for streams, or a reason.
 
 ghost use Rattle.std.specs.Prelude.{◌≡◌, ◌⊎◌, ℕ, IfOk, IfSome, List, None, [], Some};
 ghost use Rattle.st_check.specs.Answers.{verdict_of};
@@ -25,7 +25,7 @@ use st_plan::Everything;
 use std::alloc::Global;
 use std::thread::Threads;
 
-/// A reason of pairing as a finding; none if memory ran out.
+/// Returns the finding with a reason of pairing; none if memory ran out.
 pub fn unfit_by(fault: PairFault) -> Option<Finding>
     ensures { result ≡ unfit_by fault }
 {
@@ -46,7 +46,7 @@ pub fn unfit_by(fault: PairFault) -> Option<Finding>
     }
 }
 
-/// Makes the finding from the verdict of the acts that were built up to the event at this place.
+/// Makes the finding from the verdict on acts. `place` is that of the last item that was tried.
 fn finding_by(acts: Sequence<Act>, verdict: Verdict, place: (Pid, u64)) -> Finding
     ensures { (top : ℕ) (streams : List Stream) →
         IsVerdict top streams acts (verdict_of verdict) →
@@ -72,8 +72,8 @@ fn judge<const TOP: u64>(
     Ok(finding_by(acts, verdict, place))
 }
 
-/// Makes the finding from acts that were built for each item; the place is that of the last item.
-/// If they were compared all the way, their verdict is known.
+/// Makes the finding after each item got its acts; `place` is that of the last item. If the acts
+/// were compared with the streams all the way, their verdict is known.
 fn finding_at_end<const TOP: u64>(
     alloc: Global,
     streams: &Streams,
@@ -90,7 +90,7 @@ fn finding_at_end<const TOP: u64>(
     }
 }
 
-/// Makes the finding of streams without events: the checker accepts no acts.
+/// Makes the finding of streams without events. Its certificate is an empty list of acts.
 fn finding_of_nothing<const TOP: u64>(
     alloc: Global,
     streams: &Streams,
@@ -102,14 +102,14 @@ fn finding_of_nothing<const TOP: u64>(
     match check::<TOP>(alloc, streams, acts.as_slice()) {
         Err(_) => Err(AuditFault::Memory),
         Ok(Verdict::Yes(pairs)) => Ok(Finding::Fits(acts, pairs)),
-        // No act stops, and no event is left.
+        // There is no act that stops, and no event that is left.
         Ok(Verdict::Stuck(_)) => unreachable!(),
         Ok(Verdict::Differs(_)) => unreachable!(),
         Ok(Verdict::Left(_)) => unreachable!(),
     }
 }
 
-/// Makes the finding of streams that pairing accepts, with the items in their order.
+/// Makes the finding of streams that pairing accepts, whose items are `items`, in their order.
 fn finding_in_order<const TOP: u64>(
     alloc: Global,
     streams: &Streams,
@@ -174,11 +174,12 @@ fn finding_of<const TOP: u64>(
     finding_in_order::<TOP>(alloc, streams, pids, &pairing, items.as_slice())
 }
 
-/// Finds a certificate for the streams, or an event and the reason why none was found. Its acts
-/// are built in the order of the items, stepped in a world from zero clocks, and compared with the
-/// streams as the checker does: a certificate is one that it accepts.
+/// Finds a certificate for the streams, or an event and the reason why none was found. The acts
+/// are built item by item, stepped in a world that begins at zero clocks, and compared with the
+/// streams as the checker does, so the checker accepts each certificate. Fails only if memory runs
+/// out.
 ///
-/// It sorts on several threads, with one result for every number of threads.
+/// It sorts on several threads, whose number doesn't change the result.
 pub fn audit<const TOP: u64>(
     rt: &(impl Threads + Sync),
     alloc: Global,
@@ -190,11 +191,11 @@ pub fn audit<const TOP: u64>(
     // Unless memory runs out, the finding is the one that the streams determine.
     ensures exact { IfOk result (IsAudit TOP streams.now) }
 
-    // The reasons of pairing are final: no acts show streams with the first, and none without a
-    // reset streams with any.
+    // No acts show streams that have pairing's first reason, and no acts without a reset show
+    // streams that have any of its four.
     ensures rules_out { IfOk result (λ found. ForSome (fault_of found) (RulesOut streams.now)) }
 
-    // It certainly finds a certificate if no reason holds of the streams, or if some run reported
+    // It finds a certificate if the streams are plain, or if a run without a reset has reported
     // all of itself.
     ensures certain { IfOk result (λ found.
         IsPlain TOP streams.now ⊎ IsFullyShown TOP streams.now → HasCertificate found) }

@@ -1,4 +1,4 @@
-//! Acts that show those events of streams that are told, whichever these are.
+//! Builds acts that show those events of streams that marks choose.
 
 ghost use Rattle.std.specs.Prelude.{◌≡◌, IfOk};
 ghost use Rattle.st_core.specs.Run.{pids_of};
@@ -14,7 +14,7 @@ use st_plan::Tells;
 use std::alloc::{AllocError, Global};
 use std::thread::Threads;
 
-/// The acts of all items, in their order; none if one of them halts the construction.
+/// Builds the acts of all items, in their order; none if an item halts the construction.
 fn build<const TOP: u64, M: Tells>(
     alloc: Global,
     streams: &Streams,
@@ -48,10 +48,11 @@ fn build<const TOP: u64, M: Tells>(
     Ok(Some(construction.into_acts()))
 }
 
-/// Acts without a reset that show those events of the streams that are told, if the streams are
-/// plain; else there may be none, and the checker judges the acts.
+/// Builds acts without a reset that show those events of the streams that are told, if the streams
+/// are plain. For other streams it may return none, or acts that show something else. Fails only
+/// if memory runs out.
 ///
-/// It sorts on several threads, with one result for every number of threads.
+/// It sorts on several threads, whose number doesn't change the result.
 pub fn told_acts<const TOP: u64, M: Tells>(
     rt: &(impl Threads + Sync),
     alloc: Global,

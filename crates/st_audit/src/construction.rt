@@ -1,10 +1,10 @@
-//! The auditor's construction: the acts for one item after the other, each stepped in a world that
-//! begins at zero clocks.
+//! The auditor's construction: makes the acts of one item after the other, and steps each act in a
+//! world that begins at zero clocks.
 //!
-//! After each item the clock and the last count of each process are what the items so far make of
-//! them. It stops if a reason of the auditor's own holds of an item, or if the world
-//! doesn't go the way of the streams; the checker then judges the acts. If it doesn't stop, their
-//! verdict is known: they were compared with the streams on the way.
+//! After each item each process has the clock and the last count that the items so far give it.
+//! The construction halts if a reason of the auditor's own holds of an item, or if the acts don't
+//! go the way of the streams; in the second case the checker judges the acts. If it doesn't halt,
+//! their verdict is known: they were compared with the streams on the way.
 
 ghost use Rattle.std.specs.Prelude.{◌≡◌, ◌+◌, ◌<◌, ◌↔◌, ◌&&◌, [], ◌∷◌, ◌++◌, length, not, take, ℕ};
 ghost use Rattle.std.specs.Prelude.{option_map, if◌then◌else◌, slice_get, IfOk, IfSome, IsTrue};
@@ -37,14 +37,15 @@ use st_plan::{QUIET, Start, Tells, ready};
 use st_world::{Outcome, StepFault, World};
 use std::alloc::{AllocError, Global};
 
-/// The most counts that may be missing before one item. Each is filled in by an act, so this bounds
-/// what one damaged event can cost.
+/// The most counts that may be missing before one item. Each is filled in by an act, so the limit
+/// bounds what one damaged event can cost.
 const MOST_SKIPPED: u64 = 1_000;
 
-/// The most that may be missing before all items, by the same reason.
+/// The most counts that may be missing before all items together, so that many damaged events
+/// can't cost more.
 const MOST_SKIPPED_IN_ALL: u64 = 1_000_000;
 
-/// Why the construction goes no further.
+/// Why the construction halts.
 #[derive(Clone, Copy, Debug, PartialEq, Eq)]
 pub(crate) enum Halt {
     /// Memory ran out.
@@ -53,7 +54,8 @@ pub(crate) enum Halt {
     Uncaused,
     /// Too many counts are missing before the item.
     TooWide,
-    /// The streams go on another way than the acts.
+    /// The acts don't go the way of the streams at the item: it isn't the next of its process,
+    /// say, or its acts don't report its event.
     Stopped,
 }
 
@@ -62,29 +64,30 @@ pub(crate) enum Halt {
 pub(crate) struct Construction<const TOP: u64> {
     world: World<TOP>,
     acts: Sequence<Act>,
-    /// How the acts compare with the streams, as long as they are compared and pass.
+    /// The comparison of the acts with the streams, as long as it passes.
     comparison: Option<Comparison>,
-    /// How many events of each process were reported, in the order of the streams.
+    /// For each process the number of its events that have their acts, in the order of the
+    /// streams.
     told: Vec<u64>,
-    /// How many counts were missing in all.
+    /// The number of counts that were missing so far.
     skipped: u64,
 }
 
-/// Whether the serial's prev is below the clock, and isn't the last count.
+/// Returns whether the serial's prev is below the clock, and isn't the last count.
 fn is_uncaused(start: &Start, serial: Serial) -> bool
     ensures { result ≡ is_uncaused start.now serial }
 {
     serial.prev != start.last && serial.prev < start.clock
 }
 
-/// How many counts are missing before the serial's own.
+/// Returns how many counts between the clock and the serial's own are missing.
 fn missing_count(start: &Start, serial: Serial) -> u64
     ensures { result ≡ missing_count start.now serial }
 {
     serial.this.saturating_sub(1).saturating_sub(start.clock)
 }
 
-/// Returns how many are missing in all with this many more; none if these are too many.
+/// Returns the number of missing counts with `more` added; none if there are too many.
 fn with_skipped(skipped: u64, more: u64) -> Option<u64>
     ensures { result ≡ (if is_too_wide skipped more then None else Some (more + skipped)) }
 {
@@ -98,8 +101,8 @@ fn with_skipped(skipped: u64, more: u64) -> Option<u64>
     Some(total)
 }
 
-/// The flags under which an event is stamped: its own if it is told, and a send's message is
-/// received under a flag exactly if a receive that is told is paired with it.
+/// Returns the flags of the token with which an event is stamped: the event's own flag if it is
+/// told, and at a send the flag `receive` if the receive that is paired with it is told.
 fn flags_of<M: Tells>(marks: &M, pairing: &Pairing, pid: Pid, index: u64, event: &Event) -> Flags
     ensures { (streams : List Stream) → IsPairing streams pairing.now →
         result ≡ flags_of streams (M.marks marks.now)
@@ -123,7 +126,7 @@ fn flags_of<M: Tells>(marks: &M, pairing: &Pairing, pid: Pid, index: u64, event:
     }
 }
 
-/// Whether the event is a send or a print.
+/// Returns whether the event is a send or a print.
 fn is_stamp(event: &Event) -> bool
     ensures { result ≡ is_stamp event.now }
 {
@@ -133,7 +136,7 @@ fn is_stamp(event: &Event) -> bool
     }
 }
 
-/// Whether the report is this event, if it is told, and else none.
+/// Returns whether the report is the event if it is told, and none if it isn't.
 fn is_report(report: Option<Event>, event: &Event, is_told: bool) -> bool
     ensures { IsTrue result ↔ (report ≡ if_told is_told event.now) }
 {
@@ -143,8 +146,8 @@ fn is_report(report: Option<Event>, event: &Event, is_told: bool) -> bool
     }
 }
 
-/// Compares the report of the act of this number with the streams, as long as acts are compared and
-/// pass.
+/// Compares the report of act `number` with the streams, if all acts before it passed. Ends the
+/// comparison if the act doesn't pass.
 fn compare(
     comparison: &mut Option<Comparison>,
     streams: &Streams,
@@ -170,7 +173,8 @@ fn compare(
 }
 
 impl<const TOP: u64> Construction<TOP> {
-    /// No items yet, and no acts, which are compared with the streams if a comparison is given.
+    /// Makes a construction without items and acts. Later acts are compared with the streams if a
+    /// comparison is given.
     pub(crate) fn new(
         alloc: Global,
         streams: &Streams,
@@ -197,7 +201,8 @@ impl<const TOP: u64> Construction<TOP> {
         })
     }
 
-    /// No items yet, and no acts; these are compared with the streams on the way.
+    /// Makes a construction without items and acts, whose later acts are compared with the
+    /// streams.
     pub(crate) fn compared(
         alloc: Global,
         streams: &Streams,
@@ -218,7 +223,7 @@ impl<const TOP: u64> Construction<TOP> {
         acts
     }
 
-    /// The acts, and how they compare with the streams.
+    /// Returns the acts, and their comparison with the streams if all of them passed.
     pub(crate) fn into_parts(self) -> (Sequence<Act>, Option<Comparison>)
         ensures acts { result.0 ≡ self.entry.acts }
         ensures comparison { result.1 ≡ self.entry.comparison }
@@ -252,7 +257,7 @@ impl<const TOP: u64> Construction<TOP> {
         Ok(())
     }
 
-    /// Puts the act at the end, steps it, and compares its report.
+    /// Adds the act, steps it, and compares its report with the streams.
     fn perform(&mut self, streams: &Streams, act: Act) -> Result<Outcome, Halt>
         requires { IsMatched streams.now self.old }
         ensures exact { Meets TellsLast (acts_turn TOP self.old.world (act ∷ []))
@@ -290,7 +295,7 @@ impl<const TOP: u64> Construction<TOP> {
         Ok(())
     }
 
-    /// Returns the state of the process, if it is there.
+    /// Returns the token, the clock and the last count of the process, if it is there.
     fn start(&self, pid: Pid) -> Option<Start>
         ensures { result ≡ option_map (λ r. start_of r.local) (process self.now.world pid) }
     {
@@ -302,7 +307,8 @@ impl<const TOP: u64> Construction<TOP> {
         })
     }
 
-    /// Brings the process to be ready for the event's serial, and stamps it by this act.
+    /// Performs the acts that make the process ready for the event's serial, and then `act`, which
+    /// stamps it.
     fn stamp(
         &mut self,
         streams: &Streams,
@@ -338,7 +344,7 @@ impl<const TOP: u64> Construction<TOP> {
         self.perform(streams, act)
     }
 
-    /// Lets the process take the message whose token has the event's from and count.
+    /// Lets the process take the message whose token has the event's sender and count.
     fn receive(&mut self, streams: &Streams, pid: Pid, event: &Event) -> Result<Outcome, Halt>
         requires { IsMatched streams.now self.old }
         ensures exact { Meets TellsLast (take_turn self.old pid event.now)
@@ -353,7 +359,8 @@ impl<const TOP: u64> Construction<TOP> {
         }
     }
 
-    /// The send of the receive at this place: it isn't told, but its receive may be.
+    /// Performs the hidden send of the receive at this place. The send isn't told, but its receive
+    /// may be.
     fn send_hidden<M: Tells>(
         &mut self,
         streams: &Streams,
@@ -424,7 +431,7 @@ impl<const TOP: u64> Construction<TOP> {
         }
     }
 
-    /// Whether the process's clock is below the event's count.
+    /// Returns whether the process's clock is below the event's count.
     fn is_below(&self, pid: Pid, event: &Event) -> bool
         ensures { result ≡ is_below self.now.world pid event.now }
     {
@@ -434,7 +441,8 @@ impl<const TOP: u64> Construction<TOP> {
         }
     }
 
-    /// Whether the event is a stamp that isn't told, though the clock isn't below its count.
+    /// Returns whether the event is a stamp that isn't told, although the clock isn't below its
+    /// count.
     fn is_high(&self, pid: Pid, event: &Event, is_told: bool) -> bool
         ensures { result ≡ (not is_told &&
             (is_stamp event.now && not (is_below self.now.world pid event.now))) }
@@ -442,8 +450,8 @@ impl<const TOP: u64> Construction<TOP> {
         !is_told && is_stamp(event) && !self.is_below(pid, event)
     }
 
-    /// The event at this place, if it is the next of its process, by an act that reports it
-    /// exactly if it is told. If it isn't, the clock says that its serial is the one stamped.
+    /// Performs the acts of the event at this place, if it is the next of its process. They report
+    /// it exactly if it is told; if it isn't, the clock shows that its serial is the one stamped.
     fn report<M: Tells>(
         &mut self,
         streams: &Streams,
@@ -489,7 +497,7 @@ impl<const TOP: u64> Construction<TOP> {
         Ok(())
     }
 
-    /// The acts of the item at this number.
+    /// Performs the acts of item `number`.
     pub(crate) fn append<M: Tells>(
         &mut self,
         streams: &Streams,

@@ -11,22 +11,22 @@ ghost use Rattle.st_audit.specs.declared.finding.Finding.{Finding as FindingValu
 ghost use Rattle.st_audit.specs.Construction.{IsAudit};
 ghost use Rattle.st_audit.specs.Findings.{HasCertificate, IsFinding};
 
-/// The streams have one finding at most, its acts and pairs included: so `audit` returns the same
-/// one each time, for every number of threads, unless memory runs out.
+/// Streams have at most one finding, its acts and pairs included. So `audit` returns the same
+/// finding each time, for every number of threads, unless memory runs out.
 pub fn one_finding()
     ensures { (top : ℕ) (streams : List Stream) (one other : FindingValue) → IsAudit top streams one
         → IsAudit top streams other → one ≡ other }
 {}
 
-/// It holds of them: it is a certificate that the checker accepts, or the event that it names is
-/// there and its reason holds at it.
+/// The finding holds of the streams: it is a certificate that the checker accepts, or the event
+/// that it names is there and its reason holds at it.
 pub fn findings_hold()
     ensures { (top : ℕ) (streams : List Stream) (found : FindingValue) → IsStreams streams
         → IsAudit top streams found → IsFinding top streams found }
 {}
 
-/// It is a certificate if no reason holds of the streams, or if some run without a reset reported
-/// all of itself.
+/// The finding is a certificate if the streams are plain, or if a run without a reset that
+/// reported everything shows them.
 pub fn certain_streams_fit()
     ensures { (top : ℕ) (streams : List Stream) (found : FindingValue) → IsStreams streams
         → IsPlain top streams ⊎ IsFullyShown top streams → IsAudit top streams found

@@ -1,7 +1,7 @@
 //! The auditor: finds a certificate for collected streams, or an event and a reason.
 //!
-//! It knows the streams, their pairing and their order, builds acts from them, and asks the
-//! checker. A certificate that it hands out is one that the checker accepted. It knows no text.
+//! It builds acts from the streams, their pairing and their order, and compares them as the
+//! checker does, which accepts each certificate. It knows nothing of text.
 #![tactic(auto)]
 
 mod auditing;

@@ -1,4 +1,4 @@
--- The streams determine the finding, so its clauses hold of what is returned.
+-- The finding is the one that the streams determine, so what was proved of that holds of it.
 use Rattle.std.proofs.lemmas.Result.{IfOk-weaker}
 use Rattle.st_audit.proofs.Certificates.{certain_streams_fit}
 use Rattle.st_audit.proofs.DeterminedFinding.{hands_on}

@@ -1,4 +1,4 @@
--- The verdict is that of what was kept on the way, or the checker's.
+-- The verdict follows from the comparison if all acts passed, and is else the checker's.
 use Rattle.std.proofs.Common.{IfSome, subst}
 use Rattle.st_check.proofs.ForCallers.{passed_even}
 use Rattle.st_check.specs.Progress.{HasPassed}

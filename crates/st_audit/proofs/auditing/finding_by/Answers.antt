@@ -1,4 +1,4 @@
--- A yes is a certificate, and each other verdict is no yes.
+-- Acts with the verdict yes are a certificate, and each other verdict isn't yes.
 use Rattle.std.proofs.Common.{rules, refl, subst}
 use Rattle.st_check.specs.Answers.{verdict_of}
 use Rattle.st_core.specs.Verdict.{IsVerdict}

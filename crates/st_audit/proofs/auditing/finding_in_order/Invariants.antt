@@ -1,4 +1,4 @@
--- The construction is as the items so far make it, and it is where they led.
+-- The construction is in the state to which the items so far lead, and on their course.
 use Rattle.std.proofs.Common.{take}
 use Rattle.st_plan.specs.Moves.{earlier_of}
 use Rattle.st_audit.specs.Progress.{IsMatched, IsSoFar}

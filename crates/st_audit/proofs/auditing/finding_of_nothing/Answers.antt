@@ -1,4 +1,4 @@
--- Without items the verdict of no acts is a yes.
+-- Without items the verdict on an empty list of acts is yes.
 use Rattle.std.proofs.Common.{[], sym, ◌∙◌, subst}
 use Rattle.st_check.specs.Answers.{verdict_of}
 use Rattle.st_check.specs.declared.verdict.Verdict.{Verdict}

@@ -1,5 +1,5 @@
--- In plain streams the first acts run and each item goes through. So the construction halts only
--- because memory ran out, and at the end what is told is shown.
+-- In plain streams the first acts run and each item goes through, so the construction halts only
+-- because memory ran out, and at the end the told events are shown.
 use Rattle.std.proofs.Common.{◌≡◌, [], get_or, rules, arith, sym, subst}
 use Rattle.std.proofs.lemmas.Option.{slice_get-get_or}
 use Rattle.st_core.specs.Laws.{NoReset}

@@ -1,4 +1,4 @@
--- The construction is as the items so far make it; in plain streams it is on its way.
+-- The construction is in the state to which the items so far lead, and in plain streams on track.
 use Rattle.std.proofs.Common.{take}
 use Rattle.st_plan.specs.Moves.{earlier_of}
 use Rattle.st_plan.specs.Plain.{IsPlain}

@@ -1,5 +1,4 @@
--- As long as acts are compared, what is kept moves with the act; if it doesn't pass, nothing is
--- kept any more.
+-- The comparison advances with each act, and ends at an act that doesn't pass.
 use Rattle.std.proofs.Common.{IfSome, subst}
 use Rattle.std.proofs.lemmas.Bool.{MatchBool-at_true}
 use Rattle.st_check.specs.Progress.{IsPassedBy}

@@ -1,4 +1,4 @@
--- The lemma says it.
+-- The finding names the place of an item and a reason that was tested there.
 use Rattle.st_audit.proofs.TrueFindings.{findings_hold}
 use Rattle.st_audit.proofs.laws.findings_hold.Goals as goal
 

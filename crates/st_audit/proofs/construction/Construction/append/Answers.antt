@@ -1,4 +1,4 @@
--- The outcome of each item is that of its move, and leads to the counts with it.
+-- The outcome of each item is that of its move, and leads to the counts after it.
 use Rattle.std.proofs.Common.{◌≡◌, ◌∷◌, arith, Some, take, length, sym, ◌∙◌, ap, subst}
 use Rattle.std.proofs.lemmas.Option.{same_Some, slice_get-get_or}
 use Rattle.std.proofs.lemmas.Result.{IfOk-weaker}

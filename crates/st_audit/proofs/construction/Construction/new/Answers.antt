@@ -1,4 +1,4 @@
--- A new world's counts are at zero, and nothing is told.
+-- In a new world all counts are zero, and no event has its acts yet.
 use Rattle.std.proofs.Common.{length, refl, sym, ◌∙◌, ap, subst, IfSome}
 use Rattle.std.proofs.Math.ListN.{length-map}
 use Rattle.std.proofs.lemmas.List.{length-replicate}

@@ -1,4 +1,4 @@
--- If a tracer was put, no count moved, and it is the next one.
+-- A tracer that was put changed no count, and is the next of all tracers.
 use Rattle.std.proofs.Common.{◌≡◌, ℕ, ◌+◌, ◌∷◌, [], List, true, not, Option, Some, ◌==◌, drop}
 use Rattle.std.proofs.Common.{get_or, arith, sym, ◌∙◌, ap, subst}
 use Rattle.std.specs.Option.{option_eq}

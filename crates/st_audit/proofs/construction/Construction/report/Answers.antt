@@ -1,4 +1,4 @@
--- The act's report is compared with the event, at the place of whose process one more is told.
+-- The act's report is compared with the event, and one is added to the count of its process.
 use Rattle.std.proofs.Common.{◌≡◌, ◌<◌, arith, length, rules, slice_get, slice_set, ℕ, List, Err}
 use Rattle.std.proofs.Common.{Some, ◌&&◌, not, refl, sym, ◌∙◌, ap, subst}
 use Rattle.std.proofs.lemmas.Bool.{false≢true}

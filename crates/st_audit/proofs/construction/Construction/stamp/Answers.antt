@@ -1,4 +1,5 @@
--- The process is brought to be ready and then stamps: acts in a row, of which no reason holds.
+-- The process is made ready and then stamps: these acts come in a row, and no reason holds of
+-- them.
 use Rattle.std.proofs.Common.{◌≡◌, ◌+◌, cond, None, Some, [], ◌∷◌, ◌++◌, Err, refl, sym, ◌∙◌, ap}
 use Rattle.std.proofs.Common.{subst}
 use Rattle.st_plan.specs.Build.{ready}
