@@ -1,5 +1,5 @@
--- The items of streams are all that is there, of each place its event and the hidden send of a
--- receive that has one: so an order holds all that is there.
+-- An order holds all items of its streams, since at each place the items are the event and, for a
+-- receive without a reported send, the hidden send.
 use Rattle.std.proofs.Common.{◌≡◌, ℕ, zero, suc, ◌+◌, true, false, cond, List, [], ◌∷◌, ◌++◌, Some}
 use Rattle.std.proofs.Common.{None, refl, sym, ◌∙◌, ap, subst, arith, inl, inr}
 use Rattle.std.specs.List.{slice_get}
@@ -97,7 +97,7 @@ place_in [] z m = absurd m
 place_in (x ∷ xs) z (inl same) = (0, ap (λ (y : Item). Some y) (sym same))
 place_in (x ∷ xs) z (inr m) = let rest = place_in xs z m in (suc rest.0, rest.1)
 
--- an order holds all that is there
+-- an order holds all items
 pub order_whole : (streams : List Stream) (xs : List Item) → IsOrder streams xs → IsWhole streams xs
 order_whole streams xs order z d at =
     let back = members xs (items streams) (IsPermutation-sym (items streams) xs order.same) in

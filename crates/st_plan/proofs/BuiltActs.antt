@@ -1,5 +1,5 @@
--- The acts of all moves in a row: each move's go on from what those before left, so that they run
--- and report what is told of the moves.
+-- The acts of all moves run in a row and report what is told of the moves, since each move's acts
+-- go on from the state that the moves before it left.
 use Rattle.std.proofs.Common.{◌≡◌, ℕ, List, [], ◌∷◌, ◌++◌, Some, None}
 use Rattle.std.proofs.Common.{option_to_list}
 use Rattle.std.proofs.Common.{append_assoc, get_or, All, refl, sym, ◌∙◌, ap, subst, if◌then◌else◌}

@@ -1,5 +1,5 @@
--- Worked cases: the definitions computed. Nothing cites this file; it shows that the definitions
--- say what is meant.
+-- The definitions computed on worked cases, which show that they say what is meant. Nothing cites
+-- this file.
 use Rattle.std.specs.Prelude.{◌≡◌, ℕ, Bool, true, false, List, [], ◌∷◌, ◌++◌, Some, refl}
 use Rattle.st_core.specs.declared.types.Pid.{Pid}
 use Rattle.st_core.specs.declared.types.Event.{Event}
@@ -41,7 +41,7 @@ hidden_too_wide = refl
 hidden_told : told_of_moves all_told b hidden ≡ got 17 0 2 a b 5 ∷ printed 17 2 3 b 8 ∷ []
 hidden_told = refl
 
--- their certificate
+-- the certificate of the hidden sends
 hidden_acts : construction top hidden_sends all_told hidden ≡ Some (
     act.Tracer a true ∷ restored a 17 false false true ∷ act.Print a 7
     ∷ restored a 17 false true false ∷ act.Send a b 5 ∷ act.Receive b (want.Place 0)
@@ -49,7 +49,7 @@ hidden_acts : construction top hidden_sends all_told hidden ≡ Some (
     ∷ restored b 17 false true false ∷ act.Send b a 6 ∷ act.Receive a (want.Place 0) ∷ [])
 hidden_acts = refl
 
--- a hidden send from a process that took a message before it; it is where its receive is
+-- a process takes a message before its hidden send; the hidden send has the place of its receive
 abbrev crossing : List Stream
 crossing = of a (got 1 0 1 b a 4 ∷ []) ∷ of b (got 1 0 2 a b 5 ∷ []) ∷ []
 
@@ -67,7 +67,7 @@ widest = refl
 too_wide_by_one : along too_wide [] (moves (wide 1002) (order (wide 1002))) ≡ true ∷ []
 too_wide_by_one = refl
 
--- a prev above the clock begins a new trace there
+-- a new trace begins at a prev that is above the clock
 new_trace : construction top (of a (printed 17 2 3 a 5 ∷ []) ∷ []) all_told
     (moves (of a (printed 17 2 3 a 5 ∷ []) ∷ [])
     (order (of a (printed 17 2 3 a 5 ∷ []) ∷ [])))
@@ -125,7 +125,7 @@ crossed_acts : construction top (all_streams crossed) (marks_of crossed) (whole_
     ∷ act.Receive a (want.Place 0) ∷ act.Receive b (want.Place 0) ∷ [])
 crossed_acts = refl
 
--- a prev below the clock: a message came between, which nobody told of
+-- a prev is below the clock: a message came between, which nobody told of
 abbrev fallen : List Stream
 fallen = of a (printed 1 0 2 a 7 ∷ printed 1 1 3 a 8 ∷ []) ∷ of b [] ∷ []
 

@@ -33,7 +33,7 @@ pub record IsNext (streams : List Stream) (earlier : List Move) (m : Move) : Typ
   pub below : AllByRecursion (IsBelow streams m) earlier
   pub turn : IsInTurn earlier m.item
 
--- a move that came
+-- a move that came before
 pub record HasCome (streams : List Stream) (y : Move) : Type 0 where
   pub at : IsAt streams y.item y.event
   pub is : move_by y.item y.event ≡ y

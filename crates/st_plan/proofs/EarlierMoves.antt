@@ -1,5 +1,5 @@
--- An item before another in the order has a lower key; so the counts of a hidden send's process
--- before it are lower than its own.
+-- In an order an item has a lower key than each item after it, so before a hidden send its process
+-- has only lower counts.
 use Rattle.std.proofs.Common.{◌≡◌, ℕ, zero, suc, ◌+◌, ◌<◌, ◌≤◌, ◌⊎◌, inl, inr, max, true, false}
 use Rattle.std.proofs.Common.{cond, List, [], ◌∷◌, ◌++◌, take, drop, reverse, Option, Some, None}
 use Rattle.std.proofs.Common.{option_map, slice_get, refl, sym, ◌∙◌, ap, subst, arith}
@@ -80,7 +80,7 @@ earlier_more streams xs n x e at there =
 
 -- WHAT IS THERE
 
--- the item is there, with this event
+-- streams have the item, with this event
 abbrev pub IsAt : List Stream → Item → Event → Type 0
 IsAt streams (item.Reported p i) e = event_at streams p i ≡ Some e
 IsAt streams (item.Hidden p i) e = (event_at streams p i ≡ Some e) × (is_hidden streams e ≡ true)
@@ -126,7 +126,7 @@ module _ (streams : List Stream) where
   each_there (x ∷ xs) among all =
       (among_all (IsThere streams) (items streams) x all among.0, each_there xs among.1 all)
 
-  -- each item of an order is there
+  -- streams have each item of their order
   pub order_there : IsRising (pids_of streams) → (xs : List Item) → IsOrder streams xs
       → AllByRecursion (IsThere streams) xs
   order_there rising xs order = each_there xs (members (items streams) xs order.same)
@@ -134,7 +134,7 @@ module _ (streams : List Stream) where
 
 -- KEYS
 
--- k is below l, in numbers
+-- k is below l, compared number by number
 pub record IsKeyBelow (k l : Key) : Type 0 where
   pub height : k.height ≤ l.height
   pub rank : k.height ≡ l.height → k.rank ≤ l.rank
@@ -159,7 +159,7 @@ place_below k l pid h =
     cmp_less k.place l.place (ap (λ o. is_lt (ordering_then o (nat_cmp k.place l.place)))
     (sym equal) ∙ h)
 
--- two numbers compared, or on where they are equal
+-- two numbers are compared, and the rest decides if they are equal
 step_below : (m n : ℕ) (rest : Ordering) → is_lt (ordering_then (nat_cmp m n) rest) ≡ true
     → (m < n) ⊎ ((m ≡ n) × (is_lt rest ≡ true))
 step_below m n rest h = elim (cases_order m n) [
@@ -206,7 +206,7 @@ before_below streams y x d e at_y at_x h =
     key_below (key_by streams y d) (key_by streams x e)
     (sym (comes_before_is streams y x (key_by streams y d) (key_by streams x e) y_key x_key) ∙ h)
 
--- of rising keys each before an item is below its own
+-- if keys rise, each key before an item's is below it
 pub all_before : (streams : List Stream) (xs : List Item) (n : ℕ) (x : Item) → KeysRise streams xs
     → slice_get xs n ≡ Some x → AllByRecursion (λ y. comes_before streams y x ≡ true) (take n xs)
 all_before streams [] n x rise at = absurd (none-some x at)
@@ -246,7 +246,7 @@ pub event_is : (x : Item) (e : Event) → (move_by x e).event ≡ e
 event_is (item.Reported p i) e = refl
 event_is (item.Hidden p i) e = refl
 
--- the clocks of these moves' process are below this count
+-- the counts of q's moves are below `this`
 abbrev pub AreBelow : Pid → ℕ → List Move → Type 0
 AreBelow q this = AllByRecursion (λ (m : Move). m.who ≡ q → m.event.serial.this < this)
 

@@ -1,6 +1,6 @@
--- The lemmas that proofs of the crates above may cite: on the moves along an order, on acts of one
--- process's own, on what the moves say of the machine, on each move of settled streams, on what the
--- acts before a stamp do, and on streams that tell all.
+-- The lemmas that proofs of the crates above may cite: on the moves along an order, acts of one
+-- process's own, what the moves say of the machine, each move of settled streams, the acts before
+-- a stamp, and full streams.
 
 -- ---- the moves along an order
 pub use Rattle.st_plan.proofs.EarlierMoves.{take_more, moves_append, moves_by, one_move}

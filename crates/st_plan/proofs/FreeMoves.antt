@@ -1,5 +1,5 @@
--- No reason holds of a move of the order of settled streams: each move splits the order, and of no
--- split a reason holds.
+-- No reason holds of a move of the order of settled streams, since a reason that holds nowhere
+-- holds at no split of the order, and each move splits it.
 use Rattle.std.proofs.Common.{◌≡◌, ℕ, ◌==◌, Bool, true, false, not, List, [], ◌∷◌, ◌++◌, reverse}
 use Rattle.std.proofs.Common.{refl, sym, ◌∙◌, ap, subst, append_assoc}
 use Rattle.std.proofs.lemmas.Bool.{eqb-true, not-false}
@@ -15,7 +15,7 @@ use Rattle.st_plan.specs.Plain.{out_of_turn, event_count, HoldsNowhere, IsSettle
 
 -- ALONG THE MOVES
 
--- of each of these moves, which come after the earlier ones, the fact holds
+-- the fact holds of each of these moves, which come after the earlier ones
 abbrev pub AllAlong : (List Move → Move → Type 0) → List Move → List Move → Type 0
 AllAlong P earlier [] = Unit {0}
 AllAlong P earlier (m ∷ ms) = P earlier m × AllAlong P (m ∷ earlier) ms
@@ -25,14 +25,14 @@ pub reverse_more : {A : Type 0} (m : A) (earlier later : List A)
 reverse_more m earlier later = ap (λ ms. ms ++ later) (reverse-append (m ∷ []) earlier)
     ∙ append_assoc (reverse earlier) (m ∷ []) later
 
--- what holds along all holds along the rest, after those that came
+-- a fact that holds along all moves holds along the moves left
 pub along_from : (P : List Move → Move → Type 0) (earlier ms : List Move)
     → AllAlong P [] (reverse earlier ++ ms) → AllAlong P earlier ms
 along_from P [] ms all = all
 along_from P (m ∷ earlier) ms all =
     (along_from P earlier (m ∷ ms) (subst (AllAlong P []) (reverse_more m earlier ms) all)).1
 
--- at a place of the moves
+-- a fact that holds along all moves holds of each move
 pub along_at : (P : List Move → Move → Type 0) (ms earlier later : List Move) (m : Move)
     → AllAlong P [] ms → ms ≡ reverse earlier ++ m ∷ later → P earlier m
 along_at P ms earlier later m all split =

@@ -1,5 +1,5 @@
--- A full run has such streams: pairing accepts them, each stamp goes on from the events
--- before it, no send is hidden, and each count is one that a clock has had.
+-- A run that reports everything has full streams: pairing accepts them, each stamp goes on from
+-- the events before it, no send is hidden, and each count is one that a clock has had.
 use Rattle.std.proofs.Common.{◌≡◌, ℕ, ◌≤◌, ◌==◌, ◌&&◌, Bool, true, false, cond, List, take, Some}
 use Rattle.std.proofs.Common.{None, slice_get, option_and_then, refl, sym, ◌∙◌, ap, subst, arith}
 use Rattle.std.specs.List.{All}

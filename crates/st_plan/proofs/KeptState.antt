@@ -1,6 +1,6 @@
--- The moves follow the machine, tokens aside: after the acts of the moves so far each process
--- has the clock and the last count that they leave it, and in its queue the messages that they sent
--- to it and didn't take.
+-- The moves follow the machine, tokens aside: after the acts of the moves so far each process has
+-- the clock and the last count that the moves say, and in its queue the messages that they sent to
+-- it and that it didn't take.
 use Rattle.std.proofs.Common.{◌≡◌, ℕ, ◌<◌, ◌≤◌, ◌&&◌, ◌⊎◌, max, nat_lt, Bool, true, false, not}
 use Rattle.std.proofs.Common.{◌==◌, cond, List, [], ◌∷◌, ◌++◌, Option, Some, None, is_some}
 use Rattle.std.proofs.Common.{option_map, option_to_list, inl, inr, refl, sym, ◌∙◌, ap, subst}
@@ -59,7 +59,7 @@ sends_to q m = elim m.item [
   ]
 ]
 
--- without the first message whose token has this from and this count
+-- the queue without the first message whose token has this sender and count
 abbrev pub without : Pid → ℕ → List Message → List Message
 without from this queue = elim (position (λ x. bears_stamp from this x.token) queue) [
   | None ↦ queue
@@ -75,7 +75,7 @@ queue_of streams marks q (m ∷ earlier) =
     then (if pid_eq m.who q then without m.event.from m.event.serial.this old else old)
     else (if sends_to q m then old ++ message_of streams marks m ∷ [] else old)
 
--- p's record is what the moves say
+-- p's record is as the moves say
 pub record IsSo (streams : List Stream) (marks : Marks) (earlier : List Move) (p : Pid)
     (r : Process) : Type 0 where
   pub clocked : r.local.clock ≡ clock p earlier
@@ -129,7 +129,7 @@ still_there top s p r before acts l is x =
       | false ↦ λ e. ap (λ (o : Option Process). is_some o) (l.others x e)
     ] refl
 
--- a prev that is the last count, or at least the clock
+-- if a prev isn't uncaused, it is the last count, or at least the clock
 pub caused_if : (prev last clock : ℕ) → (not (prev == last) && nat_lt prev clock) ≡ false
     → (prev ≡ last) ⊎ (clock ≤ prev)
 caused_if prev last clock h = elim (prev == last) as (λ b. (prev == last) ≡ b
@@ -175,7 +175,7 @@ pub stamp_queue : (streams : List Stream) (marks : Marks) (m : Move) (earlier : 
     (queue_of streams marks x earlier)
 stamp_queue streams marks m earlier x b stamps sends = rw (stamps, sends) refl
 
--- and after one that takes
+-- the queue of x after a move that takes a message
 pub taken_queue : (streams : List Stream) (marks : Marks) (m : Move) (earlier : List Move) (x : Pid)
     (b : Bool) → is_taking m ≡ true → pid_eq m.who x ≡ b → queue_of streams marks x (m ∷ earlier)
     ≡ cond b (without m.event.from m.event.serial.this (queue_of streams marks x earlier))
@@ -184,8 +184,8 @@ taken_queue streams marks m earlier x b takes who = rw (takes, who) refl
 
 -- A STEP
 
--- a step keeps the invariant, if its actor's record and each other one are afterwards what the
--- moves say
+-- a step keeps the invariant, if afterwards the record of its actor and each other record are as
+-- the moves say
 pub step_keeps : (streams : List Stream) (marks : Marks) (earlier : List Move) (m : Move)
     (s : State) (a : Act)
     (done : Acted) (r : Process) → ((x : Pid) → lists streams x ≡ true

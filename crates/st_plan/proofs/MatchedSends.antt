@@ -1,5 +1,5 @@
--- An accepting pairing clears a receive of the moves before it: none took its message, since
--- no other receive has its sender and count, and its sender's stamp with its count is its send.
+-- If pairing accepts the streams, no earlier move took the message of a receive, since no other
+-- receive has its sender and count, and its sender's stamp with its count is its send.
 use Rattle.std.proofs.Common.{◌≡◌, ℕ, ◌==◌, ◌&&◌, ◌||◌, Bool, true, false, not, List, [], ◌∷◌, Some}
 use Rattle.std.proofs.Common.{None}
 use Rattle.std.proofs.Common.{option_and_then, refl, sym, ◌∙◌, ap, subst, arith, if◌then◌else◌}

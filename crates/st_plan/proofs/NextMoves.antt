@@ -1,5 +1,5 @@
--- Each move of an order goes on, by the kind of its item: the acts of a stamp find its clock below
--- its count, and those of a receive its message.
+-- Each move of an order goes on, whatever its item: a stamp's process has a clock below its count,
+-- and a receive finds its message.
 use Rattle.std.proofs.Common.{◌≡◌, ℕ, ◌<◌, ◌≤◌, true, false, cond, List, [], ◌∷◌, Option, Some}
 use Rattle.std.proofs.Common.{None, refl, sym, ◌∙◌, ap, subst}
 use Rattle.std.proofs.lemmas.Bool.{false≢true}
@@ -120,7 +120,7 @@ module _ (top : ℕ) (streams : List Stream) (marks : Marks) (earlier : List Mov
   reported_by (Printed kd from is_to) free below waits s kept =
       print_serves free below s kept kd from is_to
 
--- the counts of all events are ones that a clock can have
+-- a clock can have the count of each event
 abbrev pub AreWithin : ℕ → List Stream → Type 0
 AreWithin top streams =
     (p : Pid) (i : ℕ) (e : Event) → event_at streams p i ≡ Some e → e.serial.this ≤ top

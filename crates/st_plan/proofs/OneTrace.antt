@@ -1,5 +1,4 @@
--- None of the acts that are built is a reset: a tracer, the acts before a stamp and an item's own
--- act are none.
+-- No act that is built is a reset: it is a tracer, an act before a stamp, or an item's own act.
 use Rattle.std.proofs.Common.{◌≡◌, ℕ, ◌-◌, ◌==◌, zero, suc, nat_lt, Bool, true, false, List, []}
 use Rattle.std.proofs.Common.{◌∷◌, ◌++◌, Option, Some, None, position, option_map, option_and_then}
 use Rattle.std.proofs.Common.{refl, subst, if◌then◌else◌}
@@ -44,7 +43,7 @@ either P false xs ys one two = two
 
 -- THE ACTS BEFORE A STAMP
 
--- a fact of each of the acts that bring p to a stamp
+-- a fact that holds of each act that makes p ready for a stamp
 module _ (P : Act → Type 0) (p : Pid) (restores : (t : Token) → P (act.Restore p t))
     (prints : P (act.Print p 0)) (clears : P (act.Clear p))
     (sets : (n : Label) → P (act.Set p (component.Label n))) where

@@ -69,7 +69,7 @@ leads_new : (streams : List Stream) (x : Item) (xs : List Item) (e : Event) → 
 leads_new streams (item.Reported p i) xs e at before = record { at = at; before = before }
 leads_new streams (item.Hidden p i) xs e at before = record { at = at.0; before = before }
 
--- all of these are there
+-- streams have all of these items
 abbrev pub AreThere : List Stream → List Item → Type 0
 AreThere streams xs = AllByRecursion (IsThere streams) xs
 
@@ -145,7 +145,7 @@ clocks_below streams earlier (m ∷ ms) ok all known =
 
 -- SOURCES COME FIRST
 
--- a thing that is there came, or is still to come
+-- each item of the streams came, or is still to come
 abbrev pub Covers : List Stream → List Move → List Item → Type 0
 Covers streams earlier xs = (z : Item) (d : Event) → IsAt streams z d
     → ((n : ℕ) × (slice_get earlier n ≡ Some (move_by z d))) ⊎ ((n : ℕ) × (slice_get xs n ≡ Some z))
@@ -242,7 +242,7 @@ waits_along streams marks ok tops earlier (x ∷ xs) there leads rise covers kno
 
 -- IN AN ORDER
 
--- what is there is among these
+-- all items of the streams are among these
 abbrev pub IsWhole : List Stream → List Item → Type 0
 IsWhole streams xs = (z : Item) (d : Event) → IsAt streams z d → (n : ℕ) × (slice_get xs n ≡ Some z)
 

@@ -1,5 +1,5 @@
--- If all events are told, the told ones are all: so the acts that are built of plain streams show
--- these.
+-- If all events are told, the told events are all events, so the acts that are built of plain
+-- streams show them.
 use Rattle.std.proofs.Common.{◌≡◌, ℕ, ◌+◌, true, List, [], ◌∷◌, Some, refl, ap, subst}
 use Rattle.st_core.specs.declared.types.Event.{Event}
 use Rattle.st_core.specs.declared.types.Act.{Act}

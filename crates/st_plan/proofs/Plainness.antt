@@ -49,7 +49,7 @@ stamps_lead top streams full p j i d e less at_d at_e stamp =
 
 -- AT EACH MOVE
 
--- what is known of a move after these
+-- what is known of a move after the earlier ones
 record IsNext (earlier : List Move) (m : Move) : Type 0 where
   turn : out_of_turn earlier m ≡ false
   caused : uncaused earlier m ≡ false
@@ -90,7 +90,7 @@ at_move streams p i e earlier later goes_on before =
           ] refl;
     }
 
--- nothing is skipped, here and before
+-- if no count is skipped at a move nor before it, the move isn't too wide
 narrow_by : (taking : Bool) (here before : ℕ) → here ≡ 0 → before ≡ 0
     → (not taking && (nat_lt most_skipped here || nat_lt most_skipped_in_all (here + before)))
     ≡ false

@@ -1,5 +1,5 @@
--- Each event of streams is its process's own and names listed processes, so that its kind says
--- which of its pids are whose.
+-- Each event of streams is its process's own and names listed processes, so its kind says which of
+-- its pids is the process's.
 use Rattle.std.proofs.Common.{◌≡◌, ℕ, true, false, cond, List, [], ◌∷◌, Option, Some, None, is_some}
 use Rattle.std.proofs.Common.{refl, sym, ◌∙◌, ap, subst}
 use Rattle.std.specs.List.{slice_get}
@@ -49,7 +49,7 @@ listed_at streams p i e at =
     elim (stream_of streams p) as (λ o. slice_get (elim o [ None ↦ [] | Some y ↦ y.events ]) i
     ≡ Some e → is_some o ≡ true) [ None ↦ λ at. absurd (none-some e at) | Some y ↦ λ at. refl ] at
 
--- of streams no place is unlisted
+-- the pids that events of streams name are listed
 pub named : (streams : List Stream) → IsStreams streams → AreAllListed streams
 named streams s =
     subst (λ (o : Option (Pid × ℕ)). MatchOption o (AreAllListed streams)

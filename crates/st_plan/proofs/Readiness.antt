@@ -1,5 +1,4 @@
--- The acts before a stamp do what they are for: nothing of them is reported, and they leave the
--- process ready to stamp the serial.
+-- The acts before a stamp report nothing, and leave the process ready to stamp the serial.
 use Rattle.std.proofs.Common.{◌≡◌, ℕ, ◌+◌, ◌-◌, ◌<◌, ◌≤◌, ◌==◌, ◌&&◌, ◌⊎◌, zero, suc, nat_lt, Bool}
 use Rattle.std.proofs.Common.{true, false, cond, List, [], ◌∷◌, ◌++◌, Option, Some, None, inl, inr}
 use Rattle.std.proofs.Common.{refl, sym, ◌∙◌, ap, subst, arith, if◌then◌else◌}
@@ -35,14 +34,14 @@ is_alone p (act.Clear q) = p ≡ q
 is_alone p (act.Restore q t) = p ≡ q
 is_alone p a = ⊥
 
--- the act makes this of p's record, whatever its queue, and reports nothing
+-- the act changes p's record from l to m, whatever its queue, and reports nothing
 pub record IsQuiet (top : ℕ) (p : Pid) (l : LocalState) (a : Act) (m : LocalState) : Type 0 where
   pub reply : Reply
   pub alone : is_alone p a
   pub acts : (queue : List Message) → acted top (record { pid = p; local = l; queue = queue }) a
       ≡ Some (record { local = m; queue = queue; reply = reply; report = None; place = None })
 
--- so do these acts, in a row
+-- these acts in a row change p's record so, and report nothing
 abbrev pub QuietRun : ℕ → Pid → LocalState → List Act → LocalState → Type 0
 QuietRun top p l [] m = l ≡ m
 QuietRun top p l (a ∷ rest) m = (x : LocalState) × IsQuiet top p l a x × QuietRun top p x rest m
@@ -60,7 +59,7 @@ pub record HasToken (l : LocalState) (n : Label) (f : Flags) : Type 0 where
   pub label : token.label ≡ n
   pub flags : token.flags ≡ f
 
--- where the acts lead: clock and last, and a token of this label and these flags
+-- the acts lead to this clock and last count, and a token with this label and these flags
 pub record Reaches (top : ℕ) (p : Pid) (l : LocalState) (acts : List Act) (clock last : ℕ)
     (n : Label) (f : Flags) : Type 0 where
   pub end : LocalState
@@ -187,7 +186,7 @@ silent_reaches top p (suc k) l n has within =
       traced = rest.traced;
     }
 
--- a token stands for each other of its label and flags
+-- a token may stand for any other with its label and flags
 alike : (n : Label) (g : Flags) (p : Pid) (l : LocalState) → HasToken l n g
     → (m : Label) (f : Flags)
     → is_dressed m f (Some (unstamped_token p n g)) ≡ is_dressed m f l.token
@@ -223,7 +222,7 @@ raised top p l x n count f same now least within =
           (dressed top p l x.token n f (same n f))
     ] refl
 
--- the clock brought up to a count, if the token may be any
+-- the acts raise the clock to a count, whatever the token
 record Brings (top : ℕ) (p : Pid) (l : LocalState) (acts : List Act) (clock : ℕ) : Type 0 where
   pub end : LocalState
   pub runs : QuietRun top p l acts end

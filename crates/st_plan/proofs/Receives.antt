@@ -1,5 +1,5 @@
--- A receive keeps the invariant: it takes the message that waits for it, which leaves the queue and
--- gives the event.
+-- A receive keeps the invariant: it takes the message that waits for it, which leaves the queue
+-- and has what the event reports.
 use Rattle.std.proofs.Common.{Option, ◌≡◌, ℕ, zero, suc, ◌+◌, max, true, false, cond, List, [], ◌∷◌}
 use Rattle.std.proofs.Common.{Some, None, option_map, refl, sym, ◌∙◌, ap, subst, arith}
 use Rattle.std.specs.List.{remove, position, slice_get}
@@ -71,7 +71,7 @@ abbrev taken_by : Process → Move → Option Act
 taken_by r m = option_map (λ k. act.Receive m.who (want.Place k))
     (position (λ x. bears_stamp m.event.from m.event.serial.this x.token) r.queue)
 
--- the message at its place is what the receive takes
+-- the receive takes the message at its place
 taken_message : (top : ℕ) (streams : List Stream) (marks : Marks) (earlier : List Move)
     (r : Process) (m : Move)
     → IsSo streams marks earlier m.who r → (w : IsWaiting streams marks earlier m)
@@ -82,7 +82,7 @@ taken_message top streams marks earlier r m so w =
     pick_at w.place r.queue w.message (ap (λ q. slice_get q w.place) so.queued ∙ w.at) in
     ap (λ f. Some (receives r f)) picked
 
--- what its process reports of it is the move's event, if that is told
+-- the process reports the move's event, if it is told
 taken_event : (streams : List Stream) (marks : Marks) (earlier : List Move) (r : Process) (m : Move)
     → IsSo streams marks earlier m.who r → r.pid ≡ m.who → (w : IsWaiting streams marks earlier m)
     → report r.local.traced kind.Receive w.message.token (Some r.pid) w.message.value
@@ -121,7 +121,7 @@ so_taken streams marks earlier r m so takes w =
       queued = ap (λ q. remove q k) so.queued ∙ sym own_queue;
     })
 
--- any other process is as the moves say without it
+-- each other process is as the moves say without the receive
 so_beside : (streams : List Stream) (marks : Marks) (earlier : List Move) (m : Move) (x : Pid)
     (z : Process) → is_taking m ≡ true → pid_eq x m.who ≡ false → IsSo streams marks earlier x z
     → IsSo streams marks (m ∷ earlier) x z

@@ -84,7 +84,7 @@ hidden_apart streams d e i hidden at stamps same =
     and_from (is_stamp e) (e.serial.this == d.serial.this) stamps count in
     none-some (0 + i, e) (sym none ∙ ap (λ b. cond b (Some (0 + i, e)) None) test)
 
--- an item of the same process with a lower key has a lower count than a stamp
+-- an item of a stamp's process with a lower key has a lower count than the stamp
 pub this_below : (streams : List Stream) (y x : Item) (d e : Event) → IsAt streams y d
     → IsAt streams x e → Stamps x e
     → IsTop streams x e → IsKeyBelow (key_by streams y d) (key_by streams x e)

@@ -2,7 +2,7 @@
 use Rattle.std.specs.Prelude.{List, [], ◌∷◌}
 use Rattle.st_plan.specs.Moves.{Move}
 
--- what the function gives at each of these moves, after those before it, the last one first
+-- what the function gives at each of these moves, after the moves before it
 abbrev pub along : {X : Type 0} → (List Move → Move → X) → List Move → List Move → List X
 along f earlier [] = []
 along f earlier (m ∷ ms) = f earlier m ∷ along f (m ∷ earlier) ms

@@ -1,5 +1,6 @@
 -- Each move of settled streams goes on in the order, whichever events are told, and the moves tell
--- those of each process: so the construction goes through, and its acts show the told events.
+-- the told events of each process. So the construction goes through, and its acts show the told
+-- events.
 use Rattle.std.proofs.Common.{◌≡◌, ℕ, zero, suc, ◌<◌, false, List, [], ◌∷◌, ◌++◌, reverse}
 use Rattle.std.proofs.Common.{Some, All, get_or, refl, slice_get, ◌∙◌, ap, subst}
 use Rattle.std.proofs.lemmas.Option.{none-some, same_Some, slice_get-get_or}
@@ -115,7 +116,7 @@ pub told_pids : (marks : Marks) (streams : List Stream)
 told_pids marks [] = refl
 told_pids marks (x ∷ streams) = ap (λ ps. x.pid ∷ ps) (told_pids marks streams)
 
--- what the moves tell is what some of all streams tell
+-- if the moves tell the told events of all streams, they tell those of some of the streams
 told_some : (marks : Marks) (all some : List Stream) (ms : List Move)
     → ((p : Pid) → told_of_moves marks p ms ≡ told_events_from (marks p) 0 (events_of all p))
     → AreFound all some → AllByRecursion (λ (x : Stream). told_of_moves marks x.pid ms ≡ x.events)
@@ -147,7 +148,7 @@ shown_by top streams marks shown [] serve pids told = ([], refl, ([], refl, told
 shown_by top streams marks shown (m ∷ ms) serve pids told =
     construction_shows top streams marks shown m ms serve pids told
 
--- so the acts of the construction show the told events
+-- the acts of the construction show the told events
 pub settled_is_shown : (top : ℕ) (streams : List Stream) (marks : Marks) → IsStreams streams
     → IsSettled top streams
     → (acts : List Act) × (construction top streams marks (moves streams (order streams))

@@ -1,4 +1,4 @@
--- A silent print more is as well at the end: each is the same act.
+-- One more silent print may as well be added at the end, since all silent prints are the same act.
 use Rattle.std.proofs.Common.{◌≡◌, ℕ, ◌+◌, zero, suc, [], ◌∷◌, ◌++◌, refl, ◌∙◌, ap, arith}
 use Rattle.st_core.specs.declared.types.Pid.{Pid}
 use Rattle.st_core.specs.declared.types.Act.TheVariants as act

@@ -1,6 +1,6 @@
--- A receive's message is of its source, a hidden send or its sender's stamp with its count, which
--- has a lower key: it is a send, and at most as high. And each send that came with its sender and
--- count gives its event.
+-- A receive's message is from its source, a hidden send or its sender's stamp with its count. The
+-- source is a send, has a lower key and is at most as high. And each send that came with its
+-- sender and count gives its event.
 use Rattle.std.proofs.Common.{◌≡◌, ℕ, suc, ◌+◌, ◌==◌, ◌&&◌, max, Bool, true, false, not, List}
 use Rattle.std.proofs.Common.{Option, Some, None, refl, sym, ◌∙◌, ap, subst, arith, if◌then◌else◌}
 use Rattle.std.specs.List.{slice_get, AllByRecursion}
@@ -53,7 +53,7 @@ is_sending q to k h = absurd (false≢true h)
 
 -- A RECEIVE AND ITS SOURCE
 
--- a reported receive: its event, which is its process's own
+-- the event at this place is a receive, which is p's own
 pub record IsReceive (streams : List Stream) (p : Pid) (i : ℕ) (e : Event) : Type 0 where
   pub at : event_at streams p i ≡ Some e
   pub kind : e.kind ≡ kind.Receive
@@ -66,7 +66,7 @@ stamp_by k = true
 pub stamp_kind : (e : Event) (k : Kind) → e.kind ≡ k → is_stamp e ≡ stamp_by k
 stamp_kind e k h = ap stamp_by h
 
--- the item whose message it takes
+-- the item that sent the receive's message
 pub record HasSource (streams : List Stream) (p : Pid) (i : ℕ) (e : Event) : Type 0 where
   pub thing : Item
   pub event : Event
@@ -77,7 +77,7 @@ pub record HasSource (streams : List Stream) (p : Pid) (i : ℕ) (e : Event) : T
 receive_rank : (e : Event) → is_stamp e ≡ false → rank_of e ≡ 1
 receive_rank e h = ap (λ b. let n : ℕ = if b then 0 else 1 in n) h
 
--- no key of that height and rank 0 is above a receive's that is as high
+-- no key with the receive's height and rank 0 is above the receive's
 not_after : (streams : List Stream) (p : Pid) (i : ℕ) (e : Event) (x : Item) (d : Event)
     → event_at streams p i ≡ Some e
     → is_stamp e ≡ false → (key_by streams x d).height ≡ e.serial.this
@@ -199,7 +199,7 @@ fits streams marks ok p i e r y came sent = subst (Fits streams marks p e (marks
     (fits_by streams marks ok p i e r y.item y.event came.at
     (subst (IsSendTo p e.from e.serial.this) (sym came.is) sent))
 
--- so a receive whose source came finds its message waiting
+-- a receive whose source came finds its message waiting
 pub receive_waits : (streams : List Stream) (marks : Marks) → IsPaired streams
     → (earlier : List Move) (p : Pid)
     (i : ℕ) (e : Event) → IsReceive streams p i e → AllByRecursion (HasCome streams) earlier

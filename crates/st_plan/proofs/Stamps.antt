@@ -47,7 +47,7 @@ pub record CanStamp (top : ℕ) (streams : List Stream) (marks : Marks) (earlier
   pub below : clock m.who earlier < m.event.serial.this
   pub free : uncaused earlier m ≡ false
 
--- the record that is ready for the stamp of a move, and what it took
+-- the record that is ready for the stamp of a move, and the acts that made it so
 pub record StandsReady (top : ℕ) (streams : List Stream) (marks : Marks) (earlier : List Move)
     (s : State) (m : Move) : Type 0 where
   pub before : Process
@@ -112,11 +112,11 @@ stands_ready top streams marks earlier s m can =
 
 -- THE STAMP
 
--- a record stamped
+-- the record after its stamp
 abbrev final : Pid → LocalState → Token → LocalState
 final p l t = record l { token = Some (stamped_token p l t); clock = l.clock + 1 }
 
--- what a stamp of this kind does if this record is made of its process's
+-- what a stamp of this kind does, if it makes this record of its process
 abbrev stamps_as : Kind → Option Pid → ℕ → Process → LocalState → Acted
 stamps_as k to v r l =
     record (answers r l reply.Done) { report = report r.local.traced k l.token to v }
@@ -159,8 +159,8 @@ with_stamp streams marks earlier m x z pid stamps clocked lasted traced queued =
           ∙ sym (stamp_queue streams marks m earlier x (sends_to x m) stamps refl);
     }
 
--- A process that is ready, y, stamps the token of the move: so it reports the move's event, if that
--- is told, another process gets the move's message, and all are then as the moves say.
+-- A process that is ready, y, stamps the token of the move. So it reports the move's event, if it
+-- is told, the receiver gets the move's message, and all processes are then as the moves say.
 module _ (top : ℕ) (streams : List Stream) (marks : Marks) (earlier : List Move) (s : State)
     (m : Move) (a : Act) (can : CanStamp top streams marks earlier s m)
     (st : IsStampOf streams marks m a) where

@@ -24,7 +24,7 @@ use Rattle.st_plan.proofs.EarlierMoves.{IsAt}
 use Rattle.st_plan.proofs.FreeMoves.{AllAlong, IsInTurn}
 use Rattle.st_plan.proofs.Clocks.{one_by, IsNext}
 
--- the told ones of one event more
+-- the told events with one event more
 told_more : (told : ℕ → Bool) (i : ℕ) (es : List Event) (n : ℕ) (e : Event)
     → slice_get es n ≡ Some e → told_events_from told i (take (suc n) es)
     ≡ told_events_from told i (take n es) ++ (if told (i + n) then e ∷ [] else [])
@@ -139,7 +139,7 @@ no_more streams p ms all whole less =
     let low = index_low streams p (event_count p ms) [] ms all place.0 place.1 place.2 place.3 in
     omega arith
 
--- if each event of p is among the moves, they tell all the told ones
+-- if each event of p is among the moves, the moves tell all its told events
 pub tells_all : (streams : List Stream) (marks : Marks) (p : Pid) (ms : List Move)
     → AllAlong (IsNext streams) [] ms → AreMoved streams p ms → told_of_moves marks p ms
     ≡ told_events_from (marks p) 0 (events_of streams p)

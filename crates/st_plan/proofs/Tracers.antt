@@ -1,5 +1,5 @@
--- The tracers come first: a tracer for each node marks all its processes, reports nothing and
--- leaves all else at zero, so that after them the state is what no moves say.
+-- After the tracers the state is as no moves say: a tracer for each node marks all its processes,
+-- reports nothing and leaves all else at zero.
 use Rattle.std.proofs.Common.{◌≡◌, ℕ, ◌==◌, zero, suc, Bool, true, false, cond, List, [], ◌∷◌}
 use Rattle.std.proofs.Common.{Option, Some, None}
 use Rattle.std.proofs.Common.{is_some, option_map, option_and_then, refl, sym, ◌∙◌, ap, subst}
@@ -67,14 +67,14 @@ own_pid : (p : Pid) (before r : Process) → (owned (pid_eq r.pid p) before r).p
 own_pid p before r = elim (pid_eq r.pid p) as
     (λ b. (owned b before r).pid ≡ r.pid) [ true ↦ refl | false ↦ refl ]
 
--- on p's node all are traced
+-- each process on p's node is traced
 tracer_node : (p : Pid) (before r : Process) → node_eq r.pid p ≡ true
     → (after_tracer p before r).local.traced ≡ true
 tracer_node p before r h =
     ap (λ b. (marked b (owned (pid_eq r.pid p) before r)).local.traced)
     (ap (λ x. node_eq x p) (own_pid p before r) ∙ h)
 
--- and elsewhere as before
+-- a process that was traced stays traced
 tracer_keeps : (p : Pid) (before r : Process) → r.local.traced ≡ true
     → (after_tracer p before r).local.traced ≡ true
 tracer_keeps p before r h =

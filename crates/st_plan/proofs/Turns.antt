@@ -83,7 +83,7 @@ module _ (streams : List Stream) where
 abbrev IsEventMove : Move → Type 0
 IsEventMove m = (i : ℕ) × (m ≡ event_move m.who i m.event)
 
--- nothing that is there is hidden
+-- no item of the streams is hidden
 abbrev IsOpen : List Stream → Type 0
 IsOpen streams = (p : Pid) (i : ℕ) (e : Event) → event_at streams p i ≡ Some e
     → is_hidden streams e ≡ false

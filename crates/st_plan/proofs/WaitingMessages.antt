@@ -1,6 +1,6 @@
 -- If the send of a receive came before it and nothing took its message, the message waits in the
--- queue; and what the receive takes, which is the first of its from and count, is of a send that
--- came.
+-- queue. The first message with the receive's sender and count, which it takes, is from a send
+-- that came.
 use Rattle.std.proofs.Common.{◌≡◌, ℕ, zero, suc, ◌≤◌, ◌==◌, ◌&&◌, ◌⊎◌, Bool, true, false, cond}
 use Rattle.std.proofs.Common.{List, [], ◌∷◌, ◌++◌, length, get_or, Option, Some, None, inl, inr}
 use Rattle.std.proofs.Common.{refl, sym, ◌∙◌, ap, subst, arith, if◌then◌else◌}
@@ -59,7 +59,7 @@ at_end test (y ∷ xs) x h =
     let rest = at_end test xs x h in
     record { place = suc rest.place; message = rest.message; at = rest.at; passes = rest.passes }
 
--- it stays if another is removed
+-- a message stays if another is removed
 kept_in : (test : Message → Bool) (xs : List Message) (k j : ℕ) (x y : Message)
     → slice_get xs k ≡ Some x
     → test x ≡ true → slice_get xs j ≡ Some y → test y ≡ false → IsIn test (remove xs j)
@@ -119,7 +119,7 @@ first_in test xs i =
       | Some k ↦ λ e. found_at test xs k i.message e
     ] refl
 
--- without another key's message it stays
+-- a token that bears one stamp bears no other
 other_key : (from q : Pid) (this that : ℕ) (token : Option Token)
     → (pid_eq from q && this == that) ≡ false
     → mail.bears_stamp q that token ≡ true → mail.bears_stamp from this token ≡ false
@@ -199,7 +199,7 @@ stays_in streams marks p from this y earlier untaken i =
           ]
     ] refl
 
--- the message of a send that came, and whose message nothing took, waits
+-- the message of a send that came waits if nothing took it
 pub waits : (streams : List Stream) (marks : Marks) (p from : Pid) (this : ℕ) (earlier : List Move)
     (n : ℕ) (z : Move)
     → Untaken p from this earlier → slice_get earlier n ≡ Some z → IsSendTo p from this z
@@ -309,7 +309,7 @@ Fits streams marks p e seen y =
     ((flags_of streams marks y).receive ≡ seen) ×
     (got_of p y.event.value (token_of streams marks y) ≡ e)
 
--- so a receive finds its message, if each send that came with its from and count fits it
+-- a receive finds its message, if each send that came with its sender and count fits it
 pub is_waiting : (streams : List Stream) (marks : Marks) (earlier : List Move) (m : Move) (n : ℕ)
     (z : Move)
     → Untaken m.who m.event.from m.event.serial.this earlier → slice_get earlier n ≡ Some z

@@ -1,5 +1,5 @@
--- The marks of whole streams, whose pids rise, are those of their events, place by place; so what
--- is told of their streams by places is their told events.
+-- The marks of whole streams, whose pids rise, are those of their events, place by place. So the
+-- events told by places are the told events.
 use Rattle.std.proofs.Common.{◌≡◌, ℕ, suc, ◌+◌, Bool, List, [], ◌∷◌, map, slice_get}
 use Rattle.std.proofs.Common.{Some, refl, ◌∙◌, ap, subst, arith}
 use Rattle.std.specs.List.{AllByRecursion}
@@ -33,7 +33,7 @@ told_marked told i (m ∷ ms) all =
 
 -- ALL
 
--- the marks among all of each of some processes are its own
+-- the marks of some processes, looked up among all, are their own
 abbrev AreMarked : List Whole → List Whole → Type 0
 AreMarked all some = AllByRecursion (λ (w : Whole). (k : ℕ) (m : Marked)
     → slice_get w.marked k ≡ Some m
@@ -65,7 +65,7 @@ told_some all (w ∷ some) marked =
     ap (marks_of all w.pid) same ∙ marked.0 k m at) in
     rw (one, told_some all some marked.1) refl
 
--- told by places as by marks
+-- the events told by places are those told by marks
 pub told_of_whole : (wholes : List Whole) → IsRising (pids_of (all_streams wholes))
     → told_parts (marks_of wholes) (all_streams wholes) ≡ told_streams wholes
 told_of_whole wholes rising = told_some wholes wholes (are_marked wholes rising)

@@ -1,4 +1,4 @@
--- The acts that are built for an item, from what the process whose it is has before.
+-- The acts that are built for an item, from the state that its process has before it.
 use Rattle.std.specs.Prelude.{◌≡◌, ℕ, ◌-◌, ◌==◌, ◌&&◌, zero, suc, max, nat_lt, Bool, true, false}
 use Rattle.std.specs.Prelude.{not, List, [], ◌∷◌, ◌++◌, Option, Some, None, if◌then◌else◌}
 use Rattle.std.specs.Prelude.{option_map, option_and_then, position}
@@ -24,7 +24,7 @@ use Rattle.st_plan.specs.Marks.{Marks}
 use Rattle.st_plan.specs.Moves.{Move, is_taking}
 use Rattle.st_plan.specs.Plain.{told_of_move}
 
--- what of a process's state the acts are built from
+-- the part of a process's state from which the acts are built
 abbrev pub start_of : LocalState → Start
 start_of l = record { token = l.token; clock = l.clock; last = l.last }
 
@@ -37,12 +37,12 @@ bool_eq a b = if a then b else not b
 abbrev pub flags_eq : Flags → Flags → Bool
 flags_eq f g = bool_eq f.send g.send && (bool_eq f.receive g.receive && bool_eq f.print g.print)
 
--- the token has this label and these flags
+-- the token has the label n and the flags f
 abbrev pub is_dressed : Label → Flags → Option Token → Bool
 is_dressed n f None = false
 is_dressed n f (Some t) = t.label.0 == n.0 && flags_eq t.flags f
 
--- a token of this label and these flags, as it is restored
+-- the token with the label and the flags that is restored before a stamp
 abbrev pub unstamped_token : Pid → Label → Flags → Token
 unstamped_token p n f = record {
   label = n;
@@ -51,7 +51,7 @@ unstamped_token p n f = record {
   from = p;
 }
 
--- gives p a token of this label and these flags, if it has none such
+-- the act that gives p a token with the label and the flags; none if it has one
 abbrev pub dress : Pid → Option Token → Label → Flags → List Act
 dress p token n f = if is_dressed n f token then [] else act.Restore p (unstamped_token p n f) ∷ []
 
@@ -60,33 +60,34 @@ abbrev pub silent_prints : Pid → ℕ → List Act
 silent_prints p zero = []
 silent_prints p (suc n) = act.Print p 0 ∷ silent_prints p n
 
--- if the prev isn't the last count: the clock is brought up to it, and a new trace begun there
+-- the acts that raise the clock to prev, if it is below, and begin a new trace there
 abbrev pub renew : Pid → Start → Label → ℕ → List Act
 renew p x n prev =
     (if nat_lt x.clock prev then dress p x.token n quiet ++ silent_prints p (prev - x.clock) else
     [])
     ++ act.Clear p ∷ act.Set p (component.Label n) ∷ []
 
--- the clock is brought up to that count, then the flags are put on
+-- the acts that raise the clock to the count, if it is below, and then set the flags
 abbrev pub raise : Pid → Start → Label → ℕ → Flags → List Act
 raise p x n count f = if nat_lt x.clock count
     then dress p x.token n quiet
     ++ (silent_prints p (count - x.clock) ++ dress p (Some (unstamped_token p n quiet)) n f)
     else dress p x.token n f
 
--- what p has after a new trace began at prev
+-- p's token, clock and last count after a new trace began at prev
 abbrev pub renewed_start : Pid → Start → Label → ℕ → Start
 renewed_start p x n prev =
     record { token = Some (unstamped_token p n quiet); clock = max x.clock prev; last = prev }
 
--- the acts after which p is ready to stamp this serial under this label and these flags
+-- the acts after which p is ready to stamp the serial under the label and the flags: they begin a
+-- new trace if the prev isn't the last count
 abbrev pub ready : Pid → Start → Label → Serial → Flags → List Act
 ready p x n s f = if s.prev == x.last
     then raise p x n (s.this - 1) f
     else renew p x n s.prev ++ raise p (renewed_start p x n s.prev) n (s.this - 1) f
 
--- the flags under which an item stamps: an event is told under its own flag, and a send's message
--- is received under a flag exactly if a receive that is told is paired with it
+-- the flags of the token with which an item stamps: a told event has its own flag, and a send has
+-- `receive` if the receive that is paired with it is told
 abbrev pub flags_of : List Stream → Marks → Move → Flags
 flags_of streams marks m = elim m.item [
   | item.Hidden p i ↦ record { send = false; receive = marks p i; print = false }
@@ -100,7 +101,7 @@ flags_of streams marks m = elim m.item [
       ]
 ]
 
--- the act of an item; a receive's is from the place of the queue where the message lies
+-- the act of an item; a receive takes the message at its place in the queue
 abbrev pub act_of : Process → Move → Option Act
 act_of r m = elim m.item [
   | item.Hidden p i ↦ option_map (λ to. act.Send m.who to m.event.value) m.event.to
@@ -113,18 +114,18 @@ act_of r m = elim m.item [
       ]
 ]
 
--- the acts of an item, from the record of the process whose it is
+-- the acts of an item, from the record of its process
 abbrev pub acts_of : List Stream → Marks → Process → Move → Option (List Act)
 acts_of streams marks r m = option_map (λ a. (if is_taking m then []
     else ready m.who (start_of r.local) m.event.label m.event.serial (flags_of streams marks m))
     ++ a ∷ []) (act_of r m)
 
--- the state after these outcomes, which begin at s
+-- the state after these outcomes, if they begin at s
 abbrev pub state_after : State → List Outcome → State
 state_after s [] = s
 state_after s (o ∷ os) = state_after o.after os
 
--- the acts of a move run from s, and report what its process tells of it
+-- the acts of a move run from s, and each process reports what it tells of the move
 pub record GoesOn (top : ℕ) (streams : List Stream) (marks : Marks) (s : State)
     (m : Move) : Type 0 where
   pub before : Process
@@ -135,7 +136,7 @@ pub record GoesOn (top : ℕ) (streams : List Stream) (marks : Marks) (s : State
   pub runs : run_from top s acts ≡ Some outcomes
   pub tells : (p : Pid) → stream acts outcomes p ≡ told_of_move marks p m
 
--- all acts of these moves, each item's from the state that the acts before lead to
+-- the acts of all these moves, each move's from the state to which the acts before it lead
 abbrev pub build : ℕ → List Stream → Marks → State → List Move → Option (List Act)
 build top streams marks s [] = Some []
 build top streams marks s (m ∷ ms) =
@@ -143,19 +144,19 @@ build top streams marks s (m ∷ ms) =
     option_map (λ rest. acts ++ rest) (build top streams marks (state_after s os) ms))
     (run_from top s acts)) (acts_of streams marks r m)) (process s m.who)
 
--- a tracer for each node but this one, by its least pid
+-- a tracer for each node, by its least pid; none for the node that was seen
 abbrev pub tracers_after : Option ℕ → List Pid → List Act
 tracers_after seen [] = []
 tracers_after seen (p ∷ ps) = if option_map_or (λ n. n == p.node) seen false
     then tracers_after seen ps
     else act.Tracer p true ∷ tracers_after (Some p.node) ps
 
--- the first acts: none if nothing happened
+-- the first acts: a tracer for each node, or none if there are no moves
 abbrev pub opening : List Stream → List Move → List Act
 opening streams [] = []
 opening streams (m ∷ ms) = tracers_after None (pids_of streams)
 
--- the acts of a construction that goes through
+-- the acts of the whole construction, if it goes through
 abbrev pub construction : ℕ → List Stream → Marks → List Move → Option (List Act)
 construction top streams marks ms =
     let first = opening streams ms in

@@ -1,5 +1,5 @@
--- Streams that tell all: what a run without a reset that reports everything makes of its streams,
--- said of them alone; and such a run.
+-- Full streams, which are those of a run without a reset that reports everything: what the streams
+-- alone say of that, and the run.
 use Rattle.std.specs.Prelude.{◌≡◌, ℕ, ◌≤◌, true, false, List, take, None, Some}
 use Rattle.st_core.specs.declared.types.Pid.{Pid}
 use Rattle.st_core.specs.declared.types.Act.{Act}

@@ -1,5 +1,5 @@
--- The definitions of public contracts: which streams are explained, over the reasons against an
--- item, over the counts along the order; which of their events are told; which streams tell all;
+-- The definitions of public contracts: which streams the auditor explains, by its reasons against
+-- an item and the counts along the order; which of their events are told; which streams are full;
 -- and, in `Build`, the acts that are built for an item.
 pub mod Marks
 pub mod Plain

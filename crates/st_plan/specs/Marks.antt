@@ -1,4 +1,4 @@
--- Streams of which some events are told: all that each process did, and which of it was reported
+-- Streams of which some events are told: all that each process did, and which part was reported
 -- (own profile).
 use Rattle.std.specs.Prelude.{ℕ, ◌+◌, Bool, true, false, List, [], ◌∷◌, map, find, slice_get, Some}
 use Rattle.std.specs.Prelude.{None, if◌then◌else◌}
@@ -18,16 +18,16 @@ pub record Whole : Type 0 where
   pub pid : Pid
   pub marked : List Marked
 
--- every event
+-- the streams of all events
 abbrev pub all_streams : List Whole → List Stream
 all_streams wholes = map (λ w. record { pid = w.pid; events = map (λ m. m.event) w.marked }) wholes
 
--- the told ones of these
+-- the told events among these
 abbrev pub told_events : List Marked → List Event
 told_events [] = []
 told_events (m ∷ ms) = if m.told then m.event ∷ told_events ms else told_events ms
 
--- the told events alone; each process stays
+-- the streams of the told events alone; a process without any stays
 abbrev pub told_streams : List Whole → List Stream
 told_streams wholes = map (λ w. record { pid = w.pid; events = told_events w.marked }) wholes
 
@@ -35,7 +35,7 @@ told_streams wholes = map (λ w. record { pid = w.pid; events = told_events w.ma
 abbrev pub Marks : Type 0
 Marks = Pid → ℕ → Bool
 
--- each is
+-- marks that tell each event
 abbrev pub all_told : Marks
 all_told p i = true
 
@@ -46,7 +46,7 @@ marks_of wholes p i = elim (find (λ w. pid_eq w.pid p) wholes) [
   | Some w ↦ option_map_or (λ m. m.told) (slice_get w.marked i) false
 ]
 
--- the told ones of these events, which are from index i on
+-- the told events among these; the first event has index i
 abbrev pub told_events_from : (ℕ → Bool) → ℕ → List Event → List Event
 told_events_from told i [] = []
 told_events_from told i (e ∷ es) =

@@ -1,6 +1,5 @@
--- The items of an order as moves of counts: what the clock and the last count of each process are
--- between them (own profile). `earlier` is always the list of the moves before one, the nearest
--- first.
+-- The items of an order as moves of counts: the clock and the last count of each process between
+-- them (own profile). `earlier` is always the list of the moves before a move, the nearest first.
 use Rattle.std.specs.Prelude.{ℕ, ◌+◌, ◌-◌, max, Bool, false, not, List, [], ◌∷◌, reverse, None}
 use Rattle.std.specs.Prelude.{Some, if◌then◌else◌}
 use Rattle.st_core.specs.declared.types.Pid.{Pid}
@@ -12,8 +11,8 @@ use Rattle.st_order.specs.declared.item.Item.{Item}
 use Rattle.st_order.specs.declared.item.Item.TheVariants as item
 use Rattle.st_order.specs.Items.{event_of}
 
--- an item, whose it is, and its event: a hidden send is its sender's, and has the label and serial
--- of its receive
+-- an item, its process and its event. A hidden send belongs to its sender, and has the label and
+-- the serial of its receive
 pub record Move : Type 0 where
   pub item : Item
   pub who : Pid
@@ -35,7 +34,7 @@ moves streams (x ∷ xs) = elim (event_of streams x) [
 abbrev pub earlier_of : List Stream → List Item → List Move
 earlier_of streams xs = reverse (moves streams xs)
 
--- a reported receive
+-- the move is a reported receive
 abbrev pub is_taking : Move → Bool
 is_taking m = elim m.item [ item.Reported p i ↦ not (is_stamp m.event) | item.Hidden p i ↦ false ]
 
@@ -45,7 +44,7 @@ clock q [] = 0
 clock q (m ∷ earlier) =
     if pid_eq m.who q then max (clock q earlier) m.event.serial.this else clock q earlier
 
--- q's last count after these moves: of its nearest one the this of a receive, else the prev
+-- q's last count after these moves: its nearest move's this if that is a receive, else its prev
 abbrev pub last : Pid → List Move → ℕ
 last q [] = 0
 last q (m ∷ earlier) =
@@ -56,7 +55,7 @@ last q (m ∷ earlier) =
 abbrev pub skip : List Move → Move → ℕ
 skip earlier m = if is_taking m then 0 else m.event.serial.this - 1 - clock m.who earlier
 
--- how many are missing before these moves in all
+-- how many counts are missing before these moves in all
 abbrev pub skips : List Move → ℕ
 skips [] = 0
 skips (m ∷ earlier) = skip earlier m + skips earlier

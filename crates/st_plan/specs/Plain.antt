@@ -1,5 +1,5 @@
--- The streams that the auditor explains: pairing accepts them, and no item of their order is
--- refused.
+-- The streams that the auditor explains: pairing accepts them, and the auditor has no reason of
+-- its own against any item of their order.
 use Rattle.std.specs.Prelude.{◌≡◌, ℕ, ◌+◌, ◌≤◌, ◌==◌, Bool, false, not, List, [], ◌∷◌, ◌++◌, None}
 use Rattle.std.specs.Prelude.{Some, if◌then◌else◌}
 use Rattle.st_core.specs.declared.types.Pid.{Pid}
@@ -13,7 +13,7 @@ use Rattle.st_plan.specs.Marks.{Marks}
 use Rattle.st_plan.specs.Moves.{Move}
 use Rattle.st_plan.specs.Reasons.{too_wide, uncaused, HoldsOfMoveAt}
 
--- what p tells of a move: the event of its own item, if that is told
+-- what p tells of a move: the event, if it is p's and reported, and told
 abbrev pub told_of_move : Marks → Pid → Move → List Event
 told_of_move marks p m = elim m.item [
   | item.Reported q i ↦ if pid_eq q p then (if marks q i then m.event ∷ [] else []) else []
@@ -33,7 +33,7 @@ event_count p (m ∷ earlier) = event_count p earlier + (elim m.item [
   | item.Hidden q i ↦ 0
 ])
 
--- a reported item that doesn't come right after the events of its process before it
+-- the move is a reported item that doesn't come right after the earlier events of its process
 abbrev pub out_of_turn : List Move → Move → Bool
 out_of_turn earlier m = elim m.item [
   | item.Reported p i ↦ not (event_count p earlier == i)
@@ -52,7 +52,7 @@ pub record IsSettled (top : ℕ) (streams : List Stream) : Type 0 where
   pub caused : HoldsNowhere uncaused streams
   pub within : (p : Pid) (i : ℕ) (e : Event) → event_at streams p i ≡ Some e → e.serial.this ≤ top
 
--- And nothing is too wide.
+-- The streams are settled, and nothing is too wide.
 pub record IsPlain (top : ℕ) (streams : List Stream) : Type 0 where
   pub settled : IsSettled top streams
   pub narrow : HoldsNowhere too_wide streams

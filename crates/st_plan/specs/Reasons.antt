@@ -1,5 +1,5 @@
--- The auditor's own reasons against an item of the order: what it would have to explain by
--- unreported receives, and what by too many unreported stamps (own profile).
+-- The auditor's own reasons against an item of the order: it needs a receive that wasn't reported,
+-- or too many stamps that weren't (own profile).
 use Rattle.std.specs.Prelude.{◌≡◌, ℕ, ◌==◌, ◌&&◌, ◌||◌, nat_lt, Bool, true, not, List, ◌∷◌, ◌++◌}
 use Rattle.std.specs.Prelude.{reverse}
 use Rattle.st_core.specs.declared.types.Pid.{Pid}
@@ -9,25 +9,26 @@ use Rattle.st_order.specs.Items.{item_place}
 use Rattle.st_order.specs.Order.{IsOrder}
 use Rattle.st_plan.specs.Moves.{Move, moves, is_taking, clock, last, skip, skips}
 
--- the most counts that may be missing before one item, and before all
+-- the most counts that may be missing before one item, and before all items together
 abbrev pub most_skipped : ℕ
 most_skipped = 1000
 
 abbrev pub most_skipped_in_all : ℕ
 most_skipped_in_all = 1000000
 
--- a stamp whose prev is below the clock, and isn't the last count
+-- the move is a stamp whose prev is below the clock, and isn't the last count
 abbrev pub uncaused : List Move → Move → Bool
 uncaused earlier m = not (is_taking m) &&
     (not (m.event.serial.prev == last m.who earlier)
     && nat_lt m.event.serial.prev (clock m.who earlier))
 
--- a stamp before which too many counts are missing, or too many with those before
+-- the move is a stamp before which too many counts are missing, or too many together with those
+-- before earlier moves
 abbrev pub too_wide : List Move → Move → Bool
 too_wide earlier m = not (is_taking m) &&
     (nat_lt most_skipped (skip earlier m) || nat_lt most_skipped_in_all (skips (m ∷ earlier)))
 
--- in the order there is a move at place (p, i) of which the test holds
+-- the order has a move at place (p, i) of which the test holds
 pub record HoldsOfMoveAt (test : List Move → Move → Bool) (streams : List Stream) (p : Pid)
     (i : ℕ) : Type 0 where
   pub order : List Item

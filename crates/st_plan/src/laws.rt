@@ -16,9 +16,9 @@ ghost use Rattle.st_plan.specs.Marks.{Marks, Whole};
 ghost use Rattle.st_plan.specs.Moves.{moves, Move};
 ghost use Rattle.st_plan.specs.Plain.{IsPlain, IsSettled};
 
-/// If pairing accepts streams, and their order lists each process's events by rising index and has
-/// nothing uncaused, then the acts that are built, item by item, run and show those events that are
-/// told, whichever these are. None of them is a reset.
+/// If pairing accepts streams, their order lists each process's events by rising index, nothing in
+/// it is uncaused, and a clock can have each count, then the acts that are built, item by item,
+/// run and show the told events, whichever these are. None of the acts is a reset.
 pub fn settled_streams_are_shown()
     ensures { (top : ℕ) (streams : List Stream) (marks : Marks) → IsStreams streams
         → IsSettled top streams →
@@ -27,8 +27,8 @@ pub fn settled_streams_are_shown()
         × Shows top (told_parts marks streams) acts × NoReset acts }
 {}
 
-/// So if the streams of a trace are all that is told of such whole streams, acts without a reset
-/// show them.
+/// If the streams of a trace are the told events of whole streams that are settled, acts without a
+/// reset show them.
 pub fn completions_are_shown()
     ensures { (top : ℕ) (wholes : List Whole) → IsStreams (all_streams wholes)
         → IsSettled top (all_streams wholes) →
@@ -37,7 +37,7 @@ pub fn completions_are_shown()
         × Shows top (told_streams wholes) acts × NoReset acts }
 {}
 
-/// If all is told and nothing is too wide, they show the streams.
+/// If streams are plain, the acts that are built with all events told show them.
 pub fn plain_streams_are_shown()
     ensures { (top : ℕ) (streams : List Stream) → IsStreams streams → IsPlain top streams →
         (acts : List Act) × (construction top streams all_told (moves streams (order streams))
@@ -45,20 +45,20 @@ pub fn plain_streams_are_shown()
         × Shows top streams acts }
 {}
 
-/// No acts that are built have a reset among them, whether they show anything or not.
+/// No acts that are built have a reset among them, whether they show the streams or not.
 pub fn constructions_have_no_reset()
     ensures { (top : ℕ) (streams : List Stream) (marks : Marks) (ms : List Move) (acts : List Act) →
         construction top streams marks ms ≡ Some acts → NoReset acts }
 {}
 
-/// Streams that tell all are plain: the auditor has no reason against them.
+/// Full streams are plain: the auditor has no reason against them.
 pub fn full_streams_are_plain()
     ensures { (top : ℕ) (streams : List Stream) → IsRising (pids_of streams) → IsFull top streams
         → IsPlain top streams }
 {}
 
 /// If acts without a reset show streams and report every stamp and every receive of a token, the
-/// streams tell all.
+/// streams are full.
 pub fn full_runs_have_full_streams()
     ensures { (top : ℕ) (streams : List Stream) (acts : List Act) (shows : Shows top streams acts)
         → NoReset acts → ReportsEverything (zero_state (pids_of streams)) acts shows.0

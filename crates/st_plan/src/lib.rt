@@ -1,8 +1,8 @@
 //! The plan of the auditor's acts: the items of an order as moves of counts, the reasons
 //! against one of them, and the acts that are built for each.
 //!
-//! The definitions say it of streams alone, and `ready` writes the acts before a stamp as a list.
-//! Nothing here steps a world. The law is that the acts of plain streams show them.
+//! The definitions are about streams alone, and `ready` writes the acts before a stamp as a list:
+//! nothing here steps a world. The main law is that the acts of plain streams show them.
 #![tactic(auto)]
 
 pub mod laws;

@@ -1,4 +1,4 @@
-//! Which events of streams are told, as the code asks for it.
+//! Asks which events of streams are told.
 
 ghost use Rattle.std.specs.Prelude.{◌≡◌, ℕ, Bool};
 ghost use Rattle.st_core.specs.declared.types.Pid.{Pid as PidValue};
@@ -6,17 +6,17 @@ ghost use Rattle.st_plan.specs.Marks.{all_told};
 
 use st_core::Pid;
 
-/// Whether an event is told.
+/// Says which events are told.
 pub trait Tells {
-    /// For each place, whether its event is told.
+    /// Whether the event at each place is told.
     ghost marks: { Self → PidValue → ℕ → Bool };
 
-    /// Whether the event at this index of the process is told.
+    /// Returns whether the event at `index` of the process is told.
     fn is_told(&self, pid: Pid, index: u64) -> bool
         ensures { result ≡ marks self.now pid index };
 }
 
-/// Each event is.
+/// Marks that tell each event.
 #[derive(Clone, Copy, Debug)]
 pub struct Everything;
 

@@ -9,25 +9,26 @@ ghost use Rattle.st_plan.specs.Build.{unstamped_token};
 use st_core::{Act, Component, Flags, Label, Pid, Serial, Token};
 use std::alloc::AllocError;
 
-/// The state of a process before an item.
+/// The part of a process's state, before an item, that decides which acts the item needs.
 #[derive(Clone, Copy, Debug)]
 pub struct Start {
-    /// Its token, if it has one.
+    /// The process's token, if it has one.
     pub token: Option<Token>,
-    /// Its clock.
+    /// The process's clock.
     pub clock: u64,
-    /// Its last count.
+    /// The process's last count.
     pub last: u64,
 }
 
-/// The flags under which nothing is reported.
+/// Flags under which nothing is reported.
 pub const QUIET: Flags = Flags {
     send: false,
     receive: false,
     print: false,
 };
 
-/// A token of this label and these flags, as it is restored. The stamp gives it a serial.
+/// Returns a token with the label and the flags, to be restored before a stamp, which gives it a
+/// serial.
 fn unstamped_token(pid: Pid, label: Label, flags: Flags) -> Token
     ensures { result ≡ unstamped_token pid label flags }
 {
@@ -54,7 +55,7 @@ fn is_dressed(token: Option<Token>, label: Label, flags: Flags) -> bool
     }
 }
 
-/// Gives the process a token of this label and these flags, if it has none such.
+/// Adds an act that gives the process a token with the label and the flags, unless it has one.
 fn dress(
     plan: &mut Vec<Act>,
     pid: Pid,
@@ -71,7 +72,7 @@ fn dress(
     Ok(())
 }
 
-/// Plans this many prints of the process that nobody sees.
+/// Adds `count` prints of the process that nobody sees.
 fn print_silently(plan: &mut Vec<Act>, pid: Pid, count: u64) -> Result<(), AllocError>
     ensures { OnOk result (plan.new.items ≡ plan.old.items ++ silent_prints pid count) }
 {
@@ -81,7 +82,7 @@ fn print_silently(plan: &mut Vec<Act>, pid: Pid, count: u64) -> Result<(), Alloc
     Ok(())
 }
 
-/// Brings the clock up to `prev`, if it is below, and begins a new trace there.
+/// Adds acts that raise the clock to `prev`, if it is below, and begin a new trace there.
 fn renew(
     plan: &mut Vec<Act>,
     pid: Pid,
@@ -100,8 +101,7 @@ fn renew(
     Ok(())
 }
 
-/// From this token and clock: brings the clock up to `count`, if it is below, and then puts the
-/// flags on.
+/// Adds acts that raise the clock to `count`, if it is below, and then set the flags.
 fn raise(
     plan: &mut Vec<Act>,
     pid: Pid,
@@ -122,8 +122,8 @@ fn raise(
     dress(plan, pid, start.token, label, flags)
 }
 
-/// The acts after which the process is ready to stamp this serial under this label and these
-/// flags.
+/// Adds the acts after which the process is ready to stamp the serial under the label and the
+/// flags. Fails only if memory runs out.
 pub fn ready(
     plan: &mut Vec<Act>,
     pid: Pid,

@@ -1,4 +1,4 @@
--- The lemma says it.
+-- A run that reports everything has full streams, and full streams are plain.
 use Rattle.st_plan.proofs.Plainness.{full_plain}
 use Rattle.st_plan.proofs.laws.full_runs_are_plain.Goals as goal
 

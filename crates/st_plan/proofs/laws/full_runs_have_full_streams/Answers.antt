@@ -1,4 +1,4 @@
--- The lemma says it.
+-- In a run that reports everything each stamp goes on from the events of its process before it.
 use Rattle.st_plan.proofs.FullRuns.{run_full}
 use Rattle.st_plan.proofs.laws.full_runs_have_full_streams.Goals as goal
 

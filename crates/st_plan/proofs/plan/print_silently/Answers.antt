@@ -1,4 +1,4 @@
--- One more print is at the end.
+-- One more print is added at the end.
 use Rattle.std.proofs.Common.{◌∷◌, [], ◌++◌, append_assoc, sym, ◌∙◌, ap}
 use Rattle.st_core.specs.declared.types.Act.TheVariants as act
 use Rattle.st_plan.specs.Build.{silent_prints}

@@ -1,4 +1,4 @@
--- Counts the prints that were planned.
+-- So far as many prints were added as the loop was run.
 use Rattle.std.proofs.Common.{◌≡◌, ◌++◌}
 use Rattle.st_plan.specs.Build.{silent_prints}
 use Rattle.st_plan.proofs.plan.print_silently.Given as goal
