@@ -115,7 +115,7 @@ write(Bytes, Port) when is_binary(Bytes) ->
 write(_, _Port) -> {error, put_chars}.
 
 %% @doc The text, in UTF-8, with its control characters escaped as in Erlang's strings: `\x{1b}'.
-%% What is escaped already stays as it is, and so do bytes that are no UTF-8.
+%% Leaves bytes that are no UTF-8, and escapes that are there already, as they are.
 -spec escaped(binary()) -> binary().
 escaped(Text) ->
     escaped(Text, <<>>).
