@@ -161,8 +161,8 @@ impl Link {
         Link { cause, grade, ..self }
     }
 
-    /// Returns this link of a receive as the sends to aliases and names tell it that may be its own,
-    /// if no reported send to its process is left.
+    /// Links a receive that has no reported send to its process left to the sends to unknown aliases
+    /// and names that may be its own.
     fn by_strays(self, strays: &[Place]) -> Link {
         let item = |&(pid, index): &Place| Item::Reported(pid, index);
         match strays {

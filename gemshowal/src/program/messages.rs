@@ -144,8 +144,8 @@ impl<'a> Messages<'a> {
     }
 }
 
-/// The sends to aliases and names of which it isn't known whose they are, as when two processes
-/// received alike messages under a token that was put back between their sends.
+/// The sends to unknown aliases and names: convert knows no process for one, for example, if two
+/// processes received alike messages under a token that was put back between their sends.
 pub(crate) struct Strays(HashMap<MessageContent, Vec<Place>>);
 
 impl Strays {
@@ -159,8 +159,8 @@ impl Strays {
         Strays(sends)
     }
 
-    /// Returns what all events of messages have in common that may be the same: where a message like
-    /// it went to an alias or a name, the receiver isn't known.
+    /// Returns what tells the event's message from others. The receiver doesn't, if an alike message
+    /// went to an unknown alias or name.
     pub(crate) fn content(&self, event: &Event) -> MessageContent {
         let common = without_receiver(event);
         if self.0.contains_key(&common) {
@@ -170,7 +170,7 @@ impl Strays {
         }
     }
 
-    /// Returns those that may have sent the message of a receive.
+    /// Returns the sends to unknown aliases and names whose message a receive may have taken.
     pub(crate) fn alike(&self, receive: &Event) -> &[Place] {
         self.0.get(&without_receiver(receive)).map_or(&[], Vec::as_slice)
     }

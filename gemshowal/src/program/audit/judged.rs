@@ -284,8 +284,8 @@ fn is_ungiven(way: Way) -> bool {
     way == Way::Ungiven
 }
 
-/// Takes away the receives that may be of messages to aliases and names, and as many of those: it
-/// isn't known whose they are. Returns whether there are such.
+/// Pairs the receives without a send with alike sends to unknown aliases and names, and takes both
+/// away. Returns whether there are any.
 fn pair_strays(trace: &NodeTrace, names: &Names, finding: &mut NodeFinding) -> bool {
     if finding.unsent.is_empty() {
         return false;
